@@ -1,12 +1,11 @@
 //! Flat code of so many points and about 256 sites, of which plans are made.
 use cases_notation::{Input, last_method};
-use cases_rewrite::PlanCode;
+use cases_rewrite::{PlanCode, decoded_code};
 use class_model::opcodes::{IDIV, IFEQ, INVOKESTATIC};
 use class_model::{
-    Attr, FieldType, Frame, Instr, Kind, ListOf, LocalTypeList, MethodAt, NoMemory, Text, VType,
+    FieldType, Frame, Instr, Kind, ListOf, LocalTypeList, MethodAt, NoMemory, Text, VType,
 };
 use class_tree::Tree;
-use code_bytes::decode;
 use flow_code::{FlatHandler, FlatHandlerList, FlatInstr, Point, PointList, Site, SiteList};
 use std::alloc::Global;
 use std::cmp::Ordering;
@@ -141,7 +140,7 @@ impl Maker {
             host,
             class: Text::of_bytes(alloc, b"P").ok()?,
             thrown: Text::of_bytes(alloc, b"java/lang/Throwable").ok()?,
-            names: names_in(alloc, code_of(tree, host)?)?,
+            names: names_in(alloc, tree, host)?,
             handlers: FlatHandlerList::new(alloc),
             begun: 0,
             points: ListOf::new(alloc),
@@ -395,18 +394,9 @@ impl Maker {
     }
 }
 
-// The bytes of the code of a method.
-fn code_of(tree: &Tree, host: MethodAt) -> Option<&[u8]> {
-    let method = tree.folder().get(host.class)?.methods.get(host.method)?;
-    match method.attrs.get(0)? {
-        Attr::Code { part, .. } => Some(part.code.as_slice()),
-        Attr::Raw { .. } => None,
-    }
-}
-
-// The constants of a new, a getfield and a call, which are all that a code has.
-fn names_in(alloc: Global, code: &[u8]) -> Option<[u16; 3]> {
-    let placed = decode(alloc, code).ok()?;
+// The constants of a new, a getfield and a call, which are all that a method has.
+fn names_in(alloc: Global, tree: &Tree, host: MethodAt) -> Option<[u16; 3]> {
+    let placed = decoded_code(alloc, tree, host)?;
     let (Instr::New(class), Instr::GetField(field), Instr::Invoke(_, method, _)) = (
         &placed.get(0)?.instr,
         &placed.get(1)?.instr,

@@ -16,22 +16,27 @@ pub(crate) fn answer(alloc: Global, setting: &Setting<'_>, question: &str) -> Op
     let (call, about) = word_and_rest(question);
     match call {
         "build_tree" => building(alloc, setting.input_with(alloc, about)?),
-        "check_links" => linking(alloc, &setting.tree_with(alloc, about)?),
-        "verify_all" => folder_answer(alloc, &setting.tree_with(alloc, about)?),
         "verify_method" => method_answer(alloc, setting, about),
         "rule" => rule_answer(alloc, setting, about),
-        _ => answer_of_tree(
-            alloc,
-            &setting.tree_with(alloc, setting.folder)?,
-            call,
-            about,
-        ),
+        _ => {
+            let folder = match call {
+                "check_links" | "verify_all" => about,
+                _ => setting.folder,
+            };
+            let tree = setting.tree_with(alloc, folder)?;
+            let told = answer_of_tree(alloc, &tree, call, about);
+            // let go by a call, so that its drop is proved once
+            drop(tree);
+            told
+        }
     }
 }
 
-// What is answered to a question about the hierarchy of the folder.
+// What is answered to a question about a hierarchy.
 fn answer_of_tree(alloc: Global, tree: &Tree, call: &str, about: &str) -> Option<String> {
     match call {
+        "check_links" => linking(alloc, tree),
+        "verify_all" => folder_answer(alloc, tree),
         "assignable" => assignability(alloc, tree, about),
         "frame_assignable" => frame_assignability(alloc, tree, about),
         "typed" => typed_answer(alloc, tree, about),

@@ -7,13 +7,26 @@ use std::alloc::Global;
 /// What building the hierarchy of an input answers: `ok`, or the class and the rule that it breaks.
 pub(crate) fn building(alloc: Global, input: Input) -> Option<String> {
     match input.build(alloc) {
-        Ok(_) => String::from_str(alloc, "ok").ok(),
-        Err(LinkFault::Unlinked { class, rule, .. }) => {
-            let name = str::from_utf8(class.bytes()).ok()?;
-            format!(in alloc; "{name} {rule:?}").ok()
+        Ok(tree) => {
+            // let go by a call, so that its drop is proved once
+            drop(tree);
+            String::from_str(alloc, "ok").ok()
         }
-        Err(_) => None,
+        Err(fault) => {
+            let told = text_of_problem(alloc, &fault);
+            drop(fault);
+            told
+        }
     }
+}
+
+// A problem of building: its class and its rule.
+fn text_of_problem(alloc: Global, fault: &LinkFault) -> Option<String> {
+    let LinkFault::Unlinked { class, rule, .. } = fault else {
+        return None;
+    };
+    let name = str::from_utf8(class.bytes()).ok()?;
+    format!(in alloc; "{name} {rule:?}").ok()
 }
 
 /// The names of the superclasses of a class, itself with them.

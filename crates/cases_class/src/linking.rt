@@ -10,20 +10,29 @@ use std::alloc::Global;
 pub(crate) fn linking(alloc: Global, tree: &Tree) -> Option<String> {
     match check_links(alloc, tree) {
         Ok(()) => String::from_str(alloc, "ok").ok(),
-        Err(
-            LinkFault::Unlinked {
-                class,
-                member,
-                rule,
-            },
-        ) => {
-            let class = str::from_utf8(class.bytes()).ok()?;
-            let name = str::from_utf8(member.name.bytes()).ok()?;
-            let desc = str::from_utf8(member.desc.bytes()).ok()?;
-            format!(in alloc; "{class} {name} {desc} {rule:?}").ok()
+        Err(fault) => {
+            let told = text_of_problem(alloc, &fault);
+            // let go by a call, so that its drop is proved once
+            drop(fault);
+            told
         }
-        Err(_) => None,
     }
+}
+
+// A problem of linking: its class, its member and its rule.
+fn text_of_problem(alloc: Global, fault: &LinkFault) -> Option<String> {
+    let LinkFault::Unlinked {
+        class,
+        member,
+        rule,
+    } = fault
+    else {
+        return None;
+    };
+    let class = str::from_utf8(class.bytes()).ok()?;
+    let name = str::from_utf8(member.name.bytes()).ok()?;
+    let desc = str::from_utf8(member.desc.bytes()).ok()?;
+    format!(in alloc; "{class} {name} {desc} {rule:?}").ok()
 }
 
 // A member as a case names it: the class that is named, a name and a descriptor.

@@ -61,8 +61,16 @@ pub(crate) fn frame_assignability(alloc: Global, tree: &Tree, about: &str) -> Op
 pub(crate) fn rule_answer(alloc: Global, setting: &Setting<'_>, about: &str) -> Option<String> {
     let (uses, frames) = about.split_once(" behind ")?;
     let tree = setting.tree_using(alloc, uses)?;
-    let class = Text::of_bytes(alloc, setting.class.as_bytes()).ok()?;
-    answer_behind(alloc, &tree, last_method(&tree, &class)?, frames)
+    let told = last_answer(alloc, &tree, setting.class, frames);
+    // let go by a call, so that its drop is proved once
+    drop(tree);
+    told
+}
+
+// The same of the last method of the class of this name.
+fn last_answer(alloc: Global, tree: &Tree, class: &str, frames: &str) -> Option<String> {
+    let class = Text::of_bytes(alloc, class.as_bytes()).ok()?;
+    answer_behind(alloc, tree, last_method(tree, &class)?, frames)
 }
 
 // What the rule answers behind each of some frames.
@@ -130,11 +138,20 @@ fn text_of_answer(
     before: &Frame,
     answer: Result<Ruled, RuleFault>,
 ) -> Option<String> {
-    let ruled = match answer {
-        Ok(ruled) => ruled,
-        Err(RuleFault::Fails(rule)) => return format!(in alloc; "{rule:?}").ok(),
-        Err(RuleFault::NoMemory) => return None,
-    };
+    match answer {
+        Ok(ruled) => {
+            let told = text_of_ruled(alloc, before, &ruled);
+            // let go by a call, so that its drop is proved once
+            drop(ruled);
+            told
+        }
+        Err(RuleFault::Fails(rule)) => format!(in alloc; "{rule:?}").ok(),
+        Err(RuleFault::NoMemory) => None,
+    }
+}
+
+// The frame behind an instruction, or `end`; or the frame that handlers see, where it is another than they should see.
+fn text_of_ruled(alloc: Global, before: &Frame, ruled: &Ruled) -> Option<String> {
     if ruled.thrown.locals != before.locals || !ruled.thrown.stack.is_empty() {
         let thrown = text_of_frame(alloc, &ruled.thrown)?;
         return format!(in alloc; "thrown {thrown}").ok();

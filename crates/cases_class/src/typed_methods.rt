@@ -12,8 +12,16 @@ use verify_folder::{verify_all, verify_method};
 /// use is at 1.
 pub(crate) fn method_answer(alloc: Global, setting: &Setting<'_>, uses: &str) -> Option<String> {
     let tree = setting.tree_using(alloc, uses)?;
-    let class = Text::of_bytes(alloc, setting.class.as_bytes()).ok()?;
-    answer_at(alloc, &tree, last_method(&tree, &class)?)
+    let told = last_answer(alloc, &tree, setting.class);
+    // let go by a call, so that its drop is proved once
+    drop(tree);
+    told
+}
+
+// The same of the last method of the class of this name.
+fn last_answer(alloc: Global, tree: &Tree, class: &str) -> Option<String> {
+    let class = Text::of_bytes(alloc, class.as_bytes()).ok()?;
+    answer_at(alloc, tree, last_method(tree, &class)?)
 }
 
 // What verifying a method of a folder answers.

@@ -1,6 +1,8 @@
 //! What is answered to a question, as a text.
 use crate::base_library::class_count;
+use crate::machine::machine_answer;
 use crate::meanings::meaning;
+use crate::script_texts::{actions, events};
 use crate::setting::Setting;
 use crate::statuses::{call_of, status_of, text_of};
 use crate::texts::{root_and_name, shown};
@@ -39,7 +41,9 @@ pub(crate) fn answer(alloc: Global, setting: &mut Setting, question: &str) -> Op
             let count = class_count(alloc)?;
             format!(in alloc; "{count}").ok()
         }
-        _ => None,
+        "actions" => actions(alloc, &setting.host, about),
+        "events" => events(alloc),
+        _ => machine_answer(alloc, asked, about),
     }
 }
 

@@ -32,7 +32,13 @@
 //! - `code STATUS`, the code of a status without names;
 //! - `vanishing WORDS`, the code and the status of the command over a host whose files are gone between their listing and their
 //!   reads, and whether it was asked to write and to print;
-//! - `base_library`, how many classes it has.
+//! - `base_library`, how many classes it has;
+//! - `actions FILE`, what the actions of this script, which is under the root without a name, are printed as, or its first line outside
+//!   the grammar;
+//! - `events`, what is printed of events with values that no run gives, and of an end that no verified folder gives;
+//! - `heap DESC LENGTH`, what a heap answers of an array that it makes: its reference, its elements, what comes of a write behind them,
+//!   and whether its monitor was left;
+//! - `begins ACTION`, what the first step of a run comes to and, at its beginning, this action; and the same in a world that stays typed.
 //!
 //! An answer has `\0a` where a byte is no printable ASCII, or is a backslash.
 #![tactic(auto)]
@@ -40,7 +46,9 @@
 mod answers;
 mod base_library;
 mod contents;
+mod machine;
 mod meanings;
+mod script_texts;
 mod setting;
 mod statuses;
 mod texts;

@@ -1,7 +1,12 @@
 //! What is answered to a question, as a text.
 ghost use Rattle.type_rules.specs.Verified.{TypesFolder};
 
+use crate::edits::edit_answer;
+use crate::flat_code::{copy_answer, flat_answer};
 use crate::flats::{expand_answer, handlers_answer, typed_answer};
+use crate::layouts::layout_answer;
+use crate::plans::plan_answer;
+use crate::states::state_answer;
 use cases_notation::{Setting, word_and_rest};
 use class_model::{MethodAt, Text};
 use class_tree::{Place, Tree};
@@ -13,6 +18,27 @@ use verify_folder::verify_all;
 
 /// What is answered to a question. None where it is none, or memory runs out.
 pub(crate) fn answer(alloc: Global, setting: &Setting<'_>, question: &str) -> Option<String> {
+    let (call, about) = word_and_rest(question);
+    match call {
+        "candidate" | "callee" | "expand" | "typed" | "handlers" => {
+            verified_answer(alloc, setting, call, about)
+        }
+        "pool_edit" => edit_answer(alloc, about),
+        "layout" | "lengths" => layout_answer(alloc, call, about),
+        "flat" => flat_answer(alloc, setting, about),
+        "handler_list" => copy_answer(alloc, about),
+        "least_plan" => plan_answer(alloc, setting, about),
+        _ => state_answer(alloc, call, about),
+    }
+}
+
+// What is answered about the folder of the setting, where it verifies.
+fn verified_answer(
+    alloc: Global,
+    setting: &Setting<'_>,
+    call: &str,
+    about: &str,
+) -> Option<String> {
     let tree = setting.tree_with(alloc, setting.folder)?;
     let Ok(()) = check_links(alloc, &tree) else {
         return None;
@@ -20,7 +46,6 @@ pub(crate) fn answer(alloc: Global, setting: &Setting<'_>, question: &str) -> Op
     let Ok(typed) = verify_all(alloc, &tree) else {
         return None;
     };
-    let (call, about) = word_and_rest(question);
     let words = about.split(' ').collect::<Vec<&str>>(alloc).ok()?;
     folder_answer(alloc, &tree, &typed, call, words.as_slice())
 }

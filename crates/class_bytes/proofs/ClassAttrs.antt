@@ -40,11 +40,26 @@ count_of pool attr count named counts = rw (named, counts.is) (ap Some (sym coun
 
 -- ---- one BootstrapMethods attribute
 
+-- whether an attribute has a name, by the bytes of its own
+pub named_by : (pool : Constants) (name : List ℕ) (attr : CutAttr) (text bytes : List ℕ) → utf8_at pool attr.name ≡ Some text → bytes ≡ text → is_named pool name (attr_of attr) ≡ bytes_eq bytes name
+named_by pool name attr text bytes there same =
+    ap (λ (t : Option (List ℕ)). is_text name t) there ∙ eq_sym name text ∙ ap (λ (t : List ℕ). bytes_eq t name) (sym same)
+
 -- an attribute whose name is not another
 pub is_table : (pool : Constants) (attr : CutAttr) (text bytes : List ℕ) → utf8_at pool attr.name ≡ Some text → bytes ≡ text → false ≡ not (bytes_eq bytes bootstrap_methods) → is_named pool bootstrap_methods (attr_of attr) ≡ true
 is_table pool attr text bytes there same e =
-    ap (λ (t : Option (List ℕ)). is_text bootstrap_methods t) there ∙ eq_sym bootstrap_methods text
-    ∙ ap (λ (t : List ℕ). bytes_eq t bootstrap_methods) (sym same) ∙ not-false (bytes_eq bytes bootstrap_methods) (sym e)
+    named_by pool bootstrap_methods attr text bytes there same ∙ not-false (bytes_eq bytes bootstrap_methods) (sym e)
+
+-- an attribute whose name is another is asked nothing more
+other_named : (b : Bool) → true ≡ not b → b ≡ false
+other_named true e = absurd cc
+other_named false e = refl
+
+pub is_other : (pool : Constants) (before : List Attr) (at : ℕ) (attr : CutAttr) (text bytes : List ℕ) → IsSome (utf8_at pool attr.name) → utf8_at pool attr.name ≡ Some text → bytes ≡ text → true ≡ not (bytes_eq bytes bootstrap_methods)
+    → Tells (class_attr_checks pool before at (attr_of attr)) (λ own. own ≡ own_count pool (attr_of attr)) (Ok None)
+is_other pool before at attr text bytes some there same e =
+    let other : is_named pool bootstrap_methods (attr_of attr) ≡ false = named_by pool bootstrap_methods attr text bytes there same ∙ other_named _ e in
+    ((some, rw other tt), rw other refl)
 
 -- the name is not there yet
 not_again : (is_again is_there : Bool) → IsTrue (not is_again) → is_again ≡ is_there → IsFalse is_there

@@ -1,7 +1,9 @@
 -- Tests that decide what they are asked.
-use Rattle.std.proofs.Common.{◌↔◌, nat_le, nat_eq, ℕ, ◌+◌, ◌≤◌, List, Option, Some, None, true, IsTrue, eq-eqb, refl, sym, ap, ◌∙◌}
-use Rattle.std.proofs.lemmas.Bool.{eqb-true, leb-true, le-leb}
-use Rattle.class_model.specs.Code.{CountsArguments}
+use Rattle.std.proofs.Common.{◌≡◌, ◌<◌, ◌↔◌, inl, inr, nat_le, nat_eq, ℕ, ◌+◌, ◌≤◌, List, length, Option, Some, None, Bool, true, false, not, IsTrue, eq-eqb, refl, sym, ap, subst, ◌∙◌, arith}
+use Rattle.std.specs.Prelude.{IfSome}
+use Rattle.std.proofs.lemmas.Bool.{false≢true, eqb-true, leb-true, le-leb}
+use Rattle.class_model.specs.Code.{CountsArguments, FitsArray, HasDimensions}
+use Rattle.class_model.specs.Descriptors.{IsArrayType}
 use Rattle.class_model.specs.Laws.Descriptors.{bytes_spell}
 use Rattle.class_model.specs.declared.descriptor_bytes.MethodShape.{MethodShape}
 use Rattle.class_bytes.specs.Inner.Shapes.{IsShape}
@@ -9,6 +11,21 @@ use Rattle.class_bytes.specs.Inner.Shapes.{IsShape}
 -- what holds exactly up to a number
 pub at_most : (P : Type 0) (least most : ℕ) → (P ↔ (least ≤ most)) → IsTrue (nat_le least most) ↔ P
 at_most P least most same = ((λ e. same.1 (leb-true least most e)), (λ p. le-leb least most (same.0 p)))
+
+-- ---- the component of an array
+
+-- an array class, with one more bracket
+pub array_fits : (b : Bool) (name : List ℕ) → IsArrayType name → (IsTrue b ↔ HasDimensions name 255) → length name < 65535 → IsTrue (not b) ↔ FitsArray name
+array_fits true name is dimensions few = (
+  λ e. absurd (false≢true e),
+  λ fits. elim fits [ inl array ↦ absurd (array.1 (dimensions.0 refl)) | inr class ↦ absurd (class.0 is) ],
+)
+array_fits false name is dimensions few = (λ e. inl (is, (λ d. false≢true (dimensions.1 d)), omega arith), λ fits. refl)
+
+-- the class that an index names
+pub class_fits : (b : Bool) (name bytes : List ℕ) (class : Option (List ℕ)) → Some name ≡ class → bytes ≡ name → (IsTrue b ↔ FitsArray bytes) → IsTrue b ↔ IfSome class FitsArray
+class_fits b name bytes class is same fits =
+    subst (λ (o : Option (List ℕ)). IsTrue b ↔ IfSome o FitsArray) is (subst (λ (text : List ℕ). IsTrue b ↔ FitsArray text) same fits)
 
 -- ---- a descriptor whose shape is known
 

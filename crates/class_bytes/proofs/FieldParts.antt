@@ -1,8 +1,8 @@
 -- A field is what stands in front of its attributes, and its attributes.
-use Rattle.std.proofs.Common.{◌≡◌, ℕ, ◌+◌, List, [], ◌∷◌, length, Result, Ok, Err, ◌∙◌, arith}
+use Rattle.std.proofs.Common.{◌≡◌, ◌⊎◌, ◌&&◌, inl, inr, Bool, true, false, ℕ, ◌+◌, List, [], ◌∷◌, length, Result, Ok, Err, ◌∙◌, arith}
 use Rattle.std.specs.Prelude.{IfSome, IsSome, IsTrue, IsFalse}
 use Rattle.class_model.specs.Answers.{Tells}
-use Rattle.class_model.specs.Checks.{Check, check, AllHold, Fault}
+use Rattle.class_model.specs.Checks.{Check, check, AllHold, Fault, asked_if}
 use Rattle.class_model.specs.Laws.Answers.{goes_on}
 use Rattle.class_model.specs.Members.{Signature, fits_field, stands_before, attrs_checks, field_attr_checks, field_checks, field_signature}
 use Rattle.class_model.specs.Names.{IsFieldName}
@@ -41,3 +41,10 @@ pub field_behind : (pool : Constants) (class_flags : ℕ) (before : List Signatu
 field_behind pool class_flags before at field result hold told =
     goes_on (field_front pool class_flags before at field) _ _ result hold
     (tells_too _ _ _ (λ end is. is ∙ field_len at field) result told)
+
+-- an attribute that is no ConstantValue of a static field is asked nothing more
+pub not_asked : {F : Type 0} (static named : Bool) (checks : List (Check F)) → (static ≡ false) ⊎ (named ≡ false) → AllHold (asked_if (static && named) checks)
+not_asked true true checks (inl e) = absurd cc
+not_asked true true checks (inr e) = absurd cc
+not_asked true false checks other = tt
+not_asked false named checks other = tt

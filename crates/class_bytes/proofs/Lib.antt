@@ -32,3 +32,4 @@ pub mod PoolAlone
 pub mod HeaderToo
 pub mod ReadBack
 pub mod MadeValues
+pub mod Pushing

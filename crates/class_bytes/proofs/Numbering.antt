@@ -1,7 +1,9 @@
 -- A text that gets a number: what was known stays.
-use Rattle.std.proofs.Common.{◌≡◌, ℕ, Bool, true, false, cond, List, Option, Some, None, refl, sym, ap, ◌∙◌}
+use Rattle.std.proofs.Common.{◌≡◌, ◌<◌, ℕ, zero, suc, Bool, true, false, cond, List, [], ◌∷◌, length, get_or, replicate, Option, Some, None, refl, sym, ap, subst, ◌∙◌, arith}
+use Rattle.std.specs.Borrow.{Bor}
+use Rattle.std.specs.Map.{lookup}
 use Rattle.std.proofs.lemmas.Slice.Eq.{bytes_eq-Decides}
-use Rattle.std.specs.Prelude.{bytes_eq, IsTrue, slice_get}
+use Rattle.std.specs.Prelude.{bytes_eq, IfSome, IsTrue, slice_get}
 use Rattle.class_model.specs.PoolChecks.{utf8_at}
 use Rattle.class_bytes.specs.Inner.TextNumbers.{Numbers, number_of, IsNumberAt, IfFilled, AreKnown, Grows}
 
@@ -12,6 +14,36 @@ put_keeps false index before n none is = is
 put_or_before : {P : Type 0} (same : Bool) (index : ℕ) (before : Option ℕ) (n : ℕ) → cond same (Some index) before ≡ Some n → (IsTrue same → index ≡ n → P) → (before ≡ Some n → P) → P
 put_or_before true index before n is put other = put refl (let e : Some index ≡ Some n = is in cc)
 put_or_before false index before n is put other = other is
+
+-- ---- a table, as far as it is filled
+
+if_some : (P : ℕ → Type 0) (entry : Option ℕ) → IfFilled P (Some entry) → IfSome entry P
+if_some P (Some n) filled = filled
+if_some P None filled = tt
+
+at_filled : (P : ℕ → Type 0) (known : List (Option ℕ)) (i : ℕ) (entry : Option ℕ) → i < length known → entry ≡ get_or known i entry → IfFilled P (slice_get known i) → IfSome entry P
+at_filled P [] i entry within is filled = absurd (omega arith)
+at_filled P (first ∷ known) zero entry within is filled = subst (λ (e : Option ℕ). IfSome e P) (sym is) (if_some P first filled)
+at_filled P (first ∷ known) (suc i) entry within is filled = at_filled P known i entry (omega arith) is filled
+
+-- an entry is the number at its index
+pub known_number : (all : Numbers) (known table : List (Option ℕ)) (index i : ℕ) (entry : Option ℕ) → AreKnown all known → table ≡ known → i ≡ index → i < length table → entry ≡ get_or table i entry → IfSome entry (IsNumberAt all index)
+known_number all known table index i entry are same place within is =
+    let filled = are.filled index in
+    at_filled (IsNumberAt all index) table i entry within is
+    (subst (λ (xs : List (Option ℕ)). IfFilled (IsNumberAt all index) (slice_get xs i)) (sym same) (subst (λ (n : ℕ). IfFilled (IsNumberAt all index) (slice_get known n)) (sym place) filled))
+
+none_filled : (P : ℕ → Type 0) (count index : ℕ) → IfFilled P (slice_get (replicate {A = Option ℕ} count None) index)
+none_filled P zero index = tt
+none_filled P (suc count) zero = tt
+none_filled P (suc count) (suc index) = none_filled P count index
+
+-- where no text has a number, nothing is filled
+pub none_known : (all : Numbers) (known : List (Option ℕ)) (count : ℕ) → all.entries ≡ [] → known ≡ replicate count None → AreKnown all known
+none_known all known count empty nones = record {
+  indices = λ text n is. absurd (let e : None ≡ Some n = sym (ap (λ (es : List (Bor (List ℕ) × ℕ)). lookup (λ key. bytes_eq text key.now) es) empty) ∙ is in cc);
+  filled = λ index. subst (λ (xs : List (Option ℕ)). IfFilled (IsNumberAt all index) (slice_get xs index)) (sym nones) (none_filled (IsNumberAt all index) count index);
+}
 
 -- one text more, which stands at this index and has it for its number
 pub record Puts (all after : Numbers) (text : List ℕ) (index : ℕ) : Type 0 where

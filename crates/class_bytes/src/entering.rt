@@ -16,9 +16,7 @@ use std::alloc::Global;
 pub(crate) fn enter(alloc: Global, pool: Pool, body: CutBody<'_>) -> Result<ClassFile, NoMemory>
     ensures { IfOk result (λ class. class ≡ entered (class_of pool body.entry)) }
 {
-    let fields = own_fields(alloc, body.fields.as_slice())?;
-    let methods = enter_methods(alloc, &pool, body.methods.as_slice())?;
-    let attrs = own_attrs(alloc, body.attrs.as_slice())?;
+    let (fields, methods, attrs) = enter_members(alloc, &pool, &body)?;
     Ok(ClassFile {
         major: body.version.major,
         minor: body.version.minor,
@@ -31,6 +29,22 @@ pub(crate) fn enter(alloc: Global, pool: Pool, body: CutBody<'_>) -> Result<Clas
         methods,
         attrs,
     })
+}
+
+// The fields, the methods and the attributes.
+fn enter_members(
+    alloc: Global,
+    pool: &Pool,
+    body: &CutBody<'_>,
+) -> Result<(FieldList, MethodList, AttrList), NoMemory>
+    ensures { IfOk result (λ all. (all.0 ≡ fields_of body.now.fields)
+        × (all.1 ≡ map (entered_method pool.now) (methods_of body.now.methods))
+        × (all.2 ≡ attrs_of body.now.attrs)) }
+{
+    let fields = own_fields(alloc, body.fields.as_slice())?;
+    let methods = enter_methods(alloc, pool, body.methods.as_slice())?;
+    let attrs = own_attrs(alloc, body.attrs.as_slice())?;
+    Ok((fields, methods, attrs))
 }
 
 // The fields.

@@ -1,9 +1,9 @@
 //! Operands that ask the constant pool or the number of locals (JVM Specification SE 8, 4.9.1).
 ghost use Rattle.std.specs.Prelude.{◌≡◌, ◌↔◌, ◌<◌, ◌^◌, IfSome, IsTrue};
 ghost use Rattle.class_model.specs.Answers.{Tells};
-ghost use Rattle.class_model.specs.Code.{operand_checks, IsLoadable, OperandFits, FitsLocal, IsCalled, CountsArguments, FitsArray, HasDimensions};
+ghost use Rattle.class_model.specs.Code.{operand_checks, IsLoadable, IsLoadable2, IsDynamicConstant, OperandFits, FitsLocal, IsCalled, CountsArguments, FitsArray, HasDimensions};
 ghost use Rattle.class_model.specs.Pool.{constant_at};
-ghost use Rattle.class_model.specs.PoolChecks.{IsClassAt, class_at, descriptor_at};
+ghost use Rattle.class_model.specs.PoolChecks.{IsFieldConstant, IsClassAt, class_at, descriptor_at};
 
 use crate::home::Home;
 use class_model::opcodes::{INVOKEINTERFACE, INVOKESPECIAL, INVOKESTATIC, INVOKEVIRTUAL};
@@ -43,7 +43,7 @@ fn fits(home: &Home<'_>, max_locals: u16, instr: &Instr) -> bool
     let pool = home.pool;
     match instr {
         Instr::Ldc(index) => is_loadable(pool, *index),
-        Instr::Ldc2(index) => matches!(pool.get(*index), Some(Const::Long(_) | Const::Double(_))),
+        Instr::Ldc2(index) => is_wide_loadable(pool, *index),
         Instr::Load(kind, local) | Instr::Store(kind, local) => {
             fits_local(max_locals, *kind, *local)
         }
@@ -51,16 +51,14 @@ fn fits(home: &Home<'_>, max_locals: u16, instr: &Instr) -> bool
         Instr::GetStatic(index)
         | Instr::PutStatic(index)
         | Instr::GetField(index)
-        | Instr::PutField(index) => matches!(pool.get(*index), Some(Const::Fieldref(..))),
+        | Instr::PutField(index) => is_field(pool, *index),
         Instr::Invoke(opcode, method, count) => is_called(home, *opcode, *method, *count),
-        Instr::Dynamic(index) => matches!(pool.get(*index), Some(Const::InvokeDynamic(..))),
+        Instr::Dynamic(index) => is_dynamic(pool, *index),
         Instr::New(index) | Instr::Cast(index) | Instr::InstanceOf(index) => {
             is_class(pool, *index)
         }
-        Instr::NewRefArray(index) => is_class(pool, *index) && fits_new_array(pool, *index),
-        Instr::NewMulti(index, dimensions) => {
-            is_class(pool, *index) && fits_dimensions(pool, *index, *dimensions)
-        }
+        Instr::NewRefArray(index) => is_component(pool, *index),
+        Instr::NewMulti(index, dimensions) => is_multi_array(pool, *index, *dimensions),
         _ => true,
     }
 }
@@ -80,6 +78,27 @@ fn is_loadable(pool: &Pool, index: u16) -> bool
                 | Const::MethodType(_)
         )
     )
+}
+
+// Whether an index names a constant that ldc2_w may load.
+fn is_wide_loadable(pool: &Pool, index: u16) -> bool
+    ensures { IsTrue result ↔ IsLoadable2 (constant_at pool.now index) }
+{
+    matches!(pool.get(index), Some(Const::Long(_) | Const::Double(_)))
+}
+
+// Whether an index names a field.
+fn is_field(pool: &Pool, index: u16) -> bool
+    ensures { IsTrue result ↔ IsFieldConstant (constant_at pool.now index) }
+{
+    matches!(pool.get(index), Some(Const::Fieldref(..)))
+}
+
+// Whether an index names a call site.
+fn is_dynamic(pool: &Pool, index: u16) -> bool
+    ensures { IsTrue result ↔ IsDynamicConstant (constant_at pool.now index) }
+{
+    matches!(pool.get(index), Some(Const::InvokeDynamic(..)))
 }
 
 // Whether a local of a kind is below the greatest number of locals.
@@ -124,6 +143,22 @@ fn counts_arguments(home: &Home<'_>, member: u16, count: u8) -> bool
         Some(shape) => u32::from(count) == u32::from(shape.units) + 1,
         None => true,
     }
+}
+
+// Whether an index names a class an array of which can be made.
+fn is_component(pool: &Pool, index: u16) -> bool
+    ensures { IsTrue result
+        ↔ (IsClassAt pool.now index × IfSome (class_at pool.now index) FitsArray) }
+{
+    is_class(pool, index) && fits_new_array(pool, index)
+}
+
+// Whether an index names an array class that has as many dimensions as are made.
+fn is_multi_array(pool: &Pool, index: u16, dimensions: u8) -> bool
+    ensures { IsTrue result ↔ (IsClassAt pool.now index
+        × IfSome (class_at pool.now index) (λ name. HasDimensions name dimensions)) }
+{
+    is_class(pool, index) && fits_dimensions(pool, index, dimensions)
 }
 
 // Whether an array of the class that an index names can be made: an array class has fewer than 255

@@ -1,3 +1,4 @@
 pub mod OneReason
 pub mod Reporting
 pub mod WrittenKept
+pub mod SomeClasses

@@ -1,5 +1,5 @@
 //! Laws: functions that do nothing, whose contracts say what always holds.
-ghost use Rattle.std.specs.Prelude.{◌≡◌, List};
+ghost use Rattle.std.specs.Prelude.{◌≡◌, List, Some};
 ghost use Rattle.class_model.specs.declared.class_file.ClassFile.{ClassFile};
 ghost use Rattle.class_model.specs.declared.class_file.MethodAt.{MethodAt};
 ghost use Rattle.class_rewrite.specs.Optimised.{KeepsMeaning};
@@ -8,15 +8,28 @@ ghost use Rattle.class_rewrite.specs.Written.{IsWrittenFolder};
 ghost use Rattle.class_tree.specs.Headers.{Classes, headers_of};
 ghost use Rattle.class_tree.specs.Hierarchy.{IsHierarchy};
 ghost use Rattle.class_tree.specs.Trees.{IsTree};
+ghost use Rattle.expanded_code.specs.ExpandAnswers.{IsExpanded, IsNoHost};
+ghost use Rattle.expanded_runs.specs.ExpandedPrograms.{AreExpanded, ReplacesByFlats};
+ghost use Rattle.expanded_runs.specs.ReadTypes.{NoThisOutside, TypesFlat};
+ghost use Rattle.flow_code.specs.FlatCode.{FlatCode};
 ghost use Rattle.flow_code.specs.TypedFrames.{FolderFrames};
 ghost use Rattle.flow_code.specs.declared.reason.Reason.{Reason};
 ghost use Rattle.machine_step.specs.Programs.{IsProgram};
 ghost use Rattle.member_link.specs.Linked.{IsLinked};
-ghost use Rattle.member_link.specs.Machine.Programs.{Program};
+ghost use Rattle.member_link.specs.Machine.Classes.{program_of};
+ghost use Rattle.member_link.specs.Machine.Links.{AreLinksOf};
+ghost use Rattle.member_link.specs.Machine.Programs.{Links, Program};
+ghost use Rattle.member_link.specs.Machine.Replaced.{Replacement, replaced};
+ghost use Rattle.member_link.specs.Scope.{Scope, scope_at};
+ghost use Rattle.same_runs.specs.EqualRuns.{EqualRuns};
+ghost use Rattle.same_runs.specs.Flats.{Flats};
 ghost use Rattle.type_rules.specs.Verified.{TypesFolder};
 
+use expanded_runs::{an_expanded_flat_code_is_typed, expanded_flat_codes_run_equally};
 use inline_expand::a_method_has_one_expanded_flat_code;
 use machine_laws::running_the_same_is_reflexive;
+use same_runs::programs_that_are_equal_run_equally;
+use typed_programs::a_verified_folder_is_a_typed_program;
 
 /// A method of a hierarchy has one reason at most.
 pub fn a_method_has_one_reason()
@@ -40,4 +53,43 @@ pub fn a_written_folder_runs_the_same()
         → KeepsMeaning classes written }
 {
     running_the_same_is_reflexive();
+}
+
+/// In the program of a verified folder any hosts may run their expanded flat codes, callees in place of their calls, and it runs equally: for
+/// every list of actions it shows the same events with equal counts and the same end, and it goes on exactly where the program of the folder
+/// does.
+pub fn expanded_flat_codes_of_a_verified_folder_run_equally()
+    ensures { (classes : Classes) (typed : FolderFrames) (links : Links) (flats : Flats)
+        (r : Replacement)
+        → IsTree classes
+        → IsLinked classes
+        → TypesFolder classes typed
+        → AreLinksOf (headers_of classes) links
+        → AreExpanded classes typed flats
+        → ReplacesByFlats classes links flats r
+        → EqualRuns (program_of classes links) (replaced (program_of classes links) r) }
+{
+    a_verified_folder_is_a_typed_program();
+    expanded_flat_codes_run_equally();
+    // where the folder has no class
+    programs_that_are_equal_run_equally();
+}
+
+/// The typed points of the expanded flat code of a host of a verified folder type it (`TypesFlat`). Access is not asked. None of the callees that
+/// stand in the flat code, unless it is an instance initialiser, has a frame with an uninitialised this (`NoThisOutside`).
+pub fn an_expanded_flat_code_of_a_verified_folder_is_typed()
+    ensures { (classes : Classes) (typed : FolderFrames) (links : Links) (at : MethodAt)
+        (flat : FlatCode) (s : Scope)
+        → IsTree classes
+        → IsLinked classes
+        → TypesFolder classes typed
+        → AreLinksOf (headers_of classes) links
+        → (is : IsExpanded classes typed at flat)
+        → ¬ IsNoHost classes at
+        → NoThisOutside is
+        → scope_at classes at ≡ Some s
+        → TypesFlat classes s flat }
+{
+    a_verified_folder_is_a_typed_program();
+    an_expanded_flat_code_is_typed();
 }

@@ -1,8 +1,7 @@
 -- The classes of a tree are a hierarchy.
-use Rattle.std.proofs.Common.{◌≡◌, ◌↔◌, List, [], ◌∷◌, bytes_eq, get_or, Some, None, IsTrue, is_some, option_and_then, refl, sym, ap, subst, ◌∙◌, inl, inr, arith}
+use Rattle.std.proofs.Common.{◌≡◌, ◌↔◌, List, [], ◌∷◌, bytes_eq, Some, None, IsTrue, is_some, option_and_then, refl, sym, ap, subst, ◌∙◌, inl, inr}
 use Rattle.std.specs.List.{AllByRecursion, list_any}
 use Rattle.std.proofs.lemmas.Bool.{or_right}
-use Rattle.std.proofs.lemmas.Option.{slice_get-get_or}
 use Rattle.class_model.specs.declared.header.Header.{Header}
 use Rattle.class_tree.specs.Headers.{Name, Classes, Headers, headers_of, class_named}
 use Rattle.class_tree.specs.Hierarchy.{StandsAt, IsHierarchy}
@@ -11,17 +10,17 @@ use Rattle.class_tree.specs.Laws.Above.{interface_kind}
 use Rattle.class_tree.specs.Laws.Headers.{own_name, same_class}
 use Rattle.class_tree.specs.Laws.Names.{IsOneName, one_name_first, one_of_first, one_of_either}
 use Rattle.class_tree.specs.Names.{is_interface}
-use Rattle.class_tree.specs.Inner.Nodes.{AreInterfaceLists}
 use Rattle.class_tree.specs.Order.{header_at, place_of}
 use Rattle.class_tree.specs.Subtype.{IsBelow}
 use Rattle.class_tree.specs.Trees.{IsTree}
 use Rattle.class_tree.specs.declared.place.Place.{Place}
 use Rattle.class_tree.proofs.ClassHolds.{is_sound}
 use Rattle.class_tree.proofs.Climbing.{named_at_place, height_falls, rooted}
-use Rattle.class_tree.proofs.Places.{number_of_class, header_at_place, class_of_place}
+use Rattle.class_tree.proofs.Places.{header_at_place, class_of_place}
 use Rattle.class_tree.proofs.SamePlaces.{place_of_own}
 use Rattle.class_tree.proofs.Superclasses.{placed}
 use Rattle.class_tree.proofs.TreeClasses.{HoldsSteps, tree_holds_steps}
+use Rattle.class_tree.proofs.Upwards.{class_is_walked}
 use Rattle.class_tree.proofs.WalkedNames.{walked_is_above, interface_is_walked, once_same}
 
 -- an interface of this name is there
@@ -94,14 +93,8 @@ module _ (headers : Headers) (tree : HoldsSteps headers) where
         once class names are name ∙ interface_is_walked headers (is_sound headers tree.hold) (rooted headers tree) up header is kind are.walk are.walked,
   )
 
-  walked : (lists : List (List Place)) → AreInterfaceLists headers lists → (name : Name) (header : Header) → class_named headers name ≡ Some header → (walk : List Name) × IsInterfaceWalk headers name walk
-  walked lists are name header is =
-      let class = number_of_class headers name header is in
-      let known = are.each class.0 header (get_or lists class.0 []) class.1.there (slice_get-get_or lists class.0 [] (omega (arith, class.1.within, are.len))) in
-      (known.1.walk, subst (λ n. IsInterfaceWalk headers n known.1.walk) class.1.same known.1.walked)
-
-pub classes_are_hierarchy : (classes : Classes) (lists : List (List Place)) → IsTree classes → AreInterfaceLists (headers_of classes) lists → IsHierarchy (headers_of classes)
-classes_are_hierarchy classes lists tree are =
+pub classes_are_hierarchy : (classes : Classes) → IsTree classes → IsHierarchy (headers_of classes)
+classes_are_hierarchy classes tree =
     let headers = headers_of classes in
     let steps = tree_holds_steps classes tree in
     let sound = is_sound headers steps.hold in
@@ -115,7 +108,7 @@ classes_are_hierarchy classes lists tree are =
       kinds = sound.kinds;
       acyclic = sound.acyclic;
       falls = height_falls headers steps;
-      walked = walked headers steps lists are;
+      walked = class_is_walked headers steps;
       interfaces = interfaces headers steps;
       superinterfaces = superinterfaces headers steps;
     }

@@ -30,6 +30,7 @@ pub mod Subtypes
 pub mod SubtypesDecided
 pub mod Superclasses
 pub mod TreeClasses
+pub mod Upwards
 pub mod WalkedNames
 pub mod BuiltSteps
 pub mod HierarchyLaws

@@ -9,17 +9,23 @@ ghost use Rattle.class_tree.specs.Hierarchy.{IsHierarchy};
 ghost use Rattle.class_tree.specs.Order.{member_place, place_of};
 ghost use Rattle.class_tree.specs.Problems.{Problem};
 ghost use Rattle.class_tree.specs.Subtype.{IsSubtype};
-ghost use Rattle.class_tree.specs.Trees.{IsArranged, IsInOrder, IsProblem};
+ghost use Rattle.class_tree.specs.Trees.{IsArranged, IsInOrder, IsProblem, IsTree};
 
 use crate::tree::Tree;
 
-/// The classes of a tree are a hierarchy: each stands at its place under its name, those above it are there and are
+/// Classes of which all that a tree asks holds are a hierarchy: each stands at its place under its name, those above it are there and are
 /// never itself, and its superinterfaces are the interfaces above it.
+pub fn classes_of_a_tree_are_a_hierarchy()
+    ensures { (classes : Classes) → IsTree classes → IsHierarchy (headers_of classes) }
+{}
+
+/// So are the classes of a tree.
 pub fn a_tree_is_a_hierarchy(tree: &Tree)
     ensures { IsHierarchy (headers_of tree.now) }
 {
-    // what a tree keeps beside its classes says that each has superinterfaces
-    let _ = &tree.folder;
+    classes_of_a_tree_are_a_hierarchy();
+    // all that is asked holds of them
+    let _ = tree.folder();
 }
 
 /// A folder and its library have at most one first problem, and where no name stands twice they are arranged in one way.

@@ -32,6 +32,7 @@ pub use fault::{LinkFault, LinkRule};
 pub use laws::{
     a_folder_is_told_once, a_hierarchy_decides_subtypes, a_tree_is_a_hierarchy,
     alike_classes_have_one_hierarchy, alike_classes_number_members_alike,
+    classes_of_a_tree_are_a_hierarchy,
 };
 pub use members::{MemberKind, members_of};
 pub use names::{METHOD_HANDLE, METHOD_TYPE, OBJECT, THROWABLE, machine_throwables};

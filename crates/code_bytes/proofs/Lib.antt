@@ -29,3 +29,4 @@ pub mod Sequences
 pub mod ReadMethods
 pub mod ConsecutiveInstrs
 pub mod StatedAtStarts
+pub mod PushedItems

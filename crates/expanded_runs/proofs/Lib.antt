@@ -11,6 +11,7 @@ mod RenumberedShuffles
 mod RenumberedTable
 mod RenumberedTargets
 mod RenumberedTypes
+mod Replacements
 mod Runs
 mod StackRoom
 mod TypedAloneBody

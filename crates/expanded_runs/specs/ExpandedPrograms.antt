@@ -1,18 +1,17 @@
 -- The program in which hosts run flat code with callees in place of their calls: which codes take the place of others, and which flags of
 -- fields are cleared.
-use Rattle.std.specs.Prelude.{◌≡◌, ◌≢◌, ◌↔◌, ℕ, List, [], bytes_eq, slice_get, Some, IsTrue, IsFalse}
+use Rattle.std.specs.Prelude.{◌≡◌, ◌≢◌, ◌↔◌, ℕ, [], bytes_eq, slice_get, Some, IsTrue, IsFalse}
 use Rattle.std.specs.List.{list_any}
 use Rattle.class_model.specs.Members.{has, FINAL, PRIVATE, STATIC}
 use Rattle.class_model.specs.Pool.{constant_at}
 use Rattle.class_model.specs.declared.class_file.MethodAt.{MethodAt}
-use Rattle.class_model.specs.declared.frame.Frame.{Frame}
 use Rattle.class_model.specs.declared.header.Header.{Header}
 use Rattle.class_model.specs.declared.instr.Instr.TheVariants.{GetField, PutField}
 use Rattle.class_tree.specs.Headers.{Classes, Headers, headers_of}
 use Rattle.expanded_code.specs.ExpandAnswers.{IsExpanded, IsNoHost}
 use Rattle.expanded_code.specs.Quiet.{chain}
 use Rattle.flow_code.specs.FlatCode.{FlatCode, point_at}
-use Rattle.flow_code.specs.TypedFrames.{FolderFrames, typed_frames_at}
+use Rattle.flow_code.specs.TypedFrames.{FolderFrames}
 use Rattle.flow_code.specs.declared.point.FlatInstr.TheVariants.{Of}
 use Rattle.flow_code.specs.declared.point.Point.{Point}
 use Rattle.flow_code.specs.declared.point.Site.{Site}
@@ -23,7 +22,6 @@ use Rattle.member_link.specs.Machine.Replaced.{Replacement}
 use Rattle.member_link.specs.References.{Reference}
 use Rattle.member_link.specs.Signatures.{reference_of}
 use Rattle.same_runs.specs.Flats.{Flats, flat_body, pool_of}
-use Rattle.typed_runs.specs.TypedPrograms.{Typings}
 
 -- each of some flat codes is that of a host, with its callees in place of their calls
 abbrev pub AreExpanded : Classes → FolderFrames → Flats → Type 0
@@ -117,12 +115,3 @@ pub record ReplacesByFlats (classes : Classes) (links : Links) (flats : Flats) (
   pub privates : (class number : ℕ)
       → IsTrue (has (r.cleared class number) PRIVATE) ↔ OpensPrivate classes flats class number
   pub none_added : (class : ℕ) → r.added class ≡ []
-
--- ---- how its program is typed
-
--- the frames of each method's code are those that type the folder
-abbrev pub HasTypings : Classes → FolderFrames → Typings → Type 0
-HasTypings classes typed typings =
-    (at : MethodAt) (frames : List Frame)
-    → typed_frames_at typed at ≡ Some frames
-    → (typings at).frames ≡ frames

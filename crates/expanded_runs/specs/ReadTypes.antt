@@ -2,9 +2,10 @@
 -- initialised. It is this project's profile.
 --
 -- An initialiser's own code stands in place of its call, so that no instruction of the flat code initialises the object of a candidate
--- site: the object keeps the type Uninit of its new. That type is read as the class of the site, the new gives an object of this class,
--- and a call of java/lang/Object.<init> on the object is read as pop. Whether a call is one on such an object is seen from its frame
--- before it is read. Access is not asked, since it was checked where the instruction stood before.
+-- site: at the points up to the end of the initialiser's code the object has the type Uninit of its new. That type is read as the class
+-- of the site, the new gives an object of this class, and a call of java/lang/Object.<init> on the object is read as pop. Whether a call
+-- is one on such an object is seen from its frame before it is read. Access is not asked, since it was checked where the instruction
+-- stood before.
 --
 -- Every typed point counts as a stated frame. So what types a body is here said point by point, and it is the same where there is no site.
 use Rattle.std.specs.Prelude.{◌≡◌, ◌==◌, ◌+◌, ◌&&◌, ℕ, Bool, false, List, [], ◌∷◌, map, Option, Some, None, option_map, is_some, IfSome, if◌then◌else◌}

@@ -6,7 +6,7 @@ ghost use Rattle.class_tree.specs.Trees.{IsTree};
 ghost use Rattle.expanded_code.specs.AloneAnswers.{IsFlatAlone};
 ghost use Rattle.expanded_code.specs.ExpandAnswers.{IsExpanded, IsNoHost};
 ghost use Rattle.expanded_runs.specs.AlonePrograms.{AreAlone};
-ghost use Rattle.expanded_runs.specs.ExpandedPrograms.{AreExpanded, HasTypings, ReplacesByFlats};
+ghost use Rattle.expanded_runs.specs.ExpandedPrograms.{AreExpanded, ReplacesByFlats};
 ghost use Rattle.expanded_runs.specs.ReadTypes.{NoThisOutside, TypesFlat};
 ghost use Rattle.flow_code.specs.FlatCode.{FlatCode};
 ghost use Rattle.flow_code.specs.TypedFrames.{FolderFrames};
@@ -21,6 +21,7 @@ ghost use Rattle.same_runs.specs.FlatBodies.{body_of_flat, typed_points};
 ghost use Rattle.same_runs.specs.Flats.{Flats, flat_program};
 ghost use Rattle.type_rules.specs.Typed.{TypesBody};
 ghost use Rattle.type_rules.specs.Verified.{TypesFolder};
+ghost use Rattle.typed_runs.specs.FolderTypings.{HasTypings};
 ghost use Rattle.typed_runs.specs.TypedPrograms.{IsTypedProgram, Typings};
 
 /// To the machine the flat code of a method by itself is the method's own code. So a program in which any methods run such
@@ -54,9 +55,20 @@ pub fn a_flat_code_alone_is_typed()
     type_rules::a_typed_body_goes_to_stated_frames();
 }
 
+/// Expanded flat codes of hosts can take the place of their codes: there is a replacement that does so, since of each field it is decided which of
+/// its flags are cleared.
+pub fn expanded_flat_codes_have_a_replacement()
+    ensures { (classes : Classes) (typed : FolderFrames) (links : Links) (flats : Flats)
+        → AreLinksOf (headers_of classes) links
+        → AreExpanded classes typed flats
+        → (r : Replacement) × ReplacesByFlats classes links flats r }
+{
+    member_link::a_look_up_finds_one_field();
+}
+
 /// A program in which any hosts run their expanded flat codes, callees in place of their calls, runs equally: for every list of
 /// actions it shows the same events with equal counts and the same end, and it goes on exactly where the program of the folder does. The
-/// folder is verified: frames type it, and its program is typed by them (`a_verified_folder_is_a_typed_program` of never_stuck).
+/// folder is verified: frames type it, and its program is typed by them (`a_verified_folder_is_a_typed_program` of typed_programs).
 pub fn expanded_flat_codes_run_equally()
     ensures { (classes : Classes) (typed : FolderFrames) (links : Links) (typings : Typings)
         (flats : Flats) (r : Replacement)
@@ -64,7 +76,7 @@ pub fn expanded_flat_codes_run_equally()
         → TypesFolder classes typed
         → AreLinksOf (headers_of classes) links
         → IsTypedProgram (program_of classes links) typings
-        → HasTypings classes typed typings
+        → HasTypings typed typings
         → AreExpanded classes typed flats
         → ReplacesByFlats classes links flats r
         → EqualRuns (program_of classes links) (replaced (program_of classes links) r) }
@@ -97,7 +109,7 @@ pub fn an_expanded_flat_code_is_typed()
         → TypesFolder classes typed
         → AreLinksOf (headers_of classes) links
         → IsTypedProgram (program_of classes links) typings
-        → HasTypings classes typed typings
+        → HasTypings typed typings
         → (is : IsExpanded classes typed at flat)
         → ¬ IsNoHost classes at
         → NoThisOutside is

@@ -32,7 +32,7 @@ impl Model for Flat {
 
 impl Flat {
     /// The flat code of these points and sites, with so many local units. Its targets, handlers and sites name points, and
-    /// its locals are below that number.
+    /// its locals are below that number, of a long or double both units.
     pub fn of(host: MethodAt, locals: u16, points: PointList, sites: SiteList) -> Flat
         requires { IsFlat
             (record { host = host; locals = locals; points = points; sites = sites }) }

@@ -7,17 +7,17 @@ use std::alloc::{AllocError, AllocFailed};
 pub enum Reason {
     /// It has no code, or is named `<init>` or `<clinit>`.
     Host,
-    /// Its own code has an instruction of float or double arithmetic.
+    /// Its own code has arithmetic, a comparison or a conversion of float or double.
     Float,
     /// With its callees in place it has more than 8,000 instructions.
     Expanded,
     /// No object that it makes may be kept in locals.
     NoSite,
-    /// It would take more sites, local units or stack than a method may have.
+    /// It would take more sites, field units of sites, local units or stack than a method may have.
     Wide,
     /// Nothing would be gained.
     NoGain,
-    /// Its written code would be longer than jumps of 16 bits reach, or its exception table longer than its count.
+    /// Its written code would have more than 32,767 bytes, or its exception table more than 65,535 entries.
     Long,
     /// Its constants would take the constant pool past its limit.
     PoolFull,

@@ -43,7 +43,10 @@ pub fn flat_alone(
     let Some(frames) = typed.of(at) else {
         unreachable!()
     };
-    Ok(flat_of(alloc, &host, at, frames.as_slice())?)
+    let flat = flat_of(alloc, &host, at, frames.as_slice());
+    // let go by a call, so that its drop is proved once
+    drop(host);
+    Ok(flat?)
 }
 
 // The flat code of a method by itself, by the frames that type it.

@@ -43,10 +43,17 @@ pub(crate) fn find_callee<'a>(
     let Some(callee) = CodedMethod::short_at(alloc, host.tree, host.typed, callee)? else {
         return Ok(None);
     };
-    if says_at_most(alloc, host.tree, caller, at, &callee.host)? {
-        Ok(Some(callee))
-    } else {
-        Ok(None)
+    match says_at_most(alloc, host.tree, caller, at, &callee.host) {
+        Ok(true) => Ok(Some(callee)),
+        // let go by a call, so that its drop is proved once
+        Ok(false) => {
+            drop(callee);
+            Ok(None)
+        }
+        Err(fault) => {
+            drop(callee);
+            Err(fault)
+        }
     }
 }
 

@@ -41,7 +41,14 @@ pub fn callee(
     let Some(caller) = CodedMethod::at(alloc, tree, typed, from)? else {
         return Ok(None);
     };
-    let methods = FolderMethods::of(alloc, tree)?;
+    let methods = match FolderMethods::of(alloc, tree) {
+        Ok(methods) => methods,
+        // let go by a call, so that its drop is proved once
+        Err(fault) => {
+            drop(caller);
+            return Err(fault);
+        }
+    };
     let host = HostClass {
         tree,
         methods: &methods,
@@ -49,9 +56,36 @@ pub fn callee(
         number: host,
         class,
     };
+    let found = ready_at(alloc, host, &caller, at);
+    drop(methods);
+    drop(caller);
+    found
+}
+
+// The callee of the call at an offset, where nothing is known of methods yet.
+fn ready_at(
+    alloc: Global,
+    host: HostClass<'_>,
+    caller: &CodedMethod<'_>,
+    at: u32,
+) -> Result<Option<MethodAt>, NoMemory>
+    requires class { IsHostClass host }
+    requires caller { Stands host.tree.now host.typed.now caller.now }
+    ensures some { IfOk result (λ found. IfSome found
+        (IsCallee host.entry.tree.now host.entry.typed.now host.entry.number caller.now.at at)) }
+    ensures none { IfOk result (λ found. IfNone found ((callee : Method)
+        → ¬ IsCallee host.entry.tree.now host.entry.typed.now host.entry.number caller.now.at at
+        callee)) }
+{
     let mut verdicts = Verdicts::new(alloc);
-    match find_ready(alloc, host, &mut verdicts, &caller, at)? {
-        Some(callee) => Ok(Some(callee.at)),
+    let found = find_ready(alloc, host, &mut verdicts, caller, at);
+    drop(verdicts);
+    match found? {
+        Some(callee) => {
+            let at = callee.at;
+            drop(callee);
+            Ok(Some(at))
+        }
         None => Ok(None),
     }
 }
@@ -80,9 +114,15 @@ pub(crate) fn find_ready<'a>(
     let Some(callee) = find_callee(alloc, host, caller, at)? else {
         return Ok(None);
     };
-    if is_ready(alloc, host, verdicts, callee.at)? {
-        Ok(Some(callee))
-    } else {
-        Ok(None)
+    match is_ready(alloc, host, verdicts, callee.at) {
+        Ok(true) => Ok(Some(callee)),
+        Ok(false) => {
+            drop(callee);
+            Ok(None)
+        }
+        Err(fault) => {
+            drop(callee);
+            Err(fault)
+        }
     }
 }

@@ -155,7 +155,10 @@ fn expand_with<'t>(
     let Some(bodies) = found else {
         return Err(KeptFault::Kept(Reason::Expanded));
     };
-    flat_of(alloc, candidates, tree, &bodies)
+    let flat = flat_of(alloc, candidates, tree, &bodies);
+    // let go by a call, so that its drop is proved once
+    drop(bodies);
+    flat
 }
 
 // The method of these numbers, if it is a host without arithmetic of float or double in its own code.

@@ -93,7 +93,14 @@ pub(crate) fn expansion_of<'t>(
         number: host.at.class,
         class,
     };
-    let line = vec![in alloc; host.at]?;
+    let line = match vec![in alloc; host.at] {
+        Ok(line) => line,
+        // let go by a call, so that its drop is proved once
+        Err(_) => {
+            drop(host);
+            return Err(NoMemory);
+        }
+    };
     let place = Place {
         class,
         line: line.as_slice(),
@@ -103,15 +110,30 @@ pub(crate) fn expansion_of<'t>(
         bodies: Vec::new(alloc),
         left: most,
     };
-    let found = steps_of(alloc, candidates, place, &host, &mut growth)?;
-    *verdicts = growth.verdicts;
-    let Some(steps) = found else {
-        return Ok(None);
+    let found = match steps_of(alloc, candidates, place, &host, &mut growth) {
+        Ok(found) => found,
+        Err(fault) => {
+            drop(growth);
+            drop(host);
+            return Err(fault);
+        }
     };
-    Ok(Some(HostBodies {
-        body: body_of(host, steps),
-        callees: growth.bodies,
-    }))
+    let Growth {
+        verdicts: grown,
+        bodies: callees,
+        ..
+    } = growth;
+    drop(mem::replace(verdicts, grown));
+    match found {
+        Some(steps) => Ok(Some(HostBodies {
+            body: body_of(host, steps),
+            callees,
+        })),
+        None => {
+            drop(host);
+            Ok(None)
+        }
+    }
 }
 
 // The body of a method with these steps.

@@ -64,5 +64,8 @@ pub(crate) fn constructs_at(
         return Ok(false);
     };
     let steps = MOST_METHODS - place.line.len();
-    Ok(is_shallow(alloc, place.class, place.line, steps, callee.at)?)
+    let shallow = is_shallow(alloc, place.class, place.line, steps, callee.at);
+    // let go by a call, so that its drop is proved once
+    drop(callee);
+    Ok(shallow?)
 }

@@ -98,10 +98,21 @@ pub(crate) fn needs(
     let Some(method) = CodedMethod::short_at(alloc, host.tree, host.typed, at)? else {
         return Ok(None);
     };
-    if !may_stand_in(alloc, host.tree, host.class, &method.host, method.frames)? {
-        return Ok(None);
+    match may_stand_in(alloc, host.tree, host.class, &method.host, method.frames) {
+        Ok(true) => {}
+        // let go by a call, so that its drop is proved once
+        Ok(false) => {
+            drop(method);
+            return Ok(None);
+        }
+        Err(fault) => {
+            drop(method);
+            return Err(fault);
+        }
     }
-    Ok(own_callees(alloc, host, &method)?)
+    let needs = own_callees(alloc, host, &method);
+    drop(method);
+    needs
 }
 
 // The methods that an initialiser calls on its own uninitialised object; none where one of these calls can't be replaced.

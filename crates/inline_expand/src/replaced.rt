@@ -45,12 +45,20 @@ pub(crate) fn replaced_at<'t>(
         return Ok(None);
     };
     if !may_follow(place, callee.at) {
+        // let go by a call, so that its drop is proved once
+        drop(callee);
         return Ok(None);
     }
-    if initialises_kept(alloc, place, verdicts, method, sites, at)? {
-        Ok(Some(callee))
-    } else {
-        Ok(None)
+    match initialises_kept(alloc, place, verdicts, method, sites, at) {
+        Ok(true) => Ok(Some(callee)),
+        Ok(false) => {
+            drop(callee);
+            Ok(None)
+        }
+        Err(fault) => {
+            drop(callee);
+            Err(fault)
+        }
     }
 }
 

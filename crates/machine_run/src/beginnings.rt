@@ -96,7 +96,8 @@ fn end_beginning(
         → w.new ≡ past_beginning P w.old rest (initialiser_of P class)) }
 {
     let initialiser = initialiser_of(alloc, prepared.tree(), class)?;
-    pop_frame(&mut w.frames);
+    // let go by a call, so that its drop is proved once
+    drop(pop_frame(&mut w.frames));
     match initialiser {
         Some(at) => {
             let frame = initialiser_frame(alloc, prepared, at)?;
@@ -136,7 +137,9 @@ fn initialiser_of(alloc: Global, tree: &Tree, class: usize) -> Result<Option<Met
         name: Text::of_plain(alloc, CLINIT)?,
         desc: Text::of_plain(alloc, b"()V")?,
     };
-    Ok(with_code(tree, place_of_method(tree, &reference)))
+    let found = place_of_method(tree, &reference);
+    drop(reference);
+    Ok(with_code(tree, found))
 }
 
 // A method if it has code.

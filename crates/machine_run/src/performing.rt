@@ -155,11 +155,32 @@ fn ask(
         ≡ shows_asked P (record w.old { frames = Library None ∷ Method (without_operands count f) ∷ rest })
         (asked_of (operands_in count f) asked)) }
 {
-    let mut values = Vec::new(alloc);
-    values.extend_from_slice(top_operands(&w.frames, count))?;
-    take_operands(&mut w.frames, count);
-    push_frame(&mut w.frames, RunFrame::Library { made: None })?;
+    let values = match hand_over(alloc, &mut w.frames, count) {
+        Ok(values) => values,
+        // let go by a call, so that its drop is proved once
+        Err(fault) => {
+            drop(asked);
+            return Err(fault);
+        }
+    };
     show_asked(alloc, tree, w, asked, &values)
+}
+
+// The operands of the top frame, which are taken off as a frame of the library is pushed.
+fn hand_over(alloc: Global, frames: &mut RunFrameList, count: usize) -> Result<Vec<Value>, NoMemory>
+    requires { HasOperands count frames.old }
+    ensures values { IfOk result (λ values. (f : MethodState) (rest : List Frame)
+        → frames.old ≡ Method f ∷ rest
+        → values.items ≡ operands_in count f) }
+    ensures frames { OnOk result ((f : MethodState) (rest : List Frame)
+        → frames.old ≡ Method f ∷ rest
+        → frames.new ≡ Library None ∷ Method (without_operands count f) ∷ rest) }
+{
+    let mut values = Vec::new(alloc);
+    values.extend_from_slice(top_operands(frames, count))?;
+    take_operands(frames, count);
+    push_frame(frames, RunFrame::Library { made: None })?;
+    Ok(values)
 }
 
 // The operands of the top frame, the topmost last.

@@ -16,7 +16,7 @@ use crate::stepping::{is_library_turn, steps_with};
 use class_model::NoMemory;
 use class_tree::Tree;
 use machine_laws::a_run_takes_no_more_steps_than_turns;
-use machine_step::{Acted, Outcome, Prepared, World};
+use machine_step::{Acted, Outcome, Prepared, World, WorldState};
 use machine_values::{ActionList, End, EventList, Shown};
 use std::alloc::Global;
 
@@ -30,14 +30,37 @@ pub fn run(alloc: Global, tree: &Tree, actions: &ActionList, steps: u64) -> Resu
     ensures { IfOk result (λ shown. (P : Program) → IsProgram tree.now P
         → shown ≡ shown_after P actions.now steps) }
 {
-    let mut prepared = Prepared::new(alloc, tree);
     let mut world = World::start(alloc, tree)?;
-    let end = take_turns(alloc, &mut prepared, &mut world, actions, steps)?;
+    let mut prepared = Prepared::new(alloc, tree);
+    let end = take_turns(alloc, &mut prepared, &mut world, actions, steps);
+    // let go by a call, so that its drop is proved once
+    drop(prepared);
+    match end {
+        Ok(end) => Ok(shown_of(world, end)),
+        Err(fault) => {
+            drop(world);
+            Err(fault)
+        }
+    }
+}
+
+// The events of a world, and the run's end.
+fn shown_of(world: World, end: End) -> Shown
+    ensures events { result.events ≡ world.world.events }
+    ensures end { result.end ≡ end }
+{
     let World { state, .. } = world;
-    Ok(Shown {
-        events: state.events,
-        end,
-    })
+    let WorldState {
+        frames,
+        memory,
+        known,
+        events,
+        ..
+    } = state;
+    drop(frames);
+    drop(memory);
+    drop(known);
+    Shown { events, end }
 }
 
 // Takes so many turns, or as many as there are before the run ends or waits, and says how it ends.

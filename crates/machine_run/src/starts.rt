@@ -107,8 +107,11 @@ fn start_value(
         Const::Double(bits) => Ok(Some(Value::Double(*bits))),
         Const::String(text) => match pool.utf8(*text) {
             Some(text) => {
-                let at = memory.constant(&Constant::Str(text.copy()?))?;
-                Ok(Some(Value::Ref(at)))
+                let constant = Constant::Str(text.copy()?);
+                let at = memory.constant(&constant);
+                // let go by a call, so that its drop is proved once
+                drop(constant);
+                Ok(Some(Value::Ref(at?)))
             }
             None => Ok(None),
         },

@@ -15,6 +15,7 @@ use machine_heap::{Heap, Put};
 use machine_values::{Constant, Ref, Shape, Value, ValueList};
 use std::alloc::Global;
 use std::marker::Model;
+use std::mem::replace;
 
 /// The heap, the static fields that were written, the classes that were begun, and how many objects were allocated and monitors
 /// entered: what the library or the machine itself makes is not counted. Contracts see the record of the definitions.
@@ -74,7 +75,8 @@ impl Memory {
               entries = 0;
             } }
     {
-        *self = Memory::new(alloc);
+        // let go by a call, so that its drop is proved once
+        drop(replace(self, Memory::new(alloc)));
     }
 
     /// The heap.

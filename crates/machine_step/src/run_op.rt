@@ -24,7 +24,8 @@ pub enum Throwable {
 #[derive(Debug, Drop)]
 pub enum RunOp {
     Nop,
-    /// An instruction whose constant is none that it could name, or whose return is of another kind than the method's result.
+    /// An instruction whose constant lacks what it needs, whose opcode is none of its form, or that returns another kind than the
+    /// method's result.
     Meaningless,
     Push(Value),
     PushConstant(Constant),

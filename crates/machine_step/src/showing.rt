@@ -28,7 +28,13 @@ fn push_event(
         (events.new
         ≡ events.old ++ event_of memory.now (record { seen = kind; known = known.now }) ∷ []) }
 {
-    let monitors = memory.heap.monitor_counts(alloc, known)?;
+    let monitors = match memory.heap.monitor_counts(alloc, known) {
+        Ok(monitors) => monitors,
+        Err(fault) => {
+            drop(kind);
+            return Err(fault);
+        }
+    };
     events.push(Event {
         kind,
         allocations: memory.allocations,

@@ -48,6 +48,7 @@ pub mod OpenOverriding
 pub mod WaysUp
 pub mod FolderMethods
 pub mod AlikeConstants
+pub mod KeptResolutions
 pub mod SlotNumbers
 pub mod ReadParameters
 pub mod ResultLens

@@ -1,7 +1,8 @@
 -- Methods that no end of a final method reaches override no final method.
-use Rattle.std.proofs.Common.{◌≡◌, ◌+◌, ◌<◌, ◌≤◌, ℕ, Bool, true, false, cond, List, [], ◌∷◌, ◌++◌, length, replicate, take, set, get_or, slice_get, bit_xor, Option, Some, None, IsTrue, IsFalse, refl, sym, ap, subst, ◌∙◌, inl, inr, arith}
+use Rattle.std.proofs.Common.{◌≡◌, ◌+◌, ◌<◌, ◌≤◌, ℕ, Bool, true, false, cond, List, [], ◌∷◌, ◌++◌, length, replicate, take, set, get_or, slice_get, bit_xor, nat_eq, Option, Some, None, IsTrue, IsFalse, refl, sym, ap, subst, ◌∙◌, inl, inr, arith}
 use Rattle.std.specs.List.{All}
-use Rattle.std.proofs.lemmas.Bool.{cases_Bool, cases_eq, cases_lt}
+use Rattle.std.specs.Map.{lookup}
+use Rattle.std.proofs.lemmas.Bool.{cases_Bool, cases_eq, cases_lt, eqb-true}
 use Rattle.std.proofs.lemmas.List.{length-set, length-replicate, get_or-set_same, get_or-set_other, get_or-replicate}
 use Rattle.std.proofs.lemmas.List.Elements.{All-head, All-tail, All-more}
 use Rattle.std.proofs.lemmas.Option.{same_Some, none-some, slice_get_within}
@@ -35,6 +36,19 @@ grows_same ends = record { kept = λ key number far. far }
 
 pub grows_then : {a b c : List (ℕ × ℕ)} → Grows a b → Grows b c → Grows a c
 grows_then one more = record { kept = λ key number far. more.kept key number (one.kept key number far) }
+
+-- the end of a key that did not reach so far is put
+pub grows_put : {before after : List (ℕ × ℕ)} (key end : ℕ) → ((other : ℕ) → lookup (nat_eq other) after ≡ cond (nat_eq key other) (Some end) (lookup (nat_eq other) before)) → ¬ Reaches before key end → Grows before after
+grows_put {before} {after} key end put nearer = record { kept = kept }
+  where
+    kept : (other number : ℕ) → Reaches before other number → Reaches after other number
+    kept other number far = elim (cases_Bool (nat_eq key other)) [
+      | inl same ↦ elim (cases_lt far.end end) [
+        | inl less ↦ record { end = end; is = put other ∙ ap (λ t. cond t (Some end) (lookup (nat_eq other) before)) same; far = omega (arith, far.far, less) }
+        | inr past ↦ absurd (nearer (record { end = far.end; is = subst (λ k. lookup (nat_eq k) before ≡ Some far.end) (sym (eqb-true key other same)) far.is; far = past }))
+      ]
+      | inr differs ↦ record { end = far.end; is = put other ∙ ap (λ t. cond t (Some end) (lookup (nat_eq other) before)) differs ∙ far.is; far = far.far }
+    ]
 
 pub reaches_less : {ends : List (ℕ × ℕ)} {key other number less : ℕ} → key ≡ other → less ≤ number → Reaches ends key number → Reaches ends other less
 reaches_less {ends} {less = less} same fewer far =

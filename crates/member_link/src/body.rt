@@ -10,6 +10,7 @@ ghost use Rattle.class_model.specs.declared.instr.Placed.{Placed};
 ghost use Rattle.code_bytes.specs.Codes.{IsReadMethod};
 ghost use Rattle.code_bytes.specs.Decoding.{decoding_checks};
 ghost use Rattle.member_link.specs.CodedMethods.{descriptor_text, entry, placed_at, stated, stated_at};
+ghost use Rattle.member_link.specs.Inner.BodyParts.{AreIndexed, IsStart};
 
 use crate::stated::{Decoded, StatedFrames, frames_in};
 use class_model::{
@@ -20,19 +21,52 @@ use code_bytes::{entry_frame, instructions_of, method_descriptor};
 use std::alloc::Global;
 use std::marker::Model;
 
+// The instructions of a method, each found by its offset in constant time.
+#[derive(Drop)]
+struct IndexedInstrs {
+    instrs: PlacedList,
+    index: OffsetIndex,
+}
+
+// What the code of a method begins with: the frame, and the method's descriptor, which it is made from.
+struct Start {
+    entry: Frame,
+    descriptor: Descriptor,
+}
+
+// Written out: what is derived would stand in each function that drops one, field by field, and be proved there.
+impl Drop for Start {
+    fn drop(self) {
+        let Start {
+            entry: _,
+            descriptor: _,
+        } = self;
+    }
+}
+
 /// The body of a method with code: its instructions and the frames that it states, each found by its offset in constant
 /// time, the frame that it begins with, and the method's descriptor. Contracts see the method, its code and its class file.
-#[derive(Drop)]
 pub struct MethodBody<'a> {
     class: &'a ClassFile,
     method: &'a Method,
     part: &'a CodePart,
-    instrs: PlacedList,
-    // the instructions by their offsets
-    index: OffsetIndex,
+    code: IndexedInstrs,
     stated: StatedFrames,
-    entry: Frame,
-    descriptor: Descriptor,
+    start: Start,
+}
+
+// Written out: what is derived would stand in each function that drops one, field by field, and be proved there.
+impl Drop for MethodBody<'_> {
+    fn drop(self) {
+        let MethodBody {
+            class: _,
+            method: _,
+            part: _,
+            code: _,
+            stated: _,
+            start: _,
+        } = self;
+    }
 }
 
 impl<'a> Model for MethodBody<'a> {
@@ -46,7 +80,7 @@ impl<'a> Model for MethodBody<'a> {
 
     ghost invariant = { λ body.
         IsBody (record { class = body.class.now; method = body.method.now; part = body.part.now })
-        body.instrs body.index body.stated body.entry body.descriptor };
+        body.code body.stated body.start };
 }
 
 impl<'a> MethodBody<'a> {
@@ -65,30 +99,23 @@ impl<'a> MethodBody<'a> {
         ensures { IfOk result
             (λ body. body ≡ record { class = class.now; method = method.now; part = part.now }) }
     {
-        let Some(text) = class.pool.utf8(method.desc) else {
-            unreachable!()
-        };
-        let descriptor = method_descriptor(alloc, text, method.flags)?;
-        let instrs = instructions_of(alloc, part.code.as_slice())?;
-        let index = OffsetIndex::of(alloc, instrs.as_slice())?;
-        let entry = entry_frame(alloc, class, method, part, descriptor.params.as_slice())?;
-        let code = Decoded {
+        let start = start_of(alloc, class, method, part)?;
+        let code = indexed(alloc, part)?;
+        let decoded = Decoded {
             class,
             method,
             part,
-            instrs: &instrs,
-            entry: &entry,
+            instrs: &code.instrs,
+            entry: &start.entry,
         };
-        let stated = StatedFrames::of(alloc, &code)?;
+        let stated = StatedFrames::of(alloc, &decoded)?;
         Ok(MethodBody {
             class,
             method,
             part,
-            instrs,
-            index,
+            code,
             stated,
-            entry,
-            descriptor,
+            start,
         })
     }
 
@@ -124,7 +151,7 @@ impl<'a> MethodBody<'a> {
     pub fn instructions(&self) -> &PlacedList
         ensures { decoded self.now.part.code ≡ Ok result.now }
     {
-        &self.instrs
+        &self.code.instrs
     }
 
     /// The instruction at an offset, in bytes, if one starts there.
@@ -133,7 +160,7 @@ impl<'a> MethodBody<'a> {
             × (decoded self.now.part.code ≡ Ok instrs)
             × (option_copied result ≡ placed_at instrs at) }
     {
-        self.instrs.get(self.index.find(u64::from(at))?)
+        self.code.instrs.get(self.code.index.find(u64::from(at))?)
     }
 
     /// The frames that it states, by offset.
@@ -154,14 +181,14 @@ impl<'a> MethodBody<'a> {
     pub fn entry(&self) -> &Frame
         ensures { result.now ≡ entry self.now }
     {
-        &self.entry
+        &self.start.entry
     }
 
     /// The method's descriptor.
     pub fn descriptor(&self) -> &Descriptor
         ensures { SpellsDescriptor (descriptor_text self.now) result.now }
     {
-        &self.descriptor
+        &self.start.descriptor
     }
 }
 
@@ -181,17 +208,42 @@ pub(crate) fn frames_of(
     ensures { IfOk result (λ frames.
         frames ≡ stated_in (home_of class.now) method.now part.now part.now.attrs) }
 {
-    let Some(text) = class.pool.utf8(method.desc) else {
-        unreachable!()
-    };
-    let descriptor = method_descriptor(alloc, text, method.flags)?;
-    let entry = entry_frame(alloc, class, method, part, descriptor.params.as_slice())?;
+    let start = start_of(alloc, class, method, part)?;
     let code = Decoded {
         class,
         method,
         part,
         instrs,
-        entry: &entry,
+        entry: &start.entry,
     };
     frames_in(alloc, &code, part.attrs.as_slice())
+}
+
+// What the code of a method begins with, of a class file that was read.
+fn start_of(
+    alloc: Global,
+    class: &ClassFile,
+    method: &Method,
+    part: &CodePart,
+) -> Result<Start, NoMemory>
+    requires { IsReadMethod class.now.pool method.now }
+    ensures { IfOk result (IsStart
+        (record { class = class.now; method = method.now; part = part.now })) }
+{
+    let Some(text) = class.pool.utf8(method.desc) else {
+        unreachable!()
+    };
+    let descriptor = method_descriptor(alloc, text, method.flags)?;
+    let entry = entry_frame(alloc, class, method, part, descriptor.params.as_slice())?;
+    Ok(Start { entry, descriptor })
+}
+
+// The instructions of a method's code, with their index.
+fn indexed(alloc: Global, part: &CodePart) -> Result<IndexedInstrs, NoMemory>
+    requires { AllHold (decoding_checks part.now.code) }
+    ensures { IfOk result (AreIndexed part.now.code) }
+{
+    let instrs = instructions_of(alloc, part.code.as_slice())?;
+    let index = OffsetIndex::of(alloc, instrs.as_slice())?;
+    Ok(IndexedInstrs { instrs, index })
 }

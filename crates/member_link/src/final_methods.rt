@@ -29,15 +29,25 @@ pub(crate) fn known_methods(alloc: Global, tree: &Tree) -> Result<Vec<usize>, No
     let spans = guess_spans(alloc, tree)?;
     let mut known = vec![in alloc; 0; tree.folder().len()]?;
     if are_spans(tree, &spans) {
-        let mut ends = IndexMap::new(alloc);
-        raise_interfaces(&mut ends, tree, spans.indices.len())?;
-        sweep(&mut ends, tree, &spans, known.as_mut_slice())?;
+        sweep(alloc, tree, &spans, known.as_mut_slice())?;
     }
     Ok(known)
 }
 
+// Goes over the classes of the folder, and counts the methods of each that are known.
+fn sweep(alloc: Global, tree: &Tree, spans: &Spans, known: &mut [usize]) -> Result<(), NoMemory>
+    requires tree { IsTree tree.now }
+    requires spans { AreSpans (headers_of tree.now) spans.now }
+    requires known { AreKnown (headers_of tree.now) known.old }
+    ensures { OnOk result (AreKnown (headers_of tree.now) known.new) }
+{
+    let mut ends = IndexMap::new(alloc);
+    raise_interfaces(&mut ends, tree, spans.indices.len())?;
+    sweep_numbers(&mut ends, tree, spans, known)
+}
+
 // Goes over the classes by their numbers, each after its superclass.
-fn sweep(
+fn sweep_numbers(
     ends: &mut IndexMap<u64, usize>,
     tree: &Tree,
     spans: &Spans,

@@ -1,17 +1,3 @@
-mod Folders
-mod Bases
-mod FileClasses
-mod PlacedFrames
-mod TypedCode
-mod TypedMethods
-mod KnownRows
-mod VoidResults
-mod LinkedOps
-mod SomeDimensions
-mod LinkedInstrs
-mod LinkedCode
-mod VerifiedPrograms
-mod PoolNames
 mod LibraryAlone
 mod Turns
 mod TypedRuns

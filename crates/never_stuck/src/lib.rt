@@ -2,11 +2,9 @@
 #![tactic(auto)]
 
 mod no_classes;
-mod programs;
 mod runs;
 mod steps;
 
 pub use no_classes::without_classes_the_library_stays_alone;
-pub use programs::a_verified_folder_is_a_typed_program;
 pub use runs::{a_verified_run_is_never_stuck, run_verified};
 pub use steps::{acts_typed, stays_typed};

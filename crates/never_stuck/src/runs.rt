@@ -9,13 +9,13 @@ ghost use Rattle.member_link.specs.Machine.Runs.{shown_after};
 ghost use Rattle.type_rules.specs.Verified.{IsVerified, TypesFolder};
 
 use crate::no_classes::without_classes_the_library_stays_alone;
-use crate::programs::a_verified_folder_is_a_typed_program;
 use class_model::NoMemory;
 use class_tree::Tree;
 use machine_run::run;
 use machine_values::{ActionList, Shown};
 use std::alloc::Global;
 use type_rules::TypedFolder;
+use typed_programs::a_verified_folder_is_a_typed_program;
 use typed_runs::{a_run_starts_typed, a_step_stays_typed, an_action_stays_typed};
 
 /// A run of a folder that verifies is never stuck, whatever the library does, for any number of steps.
@@ -25,7 +25,7 @@ pub fn a_verified_run_is_never_stuck(tree: &Tree)
         → IsVerified tree.now
         → (shown_after P actions count).end ≢ ends.Stuck }
 {
-    a_verified_folder_is_a_typed_program(tree);
+    a_verified_folder_is_a_typed_program();
     without_classes_the_library_stays_alone();
     a_run_starts_typed();
     a_step_stays_typed();

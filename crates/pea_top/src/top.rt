@@ -45,8 +45,8 @@ use std::alloc::Global;
 /// says or else 1,000,000, writes no file, and prints the events of the run and its end.
 ///
 /// # Errors
-/// `Done` and each refusal come exactly where their clauses say, unless memory runs out or a call of the host fails; those two
-/// come only where theirs say. A refusal prints one line.
+/// `Done` and each refusal come exactly where their clauses say, unless memory runs out or a call of the host fails. A fault of the
+/// host comes only where its clause says; memory may run out at any point. A refusal prints one line.
 pub fn pea<H: Host>(alloc: Global, words: &[String], host: &mut H) -> Status
     // Usage comes where the words are outside the grammar, and nowhere else.
     ensures usage { result ≡ Status.Usage → IsUsage (map string_bytes words.now) }

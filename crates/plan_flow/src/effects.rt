@@ -82,8 +82,35 @@ fn edges_from(
 {
     a_tree_has_links(tree);
     let row = row_at(tree, flat, at, types, instr)?;
-    let taken = open_edges(alloc, flat, at, instr, &row, state)?;
-    let edges = edges_over(alloc, tree, flat, at, types, &row, taken.as_slice(), state)?;
+    let edges = edges_by(alloc, tree, flat, at, types, instr, &row, state);
+    // let go by a call, so that its drop is proved once
+    drop(row);
+    edges
+}
+
+// The edges from a point whose instruction has this row.
+fn edges_by(
+    alloc: Global,
+    tree: &Tree,
+    flat: &Flat,
+    at: usize,
+    types: &Frame,
+    instr: &FlatInstr,
+    row: &Row,
+    state: &VState,
+) -> Result<EdgeList, NoMemory>
+    requires narrow { IsNarrow flat.now }
+    requires types { HasFewLocals types.now }
+    requires instr { option_map (λ point. point.instr) (point_at flat.now at) ≡ Some instr.now }
+    requires done { MayBeDone tree.now flat.now at types.now row.now state.now }
+    ensures { IfOk result (λ edges. (links : Links) (point : Point)
+        → point_at flat.now at ≡ Some point
+        → IsRowOf (scope_of tree.now links flat.now) at point types.now row.now
+        → AreEdges (scope_of tree.now links flat.now) point at state.now
+        (open_edges_of (scope_of tree.now links flat.now) at point state.now) edges) }
+{
+    let taken = open_edges(alloc, flat, at, instr, row, state)?;
+    let edges = edges_over(alloc, tree, flat, at, types, row, taken.as_slice(), state)?;
     Ok(edges)
 }
 

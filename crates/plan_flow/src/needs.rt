@@ -6,6 +6,7 @@ ghost use Rattle.flow_code.specs.declared.point.Point.{Point};
 ghost use Rattle.member_link.specs.Machine.Links.{AreLinksOf};
 ghost use Rattle.member_link.specs.Machine.Programs.{Links};
 ghost use Rattle.plan_flow.specs.Inner.Asking.{AreAsked};
+ghost use Rattle.plan_flow.specs.Inner.Doing.{IsRowOf};
 ghost use Rattle.plan_flow.specs.Must.{IsMust};
 ghost use Rattle.plan_flow.specs.Narrow.{HasFewLocals, IsNarrow};
 ghost use Rattle.plan_flow.specs.PlanScope.{scope_of};
@@ -13,6 +14,7 @@ ghost use Rattle.plan_flow.specs.PlanScope.{scope_of};
 use crate::asked::add_asked;
 use crate::beneath::add_beneath;
 use crate::edges::open_edges;
+use crate::rows::Row;
 use crate::table::row_at;
 use class_model::{Frame, NoMemory};
 use class_tree::Tree;
@@ -68,16 +70,42 @@ fn asked_at(
         → AreAsked (scope_of tree.now links flat.now) at point state.now asked) }
 {
     let row = row_at(tree, flat, at, types, instr)?;
-    let edges = open_edges(alloc, flat, at, instr, &row, state)?;
+    let asked = asked_by(alloc, tree, flat, at, types, instr, &row, state);
+    // let go by a call, so that its drop is proved once
+    drop(row);
+    asked
+}
+
+// The sites for which an instruction asks that has this row.
+fn asked_by(
+    alloc: Global,
+    tree: &Tree,
+    flat: &Flat,
+    at: usize,
+    types: &Frame,
+    instr: &FlatInstr,
+    row: &Row,
+    state: &VState,
+) -> Result<SiteSet, NoMemory>
+    requires narrow { IsNarrow flat.now }
+    requires types { HasFewLocals types.now }
+    requires instr { option_map (λ point. point.instr) (point_at flat.now at) ≡ Some instr.now }
+    ensures { IfOk result (λ asked. (links : Links) (point : Point)
+        → AreLinksOf (headers_of tree.now) links
+        → point_at flat.now at ≡ Some point
+        → IsRowOf (scope_of tree.now links flat.now) at point types.now row.now
+        → AreAsked (scope_of tree.now links flat.now) at point state.now asked) }
+{
+    let edges = open_edges(alloc, flat, at, instr, row, state)?;
     let mut asked = SiteSet::new(alloc);
-    add_asked(&mut asked, alloc, tree, flat, types, &row, state)?;
+    add_asked(&mut asked, alloc, tree, flat, types, row, state)?;
     add_beneath(
         &mut asked,
         alloc,
         tree,
         flat,
         types,
-        &row,
+        row,
         edges.as_slice(),
         state,
     )?;

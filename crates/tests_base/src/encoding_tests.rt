@@ -2,7 +2,7 @@ ghost use Rattle.std.specs.Prelude.{◌<◌};
 ghost use Rattle.code_bytes.specs.Encoding.{HasSpelling};
 
 use class_model::{Imm, Instr, Kind, ListOf, Pair};
-use code_bytes::{code_len, encode_into, encode_one};
+use code_bytes::{code_len, encode_one};
 use std::alloc::Global;
 use std::process::Abort;
 
@@ -18,24 +18,9 @@ fn is_written(alloc: Global, instr: &Instr, at: u32, bytes: &[u8]) -> bool
     requires { HasSpelling at instr.now }
 {
     let is_counted = code_len(instr, at) as usize == bytes.len();
-    let is_appended = is_appended(alloc, instr, at, bytes);
     match encode_one(alloc, instr, at) {
-        Ok(out) => is_counted && is_appended && out.as_slice() == bytes,
+        Ok(out) => is_counted && out.as_slice() == bytes,
         Err(_) => false,
-    }
-}
-
-// Whether these bytes of an instruction are appended behind a byte that is there.
-fn is_appended(alloc: Global, instr: &Instr, at: u32, bytes: &[u8]) -> bool
-    requires { HasSpelling at instr.now }
-{
-    let mut out = Vec::new(alloc);
-    if out.push(0xFF).is_err() || encode_into(&mut out, instr, at).is_err() {
-        return false;
-    }
-    match out.as_slice().split_first() {
-        Some((first, behind)) => *first == 0xFF && behind == bytes,
-        None => false,
     }
 }
 
@@ -126,68 +111,19 @@ fn jumps(rt: HostRuntime) {
     written(&rt, Instr::Goto(1), 32_770, &[0xC8, 0xFF, 0xFF, 0x7F, 0xFF]);
 }
 
-// An offset, and the bytes of a switch there.
-type Switch = (u32, &'static [u8]);
-
-const TABLES: [Switch; 4] = [
-    (
-        0,
-        &[
-            0xAA, 0, 0, 0, 0, 0, 0, 40, 0xFF, 0xFF, 0xFF, 0xFF, 0, 0, 0, 0, 0, 0, 0, 50, 0, 0, 0, 0,
-        ],
-    ),
-    (
-        1,
-        &[
-            0xAA, 0, 0, 0, 0, 0, 39, 0xFF, 0xFF, 0xFF, 0xFF, 0, 0, 0, 0, 0, 0, 0, 49, 0xFF, 0xFF,
-            0xFF, 0xFF,
-        ],
-    ),
-    (
-        2,
-        &[
-            0xAA, 0, 0, 0, 0, 38, 0xFF, 0xFF, 0xFF, 0xFF, 0, 0, 0, 0, 0, 0, 0, 48, 0xFF, 0xFF,
-            0xFF, 0xFE,
-        ],
-    ),
-    (
-        3,
-        &[
-            0xAA, 0, 0, 0, 37, 0xFF, 0xFF, 0xFF, 0xFF, 0, 0, 0, 0, 0, 0, 0, 47, 0xFF, 0xFF, 0xFF,
-            0xFD,
-        ],
-    ),
+// The bytes of a switch at the offsets from 0 on.
+const TABLES: [&[u8]; 4] = [
+    b"\xAA\0\0\0\0\0\0\x28\xFF\xFF\xFF\xFF\0\0\0\0\0\0\0\x32\0\0\0\0",
+    b"\xAA\0\0\0\0\0\x27\xFF\xFF\xFF\xFF\0\0\0\0\0\0\0\x31\xFF\xFF\xFF\xFF",
+    b"\xAA\0\0\0\0\x26\xFF\xFF\xFF\xFF\0\0\0\0\0\0\0\x30\xFF\xFF\xFF\xFE",
+    b"\xAA\0\0\0\x25\xFF\xFF\xFF\xFF\0\0\0\0\0\0\0\x2F\xFF\xFF\xFF\xFD",
 ];
 
-const LOOKUPS: [Switch; 4] = [
-    (
-        0,
-        &[
-            0xAB, 0, 0, 0, 0, 0, 0, 40, 0, 0, 0, 2, 0xFF, 0xFF, 0xFF, 0xFB, 0, 0, 0, 50, 0, 0, 0,
-            7, 0, 0, 0, 0,
-        ],
-    ),
-    (
-        1,
-        &[
-            0xAB, 0, 0, 0, 0, 0, 39, 0, 0, 0, 2, 0xFF, 0xFF, 0xFF, 0xFB, 0, 0, 0, 49, 0, 0, 0, 7,
-            0xFF, 0xFF, 0xFF, 0xFF,
-        ],
-    ),
-    (
-        2,
-        &[
-            0xAB, 0, 0, 0, 0, 38, 0, 0, 0, 2, 0xFF, 0xFF, 0xFF, 0xFB, 0, 0, 0, 48, 0, 0, 0, 7,
-            0xFF, 0xFF, 0xFF, 0xFE,
-        ],
-    ),
-    (
-        3,
-        &[
-            0xAB, 0, 0, 0, 37, 0, 0, 0, 2, 0xFF, 0xFF, 0xFF, 0xFB, 0, 0, 0, 47, 0, 0, 0, 7, 0xFF,
-            0xFF, 0xFF, 0xFD,
-        ],
-    ),
+const LOOKUPS: [&[u8]; 4] = [
+    b"\xAB\0\0\0\0\0\0\x28\0\0\0\x02\xFF\xFF\xFF\xFB\0\0\0\x32\0\0\0\x07\0\0\0\0",
+    b"\xAB\0\0\0\0\0\x27\0\0\0\x02\xFF\xFF\xFF\xFB\0\0\0\x31\0\0\0\x07\xFF\xFF\xFF\xFF",
+    b"\xAB\0\0\0\0\x26\0\0\0\x02\xFF\xFF\xFF\xFB\0\0\0\x30\0\0\0\x07\xFF\xFF\xFF\xFE",
+    b"\xAB\0\0\0\x25\0\0\0\x02\xFF\xFF\xFF\xFB\0\0\0\x2F\0\0\0\x07\xFF\xFF\xFF\xFD",
 ];
 
 #[test]
@@ -196,17 +132,19 @@ fn switches(rt: HostRuntime) {
     lookups_written(&rt, &LOOKUPS);
 }
 
-fn tables_written(rt: &(impl Abort + AllocGlobal), rows: &[Switch]) {
-    for (at, bytes) in rows {
-        assert!(rt; *at < 100);
-        table_written(rt, *at, bytes);
+fn tables_written(rt: &(impl Abort + AllocGlobal), rows: &[&[u8]]) {
+    for (at, bytes) in rows.iter().enumerate() {
+        let at = u32::try_from(at).unwrap_or(u32::MAX);
+        assert!(rt; at < 100);
+        table_written(rt, at, bytes);
     }
 }
 
-fn lookups_written(rt: &(impl Abort + AllocGlobal), rows: &[Switch]) {
-    for (at, bytes) in rows {
-        assert!(rt; *at < 100);
-        lookup_written(rt, *at, bytes);
+fn lookups_written(rt: &(impl Abort + AllocGlobal), rows: &[&[u8]]) {
+    for (at, bytes) in rows.iter().enumerate() {
+        let at = u32::try_from(at).unwrap_or(u32::MAX);
+        assert!(rt; at < 100);
+        lookup_written(rt, at, bytes);
     }
 }
 

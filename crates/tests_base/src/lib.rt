@@ -1,30 +1,23 @@
-//! Tests of the crates below class files, as tables: values and hosts; the constant pool, code and stack map frames, read
-//! from bytes and written to bytes.
+//! Tests of the crates up to class files, as tables: values and hosts; the constant pool, code and stack map frames, and
+//! class files, read from bytes and written to bytes. What the program shows of these is asked by scripts/conformance.sh:
+//! here each public function that takes memory is called where there is enough, with what it answers.
 #![tactic(auto)]
 
 #[cfg(test)]
-mod constant_tests;
+mod class_tests;
 #[cfg(test)]
-mod decoding_tests;
-#[cfg(test)]
-mod descriptor_tests;
+mod code_tests;
 #[cfg(test)]
 mod encoding_tests;
 #[cfg(test)]
-mod host_tests;
+mod frame_tests;
 #[cfg(test)]
-mod item_tests;
+mod host_tests;
 #[cfg(test)]
 mod local_types_tests;
 #[cfg(test)]
-mod name_tests;
+mod made_tests;
 #[cfg(test)]
 mod pool_tests;
 #[cfg(test)]
-mod reading_tests;
-#[cfg(test)]
-mod text_tests;
-#[cfg(test)]
-mod type_tests;
-#[cfg(test)]
-mod writing_tests;
+mod value_tests;

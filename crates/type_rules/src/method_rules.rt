@@ -30,7 +30,6 @@ use std::marker::Model;
 
 /// A method with code of a linked folder, and what the rules of its instructions ask of it. Contracts see its class file,
 /// its code and the classes around it.
-#[derive(Drop)]
 pub struct MethodRules<'a> {
     pub(crate) tree: &'a Tree,
     pub(crate) class: &'a ClassFile,
@@ -41,6 +40,22 @@ pub struct MethodRules<'a> {
     pub(crate) part: &'a CodePart,
     pub(crate) body: MethodBody<'a>,
     pub(crate) calls: CallDescriptors<'a>,
+}
+
+// Written out: what is derived would stand in each function that drops one, field by field, and be proved there.
+impl Drop for MethodRules<'_> {
+    fn drop(self) {
+        let MethodRules {
+            tree: _,
+            class: _,
+            place: _,
+            header: _,
+            method: _,
+            part: _,
+            body: _,
+            calls: _,
+        } = self;
+    }
 }
 
 impl<'a> Model for MethodRules<'a> {
@@ -229,7 +244,14 @@ fn of_method<'a>(
         unreachable!()
     };
     let body = MethodBody::new(alloc, class, method, part)?;
-    let calls = CallDescriptors::of(alloc, &class.pool, body.instructions().as_slice())?;
+    let calls = match CallDescriptors::of(alloc, &class.pool, body.instructions().as_slice()) {
+        Ok(calls) => calls,
+        Err(fault) => {
+            // let go by a call, so that its drop is proved once
+            drop(body);
+            return Err(fault);
+        }
+    };
     Ok(MethodRules {
         tree,
         class,

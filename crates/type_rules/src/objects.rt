@@ -1,7 +1,10 @@
-//! The rules of instructions on objects (JVM Specification SE 8, 6.5: new, checkcast, athrow).
-ghost use Rattle.std.specs.Prelude.{◌≡◌, ◌≢◌, ◌↔◌, map, slice_get, IfOk, IsTrue};
+//! The rules of instructions on objects (JVM Specification SE 8, 6.5: new, checkcast, instanceof, athrow, monitorenter and monitorexit).
+ghost use Rattle.std.specs.Prelude.{◌≡◌, ◌≢◌, ◌↔◌, [], ◌∷◌, map, slice_get, IfOk, IsTrue};
 ghost use Rattle.std.specs.List.{AllByRecursion};
 ghost use Rattle.class_model.specs.PoolChecks.{class_at};
+ghost use Rattle.class_model.specs.declared.descriptor.Kind.TheVariants as kinds;
+ghost use Rattle.member_link.specs.Rows.Operands.{initialised, of_kind};
+ghost use Rattle.member_link.specs.Rows.Row.{plain};
 ghost use Rattle.member_link.specs.Rows.Table.{new_row, cast_row, throw_row, without_older};
 ghost use Rattle.type_rules.specs.Rule.{RowRules};
 ghost use Rattle.member_link.specs.Scope.{row_scope};
@@ -10,7 +13,7 @@ use crate::fault::RuleFault;
 use crate::need::Need;
 use crate::ruled::Ruled;
 use crate::step::Step;
-use class_model::{LocalTypeList, NoMemory, VType, VTypeList};
+use class_model::{Kind, LocalTypeList, NoMemory, VType, VTypeList};
 use class_tree::THROWABLE;
 use std::alloc::Global;
 
@@ -36,6 +39,22 @@ pub(crate) fn cast(step: &Step<'_>, index: u16) -> Result<Ruled, RuleFault>
         Some(name) => step.plain(&[Need::Initialised], Some(VType::Object(name.copy()?))),
         None => step.no_row(),
     }
+}
+
+/// Asks whether a reference is of a class or array.
+pub(crate) fn is_instance(step: &Step<'_>) -> Result<Ruled, RuleFault>
+    ensures { RowRules (row_scope step.now.rules.now) step.now.before.now
+        (plain step.now.before.now (initialised ∷ []) (VType.Int ∷ [])) result }
+{
+    step.plain(&[Need::Initialised], Some(VType::Int))
+}
+
+/// Enters or leaves the monitor of an object.
+pub(crate) fn use_monitor(step: &Step<'_>) -> Result<Ruled, RuleFault>
+    ensures { RowRules (row_scope step.now.rules.now) step.now.before.now
+        (plain step.now.before.now (of_kind kinds.Ref ∷ []) []) result }
+{
+    step.plain(&[Need::OfKind(Kind::Ref)], None)
 }
 
 /// Throws an object.

@@ -92,6 +92,14 @@ impl Step<'_> {
         })
     }
 
+    /// The rule of an instruction that takes and pushes nothing.
+    pub(crate) fn unchanged(&self) -> Result<Ruled, RuleFault>
+        ensures { RowRules (row_scope self.now.rules.now) self.now.before.now
+            (plain self.now.before.now [] []) result }
+    {
+        self.plain(&[], None)
+    }
+
     /// The rule of an instruction that takes operands and pushes a value, or none.
     pub(crate) fn plain(&self, needs: &[Need<'_>], gives: Option<VType>) -> Result<Ruled, RuleFault>
         ensures { RowRules (row_scope self.now.rules.now) self.now.before.now

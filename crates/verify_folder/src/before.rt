@@ -32,14 +32,26 @@ pub fn frame_before(
         });
     }
     let rules = MethodRules::new(alloc, tree, at)?;
+    let answer = before_by(alloc, &rules, offset);
+    drop(rules);
+    answer
+}
+
+// The frames before the instruction at an offset of a method with these rules.
+fn before_by(alloc: Global, rules: &MethodRules<'_>, offset: u32) -> Result<FrameBefore, NoMemory> {
     let stated = match rules.stated_at(offset) {
         Some(stated) => Some(stated.copy(alloc)?),
         None => None,
     };
-    let flows = match flows_before(alloc, &rules, offset) {
-        Ok(flows) => flows,
-        Err(Stop::Fails { .. }) => None,
-        Err(Stop::NoMemory) => return Err(NoMemory),
-    };
-    Ok(FrameBefore { flows, stated })
+    match flows_before(alloc, rules, offset) {
+        Ok(flows) => Ok(FrameBefore { flows, stated }),
+        Err(Stop::Fails { .. }) => Ok(FrameBefore {
+            flows: None,
+            stated,
+        }),
+        Err(Stop::NoMemory) => {
+            drop(stated);
+            Err(NoMemory)
+        }
+    }
 }

@@ -1,5 +1,5 @@
 //! A method verifies.
-ghost use Rattle.std.specs.Prelude.{◌≡◌, IfOk, IsSome};
+ghost use Rattle.std.specs.Prelude.{◌≡◌, IfOk, IsSome, Some};
 ghost use Rattle.class_model.specs.Header.{header_of};
 ghost use Rattle.member_link.specs.Linked.{IsLinked};
 ghost use Rattle.member_link.specs.Scope.{scope_at};
@@ -25,13 +25,28 @@ pub fn verify_method(alloc: Global, tree: &Tree, at: MethodAt) -> Result<TypedMe
     ensures { VerifiesAs tree.now at result }
 {
     let rules = MethodRules::new(alloc, tree, at)?;
-    match type_method(alloc, &rules) {
+    let answer = verify_by(alloc, tree, &rules, at);
+    drop(rules);
+    answer
+}
+
+// Verifies a method by its rules.
+fn verify_by(
+    alloc: Global,
+    tree: &Tree,
+    rules: &MethodRules<'_>,
+    at: MethodAt,
+) -> Result<TypedMethod, VerifyFault>
+    requires { scope_at tree.now at ≡ Some rules.now }
+    ensures { VerifiesAs tree.now at result }
+{
+    match type_method(alloc, rules) {
         Ok(frames) => Ok(frames),
         Err(Stop::Fails { offset, rule }) => {
             let Some(member) = rules.header().methods.get(at.method) else {
                 unreachable!()
             };
-            Err(unverified(&rules, member, offset, rule)?)
+            Err(unverified(rules, member, offset, rule)?)
         }
         Err(Stop::NoMemory) => Err(VerifyFault::NoMemory),
     }
@@ -47,7 +62,9 @@ pub(crate) fn check_method(alloc: Global, tree: &Tree, at: MethodAt) -> Result<(
     ensures { MethodIsTyped tree.now at result }
 {
     let rules = MethodRules::new(alloc, tree, at)?;
-    match pass_method(alloc, &rules) {
+    let passed = pass_method(alloc, &rules);
+    drop(rules);
+    match passed {
         Ok(()) => Ok(()),
         Err(_) => verify_again(alloc, tree, at),
     }

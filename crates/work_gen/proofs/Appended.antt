@@ -15,3 +15,11 @@ pub all_appended : {X Y Z : Type 0} (f : Y → Z) (g : X → Y) (done : List Z) 
     → done ++ map (λ x. f (g x)) (take i items) ≡ done ++ map f (map g items)
 all_appended f g done items i end =
     ap (λ given. done ++ given) (ap (map (λ x. f (g x))) (take_all i items end) ∙ sym (map-map f g items))
+
+-- one more item behind what was appended before
+pub appended_more : {X : Type 0} (old some : List X) (x : X) {before all : List X}
+    → all ≡ before ++ x ∷ []
+    → before ≡ old ++ some
+    → all ≡ old ++ (some ++ x ∷ [])
+appended_more old some x last before =
+    last ∙ ap (λ done. done ++ x ∷ []) before ∙ append_assoc old some (x ∷ [])

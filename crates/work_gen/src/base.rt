@@ -1,5 +1,6 @@
 //! The smallest library that linking accepts.
-ghost use Rattle.std.specs.Prelude.{◌≡◌, IfOk};
+ghost use Rattle.std.specs.Prelude.{◌≡◌, ◌∷◌, [], ◌++◌, IfOk, OnOk};
+ghost use Rattle.class_model.specs.ModifiedUtf8.{IsText};
 ghost use Rattle.work_gen.specs.BaseLibrary.{IsBaseLibrary};
 ghost use Rattle.work_gen.specs.Values as values;
 
@@ -37,14 +38,35 @@ fn named_classes(alloc: Global) -> Result<ClassFileList, NoMemory>
     ensures { IfOk result (λ classes. classes ≡ values.named_classes) }
 {
     let mut classes = ListOf::new(alloc);
-    classes.push(object(alloc)?)?;
-    classes.push(memberless(alloc, INTERFACE, b"java/lang/Cloneable")?)?;
-    classes.push(memberless(alloc, INTERFACE, b"java/io/Serializable")?)?;
-    classes.push(memberless(alloc, FINAL, b"java/lang/String")?)?;
-    classes.push(memberless(alloc, FINAL, b"java/lang/Class")?)?;
-    classes.push(memberless(alloc, OPEN, METHOD_HANDLE)?)?;
-    classes.push(memberless(alloc, OPEN, b"java/lang/invoke/MethodType")?)?;
-    classes.push(keeper(alloc)?)?;
-    classes.push(throwable(alloc, OBJECT, THROWABLE)?)?;
+    push_named(alloc, &mut classes)?;
     Ok(classes)
+}
+
+// Appends the classes but for the throwables that instructions raise.
+fn push_named(alloc: Global, classes: &mut ClassFileList) -> Result<(), NoMemory>
+    ensures { OnOk result (classes.new ≡ classes.old ++ values.named_classes) }
+{
+    classes.push(object(alloc)?)?;
+    push_memberless(alloc, classes, INTERFACE, b"java/lang/Cloneable")?;
+    push_memberless(alloc, classes, INTERFACE, b"java/io/Serializable")?;
+    push_memberless(alloc, classes, FINAL, b"java/lang/String")?;
+    push_memberless(alloc, classes, FINAL, b"java/lang/Class")?;
+    push_memberless(alloc, classes, OPEN, METHOD_HANDLE)?;
+    push_memberless(alloc, classes, OPEN, b"java/lang/invoke/MethodType")?;
+    classes.push(keeper(alloc)?)?;
+    classes.push(throwable(alloc, OBJECT, THROWABLE)?)
+}
+
+// Appends a class without members, below `java/lang/Object`.
+fn push_memberless(
+    alloc: Global,
+    classes: &mut ClassFileList,
+    flags: u16,
+    name: &[u8],
+) -> Result<(), NoMemory>
+    requires { IsText name.now }
+    ensures { OnOk result
+        (classes.new ≡ classes.old ++ values.memberless flags name.now ∷ []) }
+{
+    classes.push(memberless(alloc, flags, name)?)
 }

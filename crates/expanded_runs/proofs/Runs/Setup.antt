@@ -2,7 +2,7 @@
 use Rattle.class_tree.specs.Headers.{Classes, headers_of}
 use Rattle.class_tree.specs.Hierarchy.{IsHierarchy}
 use Rattle.class_tree.specs.Trees.{IsTree}
-use Rattle.expanded_runs.specs.ExpandedPrograms.{AreExpanded, HasTypings, ReplacesByFlats}
+use Rattle.expanded_runs.specs.ExpandedPrograms.{AreExpanded, ReplacesByFlats}
 use Rattle.flow_code.specs.TypedFrames.{FolderFrames}
 use Rattle.member_link.specs.Machine.Classes.{program_of}
 use Rattle.member_link.specs.Machine.Links.{AreLinksOf}
@@ -10,6 +10,7 @@ use Rattle.member_link.specs.Machine.Programs.{Links, Program}
 use Rattle.member_link.specs.Machine.Replaced.{Replacement, replaced}
 use Rattle.same_runs.specs.Flats.{Flats}
 use Rattle.type_rules.specs.Verified.{TypesFolder}
+use Rattle.typed_runs.specs.FolderTypings.{HasTypings}
 use Rattle.typed_runs.specs.TypedPrograms.{IsTypedProgram, Typings}
 
 -- the folder, the frames that type it, its links, flat codes of some of its methods, what takes the place, and how its program is typed
@@ -36,4 +37,4 @@ pub record IsSetup (u : Setup) : Type 0 where
   pub expanded : AreExpanded u.classes u.typed u.flats
   pub replaces : ReplacesByFlats u.classes u.links u.flats u.r
   pub program : IsTypedProgram (before u) u.typings
-  pub typings : HasTypings u.classes u.typed u.typings
+  pub typings : HasTypings u.typed u.typings

@@ -5,13 +5,14 @@ use Rattle.class_tree.specs.Headers.{Classes, headers_of}
 use Rattle.class_tree.specs.Hierarchy.{IsHierarchy}
 use Rattle.class_tree.specs.Trees.{IsTree}
 use Rattle.expanded_runs.proofs.Runs.Setup.{IsSetup, Setup, before}
-use Rattle.expanded_runs.specs.ExpandedPrograms.{HasTypings, ReplacesByFlats}
+use Rattle.expanded_runs.specs.ExpandedPrograms.{ReplacesByFlats}
 use Rattle.flow_code.specs.FlatCode.{FlatCode}
 use Rattle.flow_code.specs.TypedFrames.{FolderFrames}
 use Rattle.member_link.specs.Machine.Links.{AreLinksOf}
 use Rattle.member_link.specs.Machine.Programs.{Links}
 use Rattle.same_runs.specs.Flats.{Flats, flats_for_codes}
 use Rattle.type_rules.specs.Verified.{TypesFolder}
+use Rattle.typed_runs.specs.FolderTypings.{HasTypings}
 use Rattle.typed_runs.specs.TypedPrograms.{IsTypedProgram, Typings}
 
 abbrev no_flats : Flats
@@ -49,7 +50,7 @@ pub is_own_setup : {classes : Classes} {typed : FolderFrames} {links : Links} {t
     → TypesFolder classes typed
     → AreLinksOf (headers_of classes) links
     → IsTypedProgram (before (own_setup classes typed links typings)) typings
-    → HasTypings classes typed typings
+    → HasTypings typed typings
     → IsSetup (own_setup classes typed links typings)
 is_own_setup {classes} {typed} {links} {typings} tree hierarchy types linked program has = record {
   tree = tree;

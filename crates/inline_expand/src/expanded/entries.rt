@@ -34,6 +34,8 @@ pub(crate) fn push_entry(
     let behind = push_stores(alloc, points, spot, frame, &shape.parameters, unit)?;
     if shape.tests_receiver {
         points.push(spot.null_test(unit, behind)?)?;
+    } else {
+        drop(behind);
     }
     Ok(())
 }
@@ -87,6 +89,12 @@ fn push_store(
         (λ behind. behind ≡ frame_stored frame (argument_from unit parameter.now)) }
 {
     let local = unit + parameter.unit;
-    points.push(spot.point(Instr::Store(parameter.kind, local), frame.copy(alloc)?)?)?;
-    stored(frame, local)
+    match spot.push_copy(alloc, points, Instr::Store(parameter.kind, local), &frame) {
+        Ok(()) => stored(frame, local),
+        // let go by a call, so that its drop is proved once
+        Err(fault) => {
+            drop(frame);
+            Err(fault)
+        }
+    }
 }

@@ -38,15 +38,18 @@ pub(crate) fn host_points<'s, 't>(
         host.now.host.part.max_locals (instructions host.now.host) host.now.frames.now
         (host_expansion bodies.now host.now)) }
 {
-    let setting = setting_by(alloc, bodies, host, measure)?;
     let mut points = Vec::with_capacity(alloc, usize::from(measure.points))?;
-    push_method(
+    let setting = setting_by(alloc, bodies, host, measure)?;
+    let pushed = push_method(
         alloc,
         &mut points,
         bodies,
         measure.layouts.as_slice(),
         &setting,
-    )?;
+    );
+    // let go by a call, so that its drop is proved once
+    drop(setting);
+    pushed?;
     Ok(PointList::from_vec(points))
 }
 

@@ -73,21 +73,46 @@ pub(crate) fn enter<'s, 't>(
     let layout = found.layout;
     let stack = entry.stack.as_slice();
     let count = layout.shape.parameters.len();
+    let handlers = spot.handlers.copy()?;
+    let this = match lowest_of(stack, count) {
+        Ok(this) => this,
+        // let go by a call, so that its drop is proved once
+        Err(fault) => {
+            drop(handlers);
+            return Err(fault);
+        }
+    };
+    let below = match frame_under(alloc, entry, count) {
+        Ok(below) => below,
+        Err(fault) => {
+            drop(handlers);
+            drop(this);
+            return Err(fault);
+        }
+    };
     Ok(Setting {
         body: found.body,
         starts: layout.starts.as_slice(),
         base: start + points_before(&layout.shape),
         unit,
-        below: Frame {
-            locals: entry.locals.copy(alloc)?,
-            stack: under(alloc, stack, count)?,
-        },
-        this: lowest_of(stack, count)?,
+        below,
+        this,
         call: Some(Call {
             behind: start + layout.points,
             narrowed: layout.shape.narrowed,
-            handlers: spot.handlers.copy()?,
+            handlers,
         }),
+    })
+}
+
+// A frame without the topmost entries of its stack, so many.
+fn frame_under(alloc: Global, entry: &Frame, count: usize) -> Result<Frame, NoMemory>
+    ensures { IfOk result
+        (λ below. below ≡ record entry.now { stack = under count entry.now.stack }) }
+{
+    Ok(Frame {
+        locals: entry.locals.copy(alloc)?,
+        stack: under(alloc, entry.stack.as_slice(), count)?,
     })
 }
 

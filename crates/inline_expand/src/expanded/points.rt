@@ -85,9 +85,24 @@ fn push_callee<'s, 't>(
         → points.new.items
         ≡ points.old.items ++ callee_points t at entry start unit (callee_in found.now)) }
 {
-    let place = enter(alloc, found, spot, &entry, start, unit)?;
-    push_entry(alloc, points, spot, entry, &found.layout.shape, unit)?;
-    push_method(alloc, points, found.bodies, found.layouts, &place)
+    let place = match enter(alloc, found, spot, &entry, start, unit) {
+        Ok(place) => place,
+        // let go by a call, so that its drop is proved once
+        Err(fault) => {
+            drop(entry);
+            return Err(fault);
+        }
+    };
+    match push_entry(alloc, points, spot, entry, &found.layout.shape, unit) {
+        Ok(()) => {}
+        Err(fault) => {
+            drop(place);
+            return Err(fault);
+        }
+    }
+    let pushed = push_method(alloc, points, found.bodies, found.layouts, &place);
+    drop(place);
+    pushed
 }
 
 // Appends the points of an instruction that stays.
@@ -130,7 +145,11 @@ fn push_set(
         → points.new.items
         ≡ points.old.items ++ own_point (setting_of setting.now) placed.now typed) }
 {
-    let instr = setting.instr(alloc, &placed.instr)?;
-    points.push(spot.point(instr, typed)?)?;
-    Ok(())
+    match setting.instr(alloc, &placed.instr) {
+        Ok(instr) => spot.push(points, instr, typed),
+        Err(fault) => {
+            drop(typed);
+            Err(fault)
+        }
+    }
 }

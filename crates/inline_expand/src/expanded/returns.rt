@@ -1,5 +1,6 @@
 //! What stands in place of a callee's return.
-ghost use Rattle.std.specs.Prelude.{◌≡◌, ◌++◌, ◌∷◌, [], ℕ, OnOk};
+ghost use Rattle.std.specs.Prelude.{◌≡◌, ◌++◌, ◌∷◌, [], ℕ, IfOk, OnOk};
+ghost use Rattle.class_model.specs.declared.frame.VType.TheVariants.{Int};
 ghost use Rattle.class_model.specs.declared.instr.Instr.TheVariants.{Goto, Pure};
 ghost use Rattle.expanded_code.specs.Expanded.{Setting, point_in};
 ghost use Rattle.inline_expand.specs.Inner.Layouts.{narrowing_of};
@@ -31,8 +32,7 @@ pub(crate) fn push_return(
         ++ (narrowed_points t at typed narrowed ++ point_in t at typed (Goto behind) ∷ [])) }
 {
     push_narrowed(alloc, points, spot, &typed, narrowed)?;
-    points.push(spot.point(Instr::Goto(u32::from(behind)), typed)?)?;
-    Ok(())
+    spot.push(points, Instr::Goto(u32::from(behind)), typed)
 }
 
 // Appends what narrows a result.
@@ -69,8 +69,7 @@ fn push_pure(
         → points.new.items
         ≡ points.old.items ++ point_in t at typed.now (Pure opcode) ∷ []) }
 {
-    points.push(spot.point(Instr::Pure(opcode), typed.copy(alloc)?)?)?;
-    Ok(())
+    spot.push_copy(alloc, points, Instr::Pure(opcode), typed)
 }
 
 // Appends what keeps the lowest bit of an int.
@@ -84,14 +83,26 @@ fn push_mask(
         → IsSpot t at spot.entry
         → points.new.items ≡ points.old.items ++ narrowed_points t at typed.now Narrowed.ToBool) }
 {
+    spot.push_copy(alloc, points, Instr::Const(Imm::Int(1)), typed)?;
+    spot.push(points, Instr::Pure(IAND), with_int(alloc, typed)?)
+}
+
+// A frame with an int on top of its stack.
+fn with_int(alloc: Global, typed: &Frame) -> Result<Frame, NoMemory>
+    ensures { IfOk result
+        (λ frame. frame ≡ record typed.now { stack = typed.now.stack ++ Int ∷ [] }) }
+{
     let Frame { locals, stack } = typed.copy(alloc)?;
     let mut above = stack.into_vec();
-    above.push(VType::Int)?;
-    let masked = Frame {
-        locals,
-        stack: VTypeList::from_vec(above),
-    };
-    points.push(spot.point(Instr::Const(Imm::Int(1)), typed.copy(alloc)?)?)?;
-    points.push(spot.point(Instr::Pure(IAND), masked)?)?;
-    Ok(())
+    match above.push(VType::Int) {
+        Ok(()) => Ok(Frame {
+            locals,
+            stack: VTypeList::from_vec(above),
+        }),
+        // let go by a call, so that its drop is proved once
+        Err(_) => {
+            drop(locals);
+            Err(NoMemory)
+        }
+    }
 }

@@ -1,5 +1,5 @@
 //! A method in its place in flat code.
-ghost use Rattle.std.specs.Prelude.{◌≡◌, ◌+◌, ◌≤◌, IfOk};
+ghost use Rattle.std.specs.Prelude.{◌≡◌, ◌+◌, ◌≤◌, ◌++◌, ◌∷◌, [], IfOk, OnOk};
 ghost use Rattle.expanded_code.specs.Expanded.{set_instr, set_type};
 ghost use Rattle.flow_code.specs.FlatCode.{HasLocal};
 ghost use Rattle.flow_code.specs.declared.point.FlatInstr.TheVariants.{NullTest, Of};
@@ -129,6 +129,53 @@ impl Spot<'_> {
             typed,
             handlers: self.handlers.copy()?,
         })
+    }
+
+    /// Appends a point with a frame.
+    ///
+    /// # Errors
+    /// `NoMemory`, where memory runs out.
+    pub(crate) fn push(
+        &self,
+        points: &mut Vec<Point>,
+        instr: Instr,
+        typed: Frame,
+    ) -> Result<(), NoMemory>
+        ensures { OnOk result (points.new.items ≡ points.old.items ++ record {
+          instr = Of self.now.class instr;
+          typed = typed;
+          handlers = self.now.handlers.now;
+        } ∷ []) }
+    {
+        points.push(self.point(instr, typed)?)?;
+        Ok(())
+    }
+
+    /// Appends a point with a copy of a frame.
+    ///
+    /// # Errors
+    /// `NoMemory`, where memory runs out.
+    pub(crate) fn push_copy(
+        &self,
+        alloc: Global,
+        points: &mut Vec<Point>,
+        instr: Instr,
+        typed: &Frame,
+    ) -> Result<(), NoMemory>
+        ensures { OnOk result (points.new.items ≡ points.old.items ++ record {
+          instr = Of self.now.class instr;
+          typed = typed.now;
+          handlers = self.now.handlers.now;
+        } ∷ []) }
+    {
+        match typed.copy(alloc) {
+            Ok(typed) => self.push(points, instr, typed),
+            // let go by a call, so that its drop is proved once
+            Err(fault) => {
+                drop(instr);
+                Err(fault)
+            }
+        }
     }
 
     /// A test of the reference in a local unit for null.

@@ -273,13 +273,16 @@ fn throw_below(
     ensures done { IfOk result (λ acted. acted ≡ Acted.Fault → ⊥) }
 {
     let library = pop_frame(&mut w.frames);
-    match throw(alloc, prepared, w, at)? {
+    let thrown = throw(alloc, prepared, w, at);
+    match thrown {
+        Ok(Outcome::Stuck) => put_back(&mut w.frames, library)?,
+        // let go by a call, so that its drop is proved once
+        _ => drop(library),
+    }
+    match thrown? {
         Outcome::Running => Ok(Acted::Done),
         Outcome::InitThrew => Ok(Acted::InitThrew),
-        Outcome::Stuck => {
-            put_back(&mut w.frames, library)?;
-            Ok(Acted::Stuck)
-        }
+        Outcome::Stuck => Ok(Acted::Stuck),
         Outcome::LibraryTurn | Outcome::ArrayTooLong => unreachable!(),
     }
 }

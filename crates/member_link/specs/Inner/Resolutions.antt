@@ -134,7 +134,7 @@ abbrev pub Resolves : Resolved → ℕ → Resolution → Type 0
 Resolves class index = ConstantResolves class (constant_at class.pool index)
 
 -- each entry of a table, as far as it is filled, is what the constant at its index resolves to
-abbrev IfFilled : (Resolution → Type 0) → Option (Option Resolution) → Type 0
+abbrev pub IfFilled : (Resolution → Type 0) → Option (Option Resolution) → Type 0
 IfFilled Resolves (Some (Some resolution)) = Resolves resolution
 IfFilled Resolves other = Unit {0}
 

@@ -1,11 +1,7 @@
-use Rattle.std.proofs.Common.{◌≡◌, ◌++◌, length, take}
-use Rattle.std.specs.List.{flat_map, AllByRecursion}
-use Rattle.class_model.specs.Spelling.{u2, inner_bytes}
+use Rattle.class_model.specs.Spelling.{inner_bytes}
 use Rattle.class_bytes.specs.Numbers.{InnerNumber}
+use Rattle.class_bytes.proofs.Pushing.{Pushed}
 use Rattle.class_bytes.proofs.attr_writing.push_inner_attrs.Given as goal
 
 abbrev pub invariant-loop-attr : goal.invariant-loop-attr
-invariant-loop-attr l = record {
-  written : l.out.items ≡ l.fn.out.items ++ (u2 (length l.attrs) ++ flat_map inner_bytes (take l.attr-index l.attrs));
-  numbers : AllByRecursion InnerNumber (take l.attr-index l.attrs);
-}
+invariant-loop-attr l = Pushed inner_bytes InnerNumber l.fn.out.items l.out.items l.attrs l.attr-index

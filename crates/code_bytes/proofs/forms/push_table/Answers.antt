@@ -1,10 +1,10 @@
 use Rattle.std.proofs.Common.{◌≡◌, ℕ, ℤ, pos, ◌+ℤ◌, ◌-◌, List, ◌∷◌, ◌++◌, length, replicate, ap, ◌∙◌, append_assoc, to_z, of_z, w32}
 use Rattle.std.proofs.lemmas.Int.{to_z-of_z}
-use Rattle.std.proofs.lemmas.List.{take_all}
 use Rattle.std.specs.List.{flat_map}
 use Rattle.class_model.specs.Instructions.{pad_of}
 use Rattle.class_model.specs.Spelling.{u4}
 use Rattle.code_bytes.specs.Forms.{target_bytes, table_bytes}
+use Rattle.code_bytes.proofs.PushedItems.{one_pushed, all_pushed}
 use Rattle.code_bytes.proofs.forms.push_table.Goals as goal
 
 -- what was appended, one after the other
@@ -21,4 +21,8 @@ returns c =
     table_made c.args.at low c.args.other to _ _ _ _ _ c.in_ok-push_switch.ensures
     (c.in_ok-push_s4.ensures ∙ ap (λ z. c.push_switch.new.out.items ++ u4 (of_z w32 z)) low_fits)
     (c.in_ok-push_s4-2.ensures ∙ ap (λ z. c.push_s4.new.out.items ++ u4 (of_z w32 z)) (ap (λ z. to_z w32 (of_z w32 z)) high ∙ high_fits))
-    (c.loop-to.invariant ∙ ap (λ ts. c.push_s4-2.new.out.items ++ flat_map (target_bytes c.args.at) ts) (take_all c.loop-to.to-index to c.loop-to-test.false))
+    (all_pushed (target_bytes c.args.at) _ _ to _ c.loop-to.invariant c.loop-to-test.false)
+
+pub loop-to-preserved : goal.loop-to-preserved
+loop-to-preserved c =
+    one_pushed (target_bytes c.args.at) _ _ _ _ _ _ c.loop-to.invariant c.loop-to-test.true (c.in_ok-push_u4.ensures ∙ ap (λ n. c.loop-to.out.items ++ u4 n) c.offset.ensures)

@@ -1,11 +1,12 @@
--- Where the pairs are there, their keys increase or not.
-use Rattle.std.proofs.Common.{◌≡◌, map, refl, sym, ap, rules, ◌∙◌}
+-- The pairs are there or not, and their keys increase or not.
+use Rattle.std.proofs.Common.{◌≡◌, map, refl, sym, ap, arith, rules, ◌∙◌}
 use Rattle.std.specs.Prelude.{FitsSigned}
 use Rattle.std.specs.Int.{w32}
 use Rattle.std.proofs.lemmas.Int.{to_z-of_z}
 use Rattle.class_model.specs.Instructions.{keys_increase}
+use Rattle.std.proofs.lemmas.Result.{err_from_is_err_and}
 use Rattle.code_bytes.specs.Inner.Operands.{pair_in}
-use Rattle.code_bytes.proofs.SwitchForms.{LookupHead, lookup_is}
+use Rattle.code_bytes.proofs.SwitchForms.{LookupHead, read_short, lookup_cut, lookup_short, lookup_is}
 use Rattle.code_bytes.proofs.switches.lookup_switch.Goals as goal
 use Rattle.code_bytes.proofs.switches.lookup_switch.Goals.{After-keys_increase}
 
@@ -36,3 +37,20 @@ returns c =
     let before = (goal.at.returns c).After-keys_increase in
     let test = told before ∙ c.if-not-keys_increase.false in
     rw c.in_ok-pairs.ensures (lookup_is _ _ _ _ _ _ _ (head before) ∙ rw test refl)
+
+pub returns-in_err-other : goal.returns-in_err-other
+returns-in_err-other c =
+    let err = err_from_is_err_and c.from_residual.result c.from_residual.ensures.1 in
+    rw (err.1, err.2) (read_short _ _ _ _ _ (λ short. lookup_cut _ _ (omega (arith, c.first_operand-start.ensures.value))) _ c.in_err-other.ensures)
+
+pub returns-in_err-s4 : goal.returns-in_err-s4
+returns-in_err-s4 c =
+    let err = err_from_is_err_and c.from_residual-in_err-s4.result c.from_residual-in_err-s4.ensures.1 in
+    rw (err.1, err.2) (read_short _ _ _ _ _ (λ short. lookup_cut _ _ (omega (arith, c.first_operand-start.ensures.value))) _ c.in_err-s4.ensures)
+
+pub returns-in_err-parts : goal.returns-in_err-parts
+returns-in_err-parts c =
+    let number : FitsSigned w32 c.in_ok-s4.field-0 = search rules in
+    let err = err_from_is_err_and c.from_residual-in_err-parts.result c.from_residual-in_err-parts.ensures.1 in
+    rw (err.1, err.2, c.in_err-parts.ensures.1)
+    (lookup_short _ _ _ c.in_ok-s4.field-0 _ c.first_operand-start.ensures.value c.in_ok-s4.ensures (simp to_z-of_z at c.in-Ok.ensures.0) (simp to_z-of_z at c.in-Ok.ensures.1) c.in_err-parts.ensures.0)

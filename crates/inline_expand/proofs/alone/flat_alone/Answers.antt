@@ -16,8 +16,8 @@ unreachable-requires c =
     let named = subst (λ (found : Option Scope). TypesMethod found (typed_frames_at typed c.args.at)) scope each in
     subst (λ (frames : Option (List Frame)). TypesMethod (Some c.in-Some.host) frames) (sym c.of.ensures ∙ ap option_copied c.in_default-of.is) named
 
-pub flat_of-requires-clause-typed : goal.flat_of-requires-clause-typed
-flat_of-requires-clause-typed c =
+pub flat_of-flat-requires-clause-typed : goal.flat_of-flat-requires-clause-typed
+flat_of-flat-requires-clause-typed c =
     let classes = c.args.tree.now in
     let typed = c.args.typed.now in
     let scope : scope_at classes c.args.at ≡ Some c.in-Some.host = sym c.in_ok-host.ensures.scope ∙ c.in-Some.is in

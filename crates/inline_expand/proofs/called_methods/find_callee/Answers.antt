@@ -20,16 +20,16 @@ says_at_most-requires c =
     let short = subst (IsShortCoded c.args.host.tree.now c.args.host.typed.now c.in-Some.callee) c.in-Some-2.is c.in_ok-callee-2.ensures in
     c.a_method_of_a_tree_was_read.ensures c.in-Some-2.callee.at c.in-Some-2.callee.host short.1.is_scope
 
-pub returns-then-branch : goal.returns-then-branch
-returns-then-branch c =
+pub returns-in-Ok-true : goal.returns-in-Ok-true
+returns-in-Ok-true c =
     it_says c.args.host.tree.now c.args.host.typed.now (λ s at one other calls also. c.a_call_runs_one_method.ensures c.args.host.tree.now s at one other c.a_tree_is_a_hierarchy.ensures calls also) c.args.caller.now c.requires.stands c.args.at
     c.in-Some.callee (subst (DecidesCall c.args.host.tree.now c.args.caller.now.host c.args.at) c.in-Some.is c.in_ok-callee.ensures)
     c.in-Some-2.callee (subst (IsShortCoded c.args.host.tree.now c.args.host.typed.now c.in-Some.callee) c.in-Some-2.is c.in_ok-callee-2.ensures)
-    (c.in_ok-says_at_most.ensures.0 c.if-branch.true)
+    (c.in-Ok-true.ensures.0 c.in-Ok-true.field-0-test)
 
-pub returns : goal.returns
-returns c =
+pub returns-in-Ok-false : goal.returns-in-Ok-false
+returns-in-Ok-false c =
     it_says_not c.args.host.tree.now c.args.host.typed.now (λ s at one other calls also. c.a_call_runs_one_method.ensures c.args.host.tree.now s at one other c.a_tree_is_a_hierarchy.ensures calls also) c.args.caller.now c.requires.stands c.args.at
     c.in-Some.callee (subst (DecidesCall c.args.host.tree.now c.args.caller.now.host c.args.at) c.in-Some.is c.in_ok-callee.ensures)
     c.in-Some-2.callee (subst (IsShortCoded c.args.host.tree.now c.args.host.typed.now c.in-Some.callee) c.in-Some-2.is c.in_ok-callee-2.ensures)
-    (λ says. absurd (cc (sym c.if-branch.false ∙ c.in_ok-says_at_most.ensures.1 says)))
+    (λ says. absurd (cc (sym c.in-Ok-false.field-0-test ∙ c.in-Ok-false.ensures.1 says)))

@@ -18,8 +18,8 @@ returns-in_default-clause-answers c =
           (λ expansion is. omega (arith, found expansion is, c.from-most.ensures)),
     )
 
-pub flat_of-requires-clause-whole : goal.flat_of-requires-clause-whole
-flat_of-requires-clause-whole c =
+pub flat_of-flat-requires-clause-whole : goal.flat_of-flat-requires-clause-whole
+flat_of-flat-requires-clause-whole c =
     let classes = c.args.tree.now in
     let typed = c.args.typed.now in
     let host = c.in_ok-host.host in
@@ -37,4 +37,4 @@ returns-clause-answers c =
     whole-answers classes typed (λ s at one other is also. c.a_call_runs_one_method.ensures classes s at one other c.a_tree_is_a_hierarchy.ensures is also) c.each_method_is_typed.ensures c.args.at
     (coded_of bodies.body) (ap (λ (own : Coded). own.at) found.coded ∙ c.in_ok-host.ensures.0) found.whole.stands (host_expansion bodies.callees.items bodies.body)
     (body-expands classes typed (λ s at one other is also. c.a_call_runs_one_method.ensures classes s at one other c.a_tree_is_a_hierarchy.ensures is also) c.each_method_is_typed.ensures c.args.at host bodies found)
-    c.flat_of.result c.in_ok-host.ensures.2 c.flat_of.ensures.answers
+    c.flat_of-flat.result c.in_ok-host.ensures.2 c.flat_of-flat.ensures.answers

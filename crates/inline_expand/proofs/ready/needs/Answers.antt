@@ -1,4 +1,5 @@
 use Rattle.std.proofs.Common.{Vec, Global, subst}
+use Rattle.std.proofs.lemmas.Result.{IfOk-weaker}
 use Rattle.std.specs.Option.{option_map}
 use Rattle.class_model.specs.declared.class_file.MethodAt.{MethodAt}
 use Rattle.inline_expand.proofs.OwnCallees.{has_needs}
@@ -13,6 +14,8 @@ may_stand_in-requires c =
 pub returns : goal.returns
 returns c =
     let short = subst (IsShortCoded c.args.host.tree.now c.args.host.typed.now c.args.at) c.in-Some.is c.in_ok-method.ensures in
-    has_needs c.args.host.tree.now c.args.host.typed.now c.args.host.number c.args.host.class.now c.args.at c.in-Some.method c.requires.is short.0 short.1
-    (c.in_ok-may_stand_in.ensures.0 c.if-not-branch.false)
-    (option_map (λ (list : Vec MethodAt Global). list.items) c.in_ok-own_callees.field-0) c.in_ok-own_callees.ensures
+    IfOk-weaker c.own_callees-needs.result _ _
+    (λ callees calls. has_needs c.args.host.tree.now c.args.host.typed.now c.args.host.number c.args.host.class.now c.args.at c.in-Some.method c.requires.is short.0 short.1
+    (c.in-Ok-true.ensures.0 c.in-Ok-true.field-0-test)
+    (option_map (λ (list : Vec MethodAt Global). list.items) callees) calls)
+    c.own_callees-needs.ensures

@@ -15,14 +15,14 @@ returns-then-not-may_follow-clause-callee c =
     c.in-Some.callee (subst (IsCalleeFound c.args.place.class.tree.now c.args.place.class.typed.now c.args.place.class.number c.args.method.now.at c.args.at) c.in-Some.is c.in_ok-callee.ensures.callee)
     (λ follows. absurd (cc (sym c.if-not-may_follow.true ∙ c.may_follow.ensures.1 follows)))
 
-pub returns-then-branch-clause-callee : goal.returns-then-branch-clause-callee
-returns-then-branch-clause-callee c =
+pub returns-in-Ok-true-clause-callee : goal.returns-in-Ok-true-clause-callee
+returns-in-Ok-true-clause-callee c =
     is_replaced c.args.place.class.tree.now c.args.place.class.typed.now (host_of c.args.place.line.now) (chain_of c.args.place.line.now) c.args.method.now c.args.at c.requires.method c.args.place.class.number c.requires.place.of_host
     c.in-Some.callee (subst (IsCalleeFound c.args.place.class.tree.now c.args.place.class.typed.now c.args.place.class.number c.args.method.now.at c.args.at) c.in-Some.is c.in_ok-callee.ensures.callee)
-    (c.may_follow.ensures.0 c.if-not-may_follow.false) (c.in_ok-initialises_kept.ensures.kept.0 c.if-branch.true)
+    (c.may_follow.ensures.0 c.if-not-may_follow.false) (c.in-Ok-true.ensures.kept.0 c.in-Ok-true.field-0-test)
 
-pub returns-clause-callee : goal.returns-clause-callee
-returns-clause-callee c =
+pub returns-in-Ok-false-clause-callee : goal.returns-in-Ok-false-clause-callee
+returns-in-Ok-false-clause-callee c =
     not_kept c.args.place.class.tree.now c.args.place.class.typed.now (host_of c.args.place.line.now) (chain_of c.args.place.line.now) c.args.method.now c.args.at c.requires.method c.args.place.class.number c.requires.place.of_host
     c.in-Some.callee (subst (IsCalleeFound c.args.place.class.tree.now c.args.place.class.typed.now c.args.place.class.number c.args.method.now.at c.args.at) c.in-Some.is c.in_ok-callee.ensures.callee)
-    (λ kept. absurd (cc (sym c.if-branch.false ∙ c.in_ok-initialises_kept.ensures.kept.1 kept)))
+    (λ kept. absurd (cc (sym c.in-Ok-false.field-0-test ∙ c.in-Ok-false.ensures.kept.1 kept)))

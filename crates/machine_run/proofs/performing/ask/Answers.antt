@@ -1,4 +1,4 @@
-use Rattle.std.proofs.Common.{◌≡◌, ◌∷◌, ◌++◌, List, None, ap, ◌∙◌}
+use Rattle.std.proofs.Common.{◌≡◌, ◌∷◌, List, None, ap, ◌∙◌}
 use Rattle.std.proofs.lemmas.Result.{on_ok_weaker}
 use Rattle.machine_values.specs.declared.frame.RunFrame.{RunFrame as Frame}
 use Rattle.machine_values.specs.declared.frame.RunFrame.TheVariants.{Library, Method}
@@ -16,14 +16,8 @@ returns c =
     on_ok_weaker c.show_asked.result
     (λ shows P f rest program is.
     let before : inside.frames ≡ Method f ∷ rest = ap (λ (w : World). w.frames) c.w.view_is ∙ is in
-    let frames : c.push_frame.new.frames ≡ Library None ∷ Method (without_operands c.args.count f) ∷ rest =
-    c.in_ok-push_frame.ensures.ok ∙ ap (λ (fs : List Frame). Library None ∷ fs) (c.take_operands.ensures f rest before)
-    in
-    let values : c.deref.result.now ≡ operands_in c.args.count f =
-    c.deref.ensures.value ∙ c.in_ok-extend_from_slice.ensures.items
-    ∙ ap (λ (vs : List Value). vs ++ c.top_operands.result.now) c.new-values.ensures.items
-    ∙ c.top_operands.ensures f rest before
-    in
+    let frames : c.hand_over.new.frames ≡ Library None ∷ Method (without_operands c.args.count f) ∷ rest = c.in-Ok.ensures.frames f rest before in
+    let values : c.deref.result.now ≡ operands_in c.args.count f = c.deref.ensures.value ∙ c.in-Ok.ensures.values f rest before in
     shows P program
     ∙ ap (λ (fs : List Frame). shows_asked P (with_frames fs) (asked_of c.deref.result.now c.args.asked)) frames
     ∙ ap (λ (vs : List Value). shows_asked P (with_frames (Library None ∷ Method (without_operands c.args.count f) ∷ rest)) (asked_of vs c.args.asked)) values

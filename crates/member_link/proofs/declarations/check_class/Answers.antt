@@ -34,3 +34,7 @@ returns c = λ header at.
     let left = passes (all_remain (declaration_checks headers class)) (c.are_supers_accessible.ensures.0 c.in_ok-ask.ensures.0) in
     let last = remain (asked_each (declared_field_checks headers class) class.fields) (asked_each (declared_method_checks headers class) class.methods) left c.in_ok-check_fields.ensures in
     subst (λ (header : Header). Answers (declaration_checks headers header) c.check_methods.result) (same_Some class header (c.in-Some.ensures ∙ at)) (answered c.check_methods.result last c.check_methods.ensures)
+
+pub offset_bounds-known-index : goal.offset_bounds-known-index
+offset_bounds-known-index c =
+    omega (arith, slice_get_within (headers_of c.args.tree.now).folder c.args.index c.in-Some.header.now (sym c.in-Some.ensures), c.requires.len)

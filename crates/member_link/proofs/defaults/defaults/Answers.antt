@@ -52,3 +52,11 @@ returns-in-Some-only c = λ header at.
     let places = c.superinterfaces-interface-items.result.now in
     let met = all_met headers hierarchy header.name c.args.name.now c.args.desc.now places c.loop-interface.interface-index c.loop-interface-test.false c.loop-interface.only (c.loop-interface.invariant header at) in
     only_one headers hierarchy header.name c.args.name.now c.args.desc.now places c.in-Some-only.found (subst (IsSoFar headers header.name c.args.name.now c.args.desc.now []) c.in-Some-only.is met)
+
+pub returns-in-None : goal.returns-in-None
+returns-in-None c = λ header at.
+    let headers = headers_of c.args.tree.now in
+    let hierarchy = c.a_tree_is_a_hierarchy.ensures in
+    let places = c.superinterfaces-interface-items.result.now in
+    let met = all_met headers hierarchy header.name c.args.name.now c.args.desc.now places c.loop-interface.interface-index c.loop-interface-test.false c.loop-interface.only (c.loop-interface.invariant header at) in
+    subst (IsSoFar headers header.name c.args.name.now c.args.desc.now []) c.in-None.is met

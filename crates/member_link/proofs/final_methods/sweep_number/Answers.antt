@@ -65,3 +65,7 @@ returns-clause-known c =
       each = λ k member is less.
           free_overrides_none headers (stands_apart c.args.tree.now c.requires.tree) c.a_tree_is_a_hierarchy.ensures c.args.spans.now c.requires.spans c.args.ends.now.entries c.args.number c.requires.swept index header at c.index-span.result.now (span_is (headers_of c.args.tree.now) c.args.spans.now c.requires.spans c.index-index.result.now c.in-Some.header.now c.index-span.result.now (sym c.in-Some.ensures) c.index-span.ensures) c.if-span-number.false member (c.in_ok-known.ensures.known k member is less);
     })
+
+pub offset_bounds-known-index : goal.offset_bounds-known-index
+offset_bounds-known-index c =
+    omega (arith, slice_get_within (headers_of c.args.tree.now).folder c.index-index.result.now c.in-Some.header.now (sym c.in-Some.ensures), c.requires.known.len)

@@ -7,7 +7,7 @@ use Rattle.member_link.specs.Inner.NeededForms.{IsFieldForm}
 use Rattle.member_link.specs.Inner.Resolutions.{Resolves}
 use Rattle.member_link.specs.Inner.Resolving.{resolved_scope}
 use Rattle.class_model.specs.PoolChecks.{IsFieldConstant}
-use Rattle.member_link.proofs.ToldReferences.{told_broken_field, told_field}
+use Rattle.member_link.proofs.ToldReferences.{told_broken_field, told_field, told_settled_field}
 use Rattle.member_link.proofs.references.check_field.Goals as goal
 
 pub returns-in-Broken-clause-told : goal.returns-in-Broken-clause-told
@@ -28,3 +28,9 @@ returns-in-Field-clause-told c =
     let resolves = subst (Resolves class c.args.index) c.in-Field.is c.in_ok-field.ensures.resolved in
     let told = subst (λ resolver. Answers (asked (resolved_scope resolver c.args.member.now).site rules.WrongForm (IsTrue c.fits_field-has_form.result) ∷ asked (resolved_scope resolver c.args.member.now).site rules.NoAccess (IsTrue field.is_accessible) ∷ []) c.ask_found.result) c.resolution.ensures.same c.ask_found.ensures in
     told_field class c.args.member.now (IsFieldForm c.args.form) constant field c.fits_field-has_form.result c.ask_found.result is_field resolves c.fits_field-has_form.ensures told
+
+pub returns-in_default : goal.returns-in_default
+returns-in_default c = record {
+  same = c.resolution.ensures.same;
+  told = told_settled_field c.args.resolver.now c.args.member.now (IsFieldForm c.args.form) (constant_at c.args.resolver.now.pool c.args.index) c.in_ok-field.field-0 c.in_ok-field.ensures.resolved c.in_default.not-Broken c.in_default.not-Field;
+}

@@ -1,12 +1,15 @@
-use Rattle.std.proofs.Common.{◌≡◌, Err, length, sym, subst}
+use Rattle.std.proofs.Common.{◌≡◌, Err, length, refl, sym, subst}
 use Rattle.std.proofs.lemmas.List.{length_push}
+use Rattle.std.proofs.lemmas.Option.{slice_get_read}
 use Rattle.std.proofs.lemmas.Result.{err_from_is_err_and}
 use Rattle.std.proofs.lemmas.Slice.Zip.{zip_turn}
 use Rattle.std.specs.Iterator.Adapters.{zip_first, zip_second}
 use Rattle.std.specs.Slice.Iter.{iter_rest}
+use Rattle.class_model.specs.Laws.Lists.{at_index}
 use Rattle.class_model.specs.declared.header.Header.{Header}
 use Rattle.class_tree.specs.Answers.{Answers}
 use Rattle.class_tree.specs.Headers.{headers_of}
+use Rattle.code_bytes.specs.Codes.{IsReadMethod}
 use Rattle.member_link.specs.Uses.{methods_use_checks}
 use Rattle.member_link.proofs.MethodUses.{MethodsBelow, MethodAt, no_method_below, method_below, method_refused}
 use Rattle.member_link.proofs.uses.check_class_uses.Goals as goal
@@ -38,3 +41,10 @@ returns-in_err-check_method c =
     rw (p.1, p.2) (subst (λ (header : Header). Answers {X = Unit {0}} (methods_use_checks headers c.args.class.now header c.args.class.now.methods header.methods) (Err c.in_err-check_method.field-0.0)) c.requires.header
     (method_refused headers c.args.class.now c.args.header.now c.loop-method.resolver (length c.loop-method.yielded) c.in-Some.method.now c.in-Some.member.now c.loop-method.invariant (method_at (goal.at.returns-in_err-check_method c).In-Some)
     _ c.in_err-check_method.ensures.told))
+
+pub check_method-requires-clause-method : goal.check_method-requires-clause-method
+check_method-requires-clause-method c =
+    let class = c.args.class.now in
+    let method = c.in-Some.method.now in
+    let at = method_at (goal.at.check_method-requires-clause-method c).In-Some in
+    at_index (IsReadMethod class.pool) class.methods (length c.loop-method.yielded) method c.requires.methods (slice_get_read class.methods _ _ method refl at.method_within at.method_is)

@@ -1,28 +1,23 @@
-use Rattle.std.proofs.Common.{List, [], Option, map, option_map, sym, ap, subst, ◌∙◌}
-use Rattle.std.specs.List.{filter}
+use Rattle.std.proofs.Common.{[], Option, option_map, sym, ap, subst, ◌∙◌}
 use Rattle.std.proofs.lemmas.Option.{same_Some}
+use Rattle.std.proofs.lemmas.Result.{IfOk-weaker}
 use Rattle.flow_code.specs.FlatCode.{point_at}
 use Rattle.flow_code.specs.declared.point.Point.{Point}
-use Rattle.plan_flow.specs.Effect.{AreEdges}
-use Rattle.plan_flow.specs.Inner.EdgeViews.{row_edge}
 use Rattle.plan_flow.specs.Must.{IsMustIn}
-use Rattle.plan_flow.specs.PlanRows.{PlanRow, RowEdge}
 use Rattle.plan_flow.specs.PlanScope.{scope_of}
-use Rattle.plan_flow.specs.PlanSlots.{is_open}
-use Rattle.plan_flow.specs.PlanTable.{edges_of}
 use Rattle.plan_flow.proofs.AskedSites.{found_point}
 use Rattle.plan_flow.proofs.DoneEdges.{row_is}
 use Rattle.plan_flow.proofs.Narrows.{narrow_types}
 use Rattle.plan_flow.proofs.effects.edges_from.Goals as goal
 
-pub edges_over-requires-clause-types : goal.edges_over-requires-clause-types
-edges_over-requires-clause-types c = narrow_types c.args.flat.now c.args.at c.args.types.now c.requires.narrow c.requires.types
-
 pub row_at-requires-clause-types : goal.row_at-requires-clause-types
 row_at-requires-clause-types c = narrow_types c.args.flat.now c.args.at c.args.types.now c.requires.narrow c.requires.types
 
-pub edges_over-requires-clause-done : goal.edges_over-requires-clause-done
-edges_over-requires-clause-done c =
+pub edges_by-edges-requires-clause-types : goal.edges_by-edges-requires-clause-types
+edges_by-edges-requires-clause-types c = narrow_types c.args.flat.now c.args.at c.args.types.now c.requires.narrow c.requires.types
+
+pub edges_by-edges-requires-clause-done : goal.edges_by-edges-requires-clause-done
+edges_by-edges-requires-clause-done c =
     let links = c.a_tree_has_links.ensures in
     let s = scope_of c.args.tree.now links.0 c.args.flat.now in
     let types = c.args.types.now in
@@ -36,14 +31,12 @@ edges_over-requires-clause-done c =
     }
 
 pub returns : goal.returns
-returns c = λ links point are is.
+returns c =
+    IfOk-weaker c.edges_by-edges.result _ _
+    (λ edges each links point are is.
     let s = scope_of c.args.tree.now links c.args.flat.now in
     let types = c.args.types.now in
-    let state = c.args.state.now in
     let same_types = same_Some point.typed types (sym (ap (option_map (λ (p : Point). p.typed)) is) ∙ c.requires.types) in
     let same_instr = same_Some point.instr c.args.instr.now (sym (ap (option_map (λ (p : Point). p.instr)) is) ∙ c.requires.instr) in
-    let row_of = row_is s c.args.at point types c.in_ok-row.row c.args.instr.now (c.in_ok-row.ensures links are) same_types same_instr in
-    let opened = c.in_ok-taken.ensures types point is same_instr in
-    subst (λ (list : List RowEdge). AreEdges s point c.args.at state list c.in_ok-edges.edges)
-    (ap (map row_edge) c.as_slice.ensures.value ∙ opened.same ∙ ap (λ (r : PlanRow). filter (λ (edge : RowEdge). is_open state edge.guard) (edges_of c.args.at point r)) row_of.same_row)
-    (c.in_ok-edges.ensures links point row_of)
+    each links point is (row_is s c.args.at point types c.in_ok-row.row c.args.instr.now (c.in_ok-row.ensures links are) same_types same_instr))
+    c.edges_by-edges.ensures

@@ -27,6 +27,6 @@ invariant_of-result c =
       stands = c.requires.stands;
       header_is = c.requires.header;
       body_is = c.in_ok-body.ensures;
-      calls_are = c.in_ok-calls.ensures;
+      calls_are = c.in-Ok.ensures;
       fit = instructions_fit s part.max_locals (code_has (HasOperands class.pool class.major) (λ (part : CodePart). HaveOperands class.pool class.major part.max_locals (decoded part.code)) (λ name part h. h) c.args.method.now.attrs part c.requires.operands found);
     }

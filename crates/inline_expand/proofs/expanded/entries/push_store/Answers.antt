@@ -5,8 +5,8 @@ use Rattle.expanded_code.specs.Expanded.{Argument, frame_stored}
 use Rattle.inline_expand.proofs.expanded.entries.push_store.Goals as goal
 use Rattle.inline_expand.specs.Inner.Layouts.{argument_from}
 
-pub returns-clause-behind : goal.returns-clause-behind
-returns-clause-behind c =
+pub returns-in-Ok-clause-behind : goal.returns-in-Ok-clause-behind
+returns-in-Ok-clause-behind c =
     let frame = c.args.frame in
     let argument = argument_from c.args.unit c.args.parameter.now in
     IfOk-weaker c.stored.result

@@ -47,17 +47,17 @@ returns-clause-setting c = λ t at is.
     let number : (λ (within : ℕ). placed_by c.as_slice.result.now (c.args.start + c.points_before.result) (number_at s within)) ≡ number_from (Some s) (c.args.start + points_before s) (instructions s) (callee_in found).inner =
     fun_ext (its-number found c.args.start c.requires.body c.requires.layout c.requires.points c.as_slice.result.now (c.args.start + c.points_before.result) c.as_slice.ensures.value base) in
     let count : c.len-count.result ≡ length (arguments s c.args.unit) = omega (arith, c.len-count.ensures, many-arguments found c.args.start c.requires.body c.requires.layout c.requires.points c.args.unit) in
-    let stack : c.in_ok-under.field-0 ≡ under (length (arguments s c.args.unit)) entry.stack =
-    c.in_ok-under.ensures ∙ ap (λ (n : ℕ). under n c.as_slice-stack.result.now) count ∙ ap (under (length (arguments s c.args.unit))) c.as_slice-stack.ensures in
-    let this : c.in_ok-lowest_of.field-0 ≡ lowest_of (length (arguments s c.args.unit)) entry.stack =
-    c.in_ok-lowest_of.ensures ∙ ap (λ (n : ℕ). lowest_of n c.as_slice-stack.result.now) count ∙ ap (lowest_of (length (arguments s c.args.unit))) c.as_slice-stack.ensures in
-    let handlers = c.in_ok-copy-2.ensures ∙ is.handlers in
+    let below : c.in-Ok-frame_under.below ≡ record entry { stack = under (length (arguments s c.args.unit)) entry.stack } =
+    c.in-Ok-frame_under.ensures ∙ ap (λ (n : ℕ). record entry { stack = under n entry.stack }) count in
+    let this : c.in-Ok.this ≡ lowest_of (length (arguments s c.args.unit)) entry.stack =
+    c.in-Ok.ensures ∙ ap (λ (n : ℕ). lowest_of n c.as_slice-stack.result.now) count ∙ ap (lowest_of (length (arguments s c.args.unit))) c.as_slice-stack.ensures in
+    let handlers = c.in_ok-handlers.ensures ∙ is.handlers in
     let behind = ap (λ (n : ℕ). c.args.start + n) (exact-points found c.args.start c.requires.body c.requires.layout c.requires.points) in
     λ i. record {
       coded = (callee_in found).coded;
       number = number i;
       unit = c.args.unit;
-      below = record { locals = c.in_ok-copy.ensures i; stack = stack i };
+      below = below i;
       this = this i;
       handlers = λ within. handlers i;
       behind = Some (behind i);

@@ -19,10 +19,10 @@ use Rattle.inline_expand.specs.declared.expansions.Step.{Step}
 pub push_callee-returns : goal.push_callee-returns
 push_callee-returns t c =
     let found = c.args.found.now in
-    on_ok_weaker c.push_method.result (λ pushed standing at is.
-    callee-done found c.args.start c.args.unit c.in_ok-place.place standing at c.args.entry c.args.points.now.items c.push_entry.new.points.items c.push_method.new.points.items
-    c.in_ok-place.ensures.stands (c.in_ok-place.ensures.setting standing at is)
-    (c.in_ok-push_entry.ensures standing at found.body.now.host is c.requires.enter.layout.shape) pushed) c.push_method.ensures
+    on_ok_weaker c.push_method-pushed.result (λ pushed standing at is.
+    callee-done found c.args.start c.args.unit c.in-Ok.place standing at c.args.entry c.args.points.now.items c.push_entry.new.points.items c.push_method-pushed.new.points.items
+    c.in-Ok.ensures.stands (c.in-Ok.ensures.setting standing at is)
+    (c.in-Ok-push_entry.ensures standing at found.body.now.host is c.requires.enter.layout.shape) pushed) c.push_method-pushed.ensures
 
 pub push_method-find-requires : goal.push_method-find-requires
 push_method-find-requires t c = length-layouts c.args.bodies.now c.args.layouts.now c.requires.ready.laid

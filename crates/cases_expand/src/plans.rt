@@ -1,0 +1,130 @@
+//! What is answered to questions about least plans of flat code that a text says.
+use crate::points::{Parts, host_of, parts_in, tree_of};
+use crate::state_text::push_state;
+use cases_notation::Setting;
+use cases_rewrite::{PlanCode, without_sites};
+use class_tree::Tree;
+use plan_flow::{Edge, EdgeKind, Plan};
+use std::alloc::Global;
+use virtual_state::{SiteSet, VState, below, differing};
+
+// A hierarchy, and the flat code of a method of one of its classes.
+#[derive(Drop)]
+struct Method {
+    tree: Tree,
+    code: PlanCode,
+}
+
+/// Whether the least plan of flat code saves something, and what it has of each point: `unreached`, or the state before it, `+0` for each
+/// site that is made there, and the edges, `>` or, to a handler, `!`, the target, and `+0` for each site that is made on it. What is not as
+/// the definition of valid plans wants is behind `?`.
+pub(crate) fn plan_answer(alloc: Global, setting: &Setting<'_>, about: &str) -> Option<String> {
+    let method = method_in(alloc, setting, about)?;
+    let plan = method.code.least_plan(alloc, &method.tree).ok()?;
+    plan_text(alloc, &method, &plan)
+}
+
+fn method_in(alloc: Global, setting: &Setting<'_>, about: &str) -> Option<Method> {
+    let tree = tree_of(alloc, setting, about)?;
+    let host = host_of(alloc, setting, &tree)?;
+    let Parts {
+        locals,
+        sites,
+        points,
+    } = parts_in(alloc, &tree, host, about)?;
+    let code = PlanCode::of(host, locals, points, sites)?;
+    Some(Method { tree, code })
+}
+
+fn plan_text(alloc: Global, method: &Method, plan: &Plan) -> Option<String> {
+    let gains = method.code.gain(plan);
+    let mut out = format!(in alloc; "{gains}").ok()?;
+    for at in 0..method.code.len() {
+        out.push_str(" ; ").ok()?;
+        push_point(alloc, &mut out, method, plan, at)?;
+    }
+    Some(out)
+}
+
+fn push_point(
+    alloc: Global,
+    out: &mut String,
+    method: &Method,
+    plan: &Plan,
+    at: usize,
+) -> Option<()> {
+    let (Some(state), Some(made)) = (plan.state(at), plan.made_at(at)) else {
+        return out.push_str("unreached").ok();
+    };
+    push_state(out, state)?;
+    if !made.is_empty() {
+        push_made(out, " ", made)?;
+    }
+    let asked = method.code.must(alloc, &method.tree, at, state).ok()?;
+    if asked.as_slice() != made.as_slice() {
+        push_made(out, " ?", &asked)?;
+    }
+    let left = without_sites(alloc, state, made).ok()?;
+    push_edges(alloc, out, method, plan, at, &left)
+}
+
+// Appends the edges of a point with this state, which asks that nothing more is made.
+fn push_edges(
+    alloc: Global,
+    out: &mut String,
+    method: &Method,
+    plan: &Plan,
+    at: usize,
+    left: &VState,
+) -> Option<()> {
+    let Some(edges) = method.code.effect(alloc, &method.tree, at, left).ok()? else {
+        return out.push_str(" ?asks").ok();
+    };
+    for (number, edge) in edges.as_slice().iter().enumerate() {
+        out.push_str(if number == 0 { " " } else { "" }).ok()?;
+        push_edge(alloc, out, plan, edge, plan.made_on(at, number))?;
+    }
+    match plan.made_on(at, edges.len()) {
+        Some(_) => out.push_str("?more").ok(),
+        None => Some(()),
+    }
+}
+
+// Appends an edge, and the sites that are made on it.
+fn push_edge(
+    alloc: Global,
+    out: &mut String,
+    plan: &Plan,
+    edge: &Edge,
+    made: Option<&SiteSet>,
+) -> Option<()> {
+    let mark = match edge.by {
+        EdgeKind::Handler(_) => '!',
+        EdgeKind::Next | EdgeKind::Jump(_) => '>',
+    };
+    write!(out, "{mark}{}", edge.to).ok()?;
+    let (Some(made), Some(target)) = (made, plan.state(edge.to)) else {
+        return out.push_str("?nowhere").ok();
+    };
+    push_made(out, "", made)?;
+    if leads_to(alloc, &edge.state, made, target)? {
+        Some(())
+    } else {
+        out.push_str("?below").ok()
+    }
+}
+
+// Whether a state is below another one, from which it differs by these sites.
+fn leads_to(alloc: Global, state: &VState, made: &SiteSet, target: &VState) -> Option<bool> {
+    let lost = differing(alloc, state, target).ok()?;
+    Some(below(state, target) && lost.as_slice() == made.as_slice())
+}
+
+// Appends the sites that are made, behind a text.
+fn push_made(out: &mut String, front: &str, sites: &SiteSet) -> Option<()> {
+    out.push_str(front).ok()?;
+    for site in sites.as_slice() {
+        write!(out, "+{site}").ok()?;
+    }
+    Some(())
+}

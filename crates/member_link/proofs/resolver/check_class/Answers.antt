@@ -1,0 +1,24 @@
+use Rattle.std.proofs.Common.{false, [], ◌∷◌, Some, IsTrue, sym, ap, subst, ◌∙◌}
+use Rattle.std.specs.Option.{option_copied}
+use Rattle.class_tree.specs.Answers.{Answers}
+use Rattle.member_link.specs.Declarations.{asked}
+use Rattle.member_link.specs.Inner.Resolutions.{Resolves}
+use Rattle.member_link.specs.Inner.Resolving.{resolved_scope}
+use Rattle.member_link.proofs.ToldReferences.{told_broken_class, told_settled_class}
+use Rattle.member_link.proofs.resolver.check_class.Goals as goal
+
+pub returns-in-Broken-clause-told : goal.returns-in-Broken-clause-told
+returns-in-Broken-clause-told c =
+    let class = c.args.resolver.now in
+    let is = sym c.constant.ensures ∙ ap option_copied c.in-Some-Class.is ∙ ap Some c.in-Some-Class.field-0-is in
+    let resolves = subst (Resolves class c.args.index) c.in-Broken.is c.in_ok-rule.ensures.resolved in
+    let told = subst (λ resolver. Answers (asked (resolved_scope resolver c.args.member.now).site c.in-Broken.rule (IsTrue false) ∷ []) c.ask.result) c.resolution.ensures.same c.ask.ensures in
+    told_broken_class class c.args.member.now c.args.index c.in-Some-Class.field-0-0 is c.in-Broken.rule c.ask.result resolves told
+
+pub returns-in_default-2 : goal.returns-in_default-2
+returns-in_default-2 c =
+    let is = sym c.constant.ensures ∙ ap option_copied c.in-Some-Class.is ∙ ap Some c.in-Some-Class.field-0-is in
+    record {
+      same = c.resolution.ensures.same;
+      told = told_settled_class c.args.resolver.now c.args.member.now c.args.index c.in-Some-Class.field-0-0 is c.in_ok-rule.field-0 c.in_ok-rule.ensures.resolved c.in_default-2.not-Broken;
+    }

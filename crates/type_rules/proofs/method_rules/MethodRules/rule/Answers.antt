@@ -1,7 +1,0 @@
-use Rattle.type_rules.proofs.method_rules.MethodRules.rule.Goals as goal
-
-pub returns-in-Load : goal.returns-in-Load
-returns-in-Load c = rw c.in-Load.is c.load.ensures
-
-pub returns-in-Iinc : goal.returns-in-Iinc
-returns-in-Iinc c = rw c.in-Iinc.is c.increment.ensures

@@ -1,0 +1,15 @@
+mod ProgramHeaders
+mod Folders
+mod Bases
+mod FileClasses
+mod PlacedFrames
+mod TypedCode
+mod TypedMethods
+mod KnownRows
+mod VoidResults
+mod LinkedOps
+mod SomeDimensions
+mod LinkedInstrs
+mod LinkedCode
+mod VerifiedPrograms
+mod PoolNames
