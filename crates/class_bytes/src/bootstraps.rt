@@ -143,7 +143,7 @@ fn is_argument(pool: &Pool, index: u16) -> bool
 }
 
 /// A bootstrap method: the index of its method handle, and those of its arguments.
-#[derive(Debug, Drop)]
+#[derive(Drop)]
 pub(crate) struct CutBootstrap {
     pub handle: u16,
     pub arguments: IndexList,

@@ -6,21 +6,21 @@ use class_model::{HandlerList, IndexList, ListOf};
 pub(crate) const MAGIC: u32 = 0xCAFE_BABE;
 
 /// The version of a class file.
-#[derive(Clone, Copy, Debug, PartialEq, Eq)]
+#[derive(Clone, Copy, PartialEq, Eq)]
 pub(crate) struct Version {
     pub minor: u16,
     pub major: u16,
 }
 
 /// An attribute, whose content is not looked into.
-#[derive(Clone, Copy, Debug)]
+#[derive(Clone, Copy)]
 pub(crate) struct CutAttr<'a> {
     pub name: u16,
     pub content: &'a [u8],
 }
 
 /// A field or a method.
-#[derive(Debug, Drop)]
+#[derive(Drop)]
 pub(crate) struct CutMember<'a> {
     pub flags: u16,
     pub name: u16,
@@ -29,7 +29,7 @@ pub(crate) struct CutMember<'a> {
 }
 
 /// The content of a Code attribute.
-#[derive(Debug, Drop)]
+#[derive(Drop)]
 pub(crate) struct CutPart<'a> {
     pub max_stack: u16,
     pub max_locals: u16,
@@ -39,7 +39,7 @@ pub(crate) struct CutPart<'a> {
 }
 
 /// A class file without its pool.
-#[derive(Debug, Drop)]
+#[derive(Drop)]
 pub(crate) struct CutBody<'a> {
     pub version: Version,
     pub flags: u16,

@@ -137,7 +137,7 @@ fn own_interfaces(
 const MEMBER_LEN: u64 = 8;
 
 /// What members are.
-#[derive(Clone, Copy, Debug, PartialEq, Eq)]
+#[derive(Clone, Copy, PartialEq, Eq)]
 pub(crate) enum MemberKind {
     Field,
     Method,

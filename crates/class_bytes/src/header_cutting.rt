@@ -9,7 +9,7 @@ use class_model::{ClassFault, Cursor, FileRule, IndexList, ListOf};
 use std::alloc::Global;
 
 /// A field or a method without its attributes.
-#[derive(Clone, Copy, Debug)]
+#[derive(Clone, Copy)]
 pub(crate) struct MemberHead {
     pub flags: u16,
     pub name: u16,
@@ -19,7 +19,7 @@ pub(crate) struct MemberHead {
 }
 
 /// A class file without its pool and attributes.
-#[derive(Debug, Drop)]
+#[derive(Drop)]
 pub(crate) struct CutHeader {
     pub flags: u16,
     pub this_class: u16,

@@ -10,14 +10,14 @@ use std::alloc::Global;
 use std::marker::Model;
 
 /// The shape of a text, if it is a method descriptor, and whether it is a field descriptor.
-#[derive(Clone, Copy, Debug)]
+#[derive(Clone, Copy)]
 pub(crate) struct KnownShape {
     pub(crate) shape: Option<MethodShape>,
     pub(crate) is_field_type: bool,
 }
 
 /// The shapes of the texts of a pool. Contracts see the pool.
-#[derive(Debug, Drop)]
+#[derive(Drop)]
 pub(crate) struct KnownShapes<'a> {
     pool: &'a Pool,
     // by index; empty where there was no memory

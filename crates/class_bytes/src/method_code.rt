@@ -4,7 +4,7 @@ use crate::home::Home;
 use class_model::PlacedList;
 
 /// The code of a method: its class, the method, the parts of its Code attribute, and the instructions.
-#[derive(Clone, Copy, Debug)]
+#[derive(Clone, Copy)]
 pub(crate) struct MethodCode<'a> {
     pub home: &'a Home<'a>,
     pub method: &'a CutMember<'a>,

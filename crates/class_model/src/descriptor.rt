@@ -15,7 +15,7 @@ use crate::text::{Text, TextFault};
 use std::alloc::{AllocError, AllocFailed, Global};
 
 /// The kinds of values that instructions tell apart (JVM Specification SE 8, 2.11.1).
-#[derive(Clone, Copy, Debug, PartialEq, Eq)]
+#[derive(Clone, Copy, PartialEq, Eq, Debug)]
 pub enum Kind {
     Int,
     Long,
@@ -37,7 +37,7 @@ impl Kind {
 }
 
 /// A field type (JVM Specification SE 8, 4.3.2).
-#[derive(Debug, Drop)]
+#[derive(Debug)]
 pub enum FieldType {
     Byte,
     Char,
@@ -49,6 +49,23 @@ pub enum FieldType {
     Double,
     /// A class by its name, or an array by its descriptor.
     Named(Text),
+}
+
+// Written out: a derived drop would be spelled out, field by field, in each function that drops one, and be proved there.
+impl Drop for FieldType {
+    fn drop(self) {
+        match self {
+            FieldType::Byte => {}
+            FieldType::Char => {}
+            FieldType::Short => {}
+            FieldType::Bool => {}
+            FieldType::Int => {}
+            FieldType::Long => {}
+            FieldType::Float => {}
+            FieldType::Double => {}
+            FieldType::Named(_) => {}
+        }
+    }
 }
 
 /// A list of field types.
@@ -74,14 +91,34 @@ impl FieldType {
 }
 
 /// A method descriptor (JVM Specification SE 8, 4.3.3). A method without a result has none.
-#[derive(Debug, Drop)]
+#[derive(Debug)]
 pub struct Descriptor {
     pub params: FieldTypeList,
     pub result: Option<FieldType>,
 }
 
+// Written out: a derived drop would be spelled out, field by field, in each function that drops one, and be proved there.
+impl Drop for Descriptor {
+    fn drop(self) {
+        let Descriptor {
+            params: _,
+            result: _,
+        } = self;
+    }
+}
+
+impl Descriptor {
+    /// The type of what it gives, if it gives a value.
+    pub fn into_result(self) -> Option<FieldType>
+        ensures { result ≡ self.result }
+    {
+        let Descriptor { params: _, result } = self;
+        result
+    }
+}
+
 /// Why a text was not parsed.
-#[derive(Clone, Copy, Debug, PartialEq, Eq)]
+#[derive(Clone, Copy, PartialEq, Eq, Debug)]
 pub enum NameFault {
     /// The text is outside the grammar.
     BadName,

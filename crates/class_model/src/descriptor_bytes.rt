@@ -46,7 +46,7 @@ pub fn dimensions(bytes: &[u8]) -> Option<usize>
 }
 
 /// What a method descriptor (JVM Specification SE 8, 4.3.3) says of a call.
-#[derive(Clone, Copy, Debug, PartialEq, Eq)]
+#[derive(Clone, Copy, PartialEq, Eq, Debug)]
 pub struct MethodShape {
     /// The local units of the parameters, `this` not counted: at most 255.
     pub units: u16,

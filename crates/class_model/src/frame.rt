@@ -8,7 +8,7 @@ use crate::text::Text;
 use std::alloc::Global;
 
 /// A verification type (JVM Specification SE 8, 4.7.4, 4.10.1.2).
-#[derive(PartialEq, Eq, Debug, Drop)]
+#[derive(PartialEq, Eq)]
 pub enum VType {
     Top,
     Int,
@@ -21,6 +21,23 @@ pub enum VType {
     Object(Text),
     /// An object made by the `new` at this offset, in bytes, and not initialised.
     Uninit(u32),
+}
+
+// Written out: a derived drop would be spelled out, field by field, in each function that drops one, and be proved there.
+impl Drop for VType {
+    fn drop(self) {
+        match self {
+            VType::Top => {}
+            VType::Int => {}
+            VType::Float => {}
+            VType::Long => {}
+            VType::Double => {}
+            VType::Null => {}
+            VType::UninitThis => {}
+            VType::Object(_) => {}
+            VType::Uninit(_) => {}
+        }
+    }
 }
 
 impl VType {
@@ -58,10 +75,20 @@ pub type VTypeList = ListOf<VType>;
 
 /// A frame (JVM Specification SE 8, 4.10.1.4): the types of the locals by unit, where a long or double is followed by `Top`,
 /// and of the stack's entries, the lowest first.
-#[derive(PartialEq, Eq, Debug, Drop)]
+#[derive(PartialEq, Eq)]
 pub struct Frame {
     pub locals: LocalTypeList,
     pub stack: VTypeList,
+}
+
+// Written out: a derived drop would be spelled out, field by field, in each function that drops one, and be proved there.
+impl Drop for Frame {
+    fn drop(self) {
+        let Frame {
+            locals: _,
+            stack: _,
+        } = self;
+    }
 }
 
 impl Frame {
@@ -70,6 +97,15 @@ impl Frame {
         ensures { IsTrue result ↔ (self.now ≡ other.now) }
     {
         self == other
+    }
+
+    /// The types of the locals, and of the stack's entries.
+    pub fn into_parts(self) -> (LocalTypeList, VTypeList)
+        ensures locals { result.0 ≡ self.locals }
+        ensures stack { result.1 ≡ self.stack }
+    {
+        let Frame { locals, stack } = self;
+        (locals, stack)
     }
 
     /// An equal frame. It shares the types of the locals.
@@ -84,10 +120,16 @@ impl Frame {
 }
 
 /// A frame that is stated (JVM Specification SE 8, 4.7.4) for an offset of a code, in bytes.
-#[derive(Debug, Drop)]
 pub struct PlacedFrame {
     pub at: u32,
     pub frame: Frame,
+}
+
+// Written out: a derived drop would be spelled out, field by field, in each function that drops one, and be proved there.
+impl Drop for PlacedFrame {
+    fn drop(self) {
+        let PlacedFrame { at: _, frame: _ } = self;
+    }
 }
 
 /// A list of placed frames.

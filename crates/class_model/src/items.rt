@@ -12,7 +12,7 @@ use std::marker::Model;
 
 /// A place in the bytes of a class file, and the bytes from there on. Its readers move it behind what they
 /// read, and leave it where it is with an error; their only error is `Malformed` with `Short` at its place.
-#[derive(Debug, Drop)]
+#[derive(Drop)]
 pub struct Cursor<'a> {
     rest: &'a [u8],
     at: u64,

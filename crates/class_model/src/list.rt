@@ -9,9 +9,16 @@ use std::alloc::Global;
 use std::marker::Model;
 
 /// A growing list that keeps its allocator. Contracts see the list of its items.
-#[derive(Debug, Drop)]
+#[derive(Debug)]
 pub struct ListOf<T> {
     items: Vec<T>,
+}
+
+// Written out: a derived drop would be spelled out, field by field, in each function that drops one, and be proved there.
+impl<T: Drop> Drop for ListOf<T> {
+    fn drop(self) {
+        let ListOf { items: _ } = self;
+    }
 }
 
 /// A list of bytes.
@@ -99,6 +106,7 @@ impl<T> ListOf<T> {
     pub fn into_vec(self) -> Vec<T>
         ensures { result.items ≡ self }
     {
-        self.items
+        let ListOf { items } = self;
+        items
     }
 }

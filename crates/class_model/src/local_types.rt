@@ -17,12 +17,22 @@ use std::marker::Model;
 /// The verification types of a frame's local units (JVM Specification SE 8, 4.10.1.2), where a long or double is followed
 /// by `Top`. Contracts see the list. A copy shares the types, a change copies a part of them, and units that are `Top` to
 /// the end take no space.
-#[derive(Debug, Drop)]
 pub struct LocalTypeList {
     // Parts of so many types each, or fewer; a unit that none of them has is `Top`.
     parts: Vec<LocalPart>,
     len: usize,
     top: VType,
+}
+
+// Written out: a derived drop would be spelled out, field by field, in each function that drops one, and be proved there.
+impl Drop for LocalTypeList {
+    fn drop(self) {
+        let LocalTypeList {
+            parts: _,
+            len: _,
+            top: _,
+        } = self;
+    }
 }
 
 // How many units a part has at most.

@@ -5,7 +5,7 @@ ghost use Rattle.class_model.specs.Names.{IsClassName, IsNameByte, IsUnqualified
 use crate::text::Text;
 
 /// The text is outside the grammar of names.
-#[derive(Clone, Copy, Debug, PartialEq, Eq)]
+#[derive(Clone, Copy, PartialEq, Eq)]
 pub struct BadName;
 
 /// The name of instance initialisers (JVM Specification SE 8, 2.9).

@@ -11,7 +11,7 @@ use std::marker::Model;
 
 /// A constant (JVM Specification SE 8, 4.4), a variant for each tag. A `u16` is an index of the pool,
 /// but for the first of `InvokeDynamic`, which is one of the bootstrap methods.
-#[derive(PartialEq, Eq, Hash, Debug, Drop)]
+#[derive(PartialEq, Eq, Hash, Debug)]
 pub enum Const {
     Utf8(Text),
     Integer(i32),
@@ -33,6 +33,28 @@ pub enum Const {
     MethodType(u16),
     /// A bootstrap method, and a name with a descriptor.
     InvokeDynamic(u16, u16),
+}
+
+// Written out: a derived drop would be spelled out, field by field, in each function that drops one, and be proved there.
+impl Drop for Const {
+    fn drop(self) {
+        match self {
+            Const::Utf8(_) => {}
+            Const::Integer(_) => {}
+            Const::Float(_) => {}
+            Const::Long(_) => {}
+            Const::Double(_) => {}
+            Const::Class(_) => {}
+            Const::String(_) => {}
+            Const::Fieldref(_, _) => {}
+            Const::Methodref(_, _) => {}
+            Const::InterfaceMethodref(_, _) => {}
+            Const::NameAndType(_, _) => {}
+            Const::MethodHandle(_, _) => {}
+            Const::MethodType(_) => {}
+            Const::InvokeDynamic(_, _) => {}
+        }
+    }
 }
 
 impl Const {
@@ -79,10 +101,16 @@ impl Const {
 
 /// A constant pool (JVM Specification SE 8, 4.1 and 4.4). Contracts see the constants by index; index 0
 /// has none, nor has the second index of a long or double.
-#[derive(Debug, Drop)]
 pub struct Pool {
     // from index 1 on
     entries: Vec<Option<Const>>,
+}
+
+// Written out: a derived drop would be spelled out, field by field, in each function that drops one, and be proved there.
+impl Drop for Pool {
+    fn drop(self) {
+        let Pool { entries: _ } = self;
+    }
 }
 
 impl Model for Pool {

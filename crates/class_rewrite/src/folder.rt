@@ -15,7 +15,7 @@ use std::alloc::Global;
 use type_rules::TypedFolder;
 
 /// What is written of a folder.
-#[derive(Debug, Drop)]
+#[derive(Drop)]
 pub struct Optimised {
     /// A class for each class of the folder, in the same order.
     pub classes: ClassFileList,

@@ -7,7 +7,7 @@ use class_model::{ListOf, MethodAt};
 use flow_code::Reason;
 
 /// What became of a method, and why. The numbers are those of its written code; of a method that is kept they are 0.
-#[derive(Clone, Copy, Debug)]
+#[derive(Clone, Copy)]
 pub struct Line {
     pub at: MethodAt,
     pub reason: Reason,

@@ -141,7 +141,7 @@ pub fn verification_type(field_type: &FieldType) -> Result<VType, NoMemory>
 fn push_units(locals: &mut LocalTypeList, entry: VType) -> Result<(), NoMemory>
     ensures { OnOk result (locals.new ≡ locals.old ++ units entry) }
 {
-    let is_wide = matches!(entry, VType::Long | VType::Double);
+    let is_wide = matches!(&entry, VType::Long | VType::Double);
     locals.push(entry)?;
     if is_wide {
         locals.push(VType::Top)?;

@@ -7,7 +7,7 @@ use std::marker::Model;
 
 /// A handler of an item: the number of the item that control goes to, and the index of the caught class in the constant pool,
 /// or 0.
-#[derive(Clone, Copy, Debug, PartialEq, Eq)]
+#[derive(Clone, Copy, PartialEq, Eq)]
 pub struct Catch {
     pub to: u32,
     pub catch_type: u16,
@@ -18,7 +18,7 @@ pub type CatchList = ListOf<Catch>;
 
 /// An instruction that was emitted, whose jump targets are numbers of items; whether it is the jump inside a test against
 /// null, an `ifnonnull` to three items on, over an `aconst_null` and an `athrow`; and the handlers of what it throws.
-#[derive(Debug, Drop)]
+#[derive(Drop)]
 pub struct EmitItem {
     pub instr: Instr,
     pub near: bool,
@@ -29,7 +29,7 @@ pub struct EmitItem {
 pub type EmitItemList = ListOf<EmitItem>;
 
 /// Code that was emitted: at least one item. Contracts see the list of its items.
-#[derive(Debug, Drop)]
+#[derive(Drop)]
 pub struct Emitted {
     items: EmitItemList,
 }

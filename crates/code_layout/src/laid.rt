@@ -5,7 +5,7 @@ use class_model::{ByteList, HandlerList, ListOf};
 pub type OffsetList = ListOf<u32>;
 
 /// The bytes of a code, its exception table, and the offset in bytes at which each item starts.
-#[derive(Debug, Drop)]
+#[derive(Drop)]
 pub struct Laid {
     pub code: ByteList,
     pub handlers: HandlerList,

@@ -3,14 +3,14 @@ use class_model::{Header, NoMemory, Text};
 use std::alloc::Global;
 
 /// The names of a library's classes, and of the classes that each is directly below.
-#[derive(Debug, Drop)]
+#[derive(Drop)]
 pub struct Outlines {
     pub(crate) classes: Vec<Text>,
     pub(crate) supers: Vec<SuperName>,
 }
 
 /// A class, and one that it names as its superclass or as an interface.
-#[derive(Debug, Drop)]
+#[derive(Drop)]
 pub(crate) struct SuperName {
     pub class: Text,
     pub above: Text,

@@ -1,7 +1,7 @@
 //! Where a file stands.
 
 /// Of which folder of a command a file is: the input or the library.
-#[derive(Clone, Copy, Debug, PartialEq, Eq)]
+#[derive(Clone, Copy, PartialEq, Eq)]
 pub enum Side {
     Input,
     Library,

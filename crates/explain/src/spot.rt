@@ -4,7 +4,7 @@ use crate::pool_spot::utf8_at;
 use class_model::Cursor;
 
 /// A part of a class file.
-#[derive(Clone, Copy, Debug)]
+#[derive(Clone, Copy)]
 pub(crate) enum Part {
     /// The magic number, or the version, and the like.
     Head(&'static str),
@@ -23,7 +23,7 @@ pub(crate) enum Part {
 }
 
 /// A part of a field or method.
-#[derive(Clone, Copy, Debug)]
+#[derive(Clone, Copy)]
 pub(crate) enum Inner {
     /// The access flags, the name and the descriptor.
     Head,

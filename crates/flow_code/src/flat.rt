@@ -10,7 +10,7 @@ use std::marker::Model;
 
 /// The flat code of a method, the host: its instructions and those of the methods that stand in place of their calls, as
 /// points that are counted from 0. Targets, handlers and sites name points, and locals are below `locals`.
-#[derive(Debug, Drop)]
+#[derive(Drop)]
 pub struct Flat {
     host: MethodAt,
     locals: u16,

@@ -33,7 +33,7 @@ impl FlatHandler {
 
 /// The handlers of what a point throws, in their order. Contracts see the list. A copy shares the handlers, since all points
 /// of a range have the same.
-#[derive(Debug, Drop)]
+#[derive(Drop)]
 pub struct FlatHandlerList {
     alloc: Global,
     handlers: Option<Rc<Vec<FlatHandler>>>,

@@ -14,7 +14,7 @@ pub enum FlatInstr {
 
 /// A point of flat code: its instruction, the types of the locals and of the stack before it, and the handlers of what it
 /// throws, in their order.
-#[derive(Debug, Drop)]
+#[derive(Drop)]
 pub struct Point {
     pub instr: FlatInstr,
     pub typed: Frame,

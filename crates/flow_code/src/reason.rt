@@ -3,7 +3,7 @@ use class_model::NoMemory;
 use std::alloc::{AllocError, AllocFailed};
 
 /// What becomes of a method of a folder's class, and why: the first of these that holds of it.
-#[derive(Clone, Copy, Debug, PartialEq, Eq)]
+#[derive(Clone, Copy, PartialEq, Eq, Debug)]
 pub enum Reason {
     /// It has no code, or is named `<init>` or `<clinit>`.
     Host,
@@ -26,7 +26,7 @@ pub enum Reason {
 }
 
 /// Why a call on a method gives nothing.
-#[derive(Clone, Copy, Debug, PartialEq, Eq)]
+#[derive(Clone, Copy, PartialEq, Eq)]
 pub enum KeptFault {
     /// The method is kept, for this reason.
     Kept(Reason),

@@ -6,7 +6,7 @@ use class_model::NoMemory;
 use std::alloc::{AllocError, AllocFailed};
 
 /// The kinds of call that reach outside.
-#[derive(Clone, Copy, Debug, PartialEq, Eq)]
+#[derive(Clone, Copy, PartialEq, Eq, Debug)]
 pub enum HostCall {
     List,
     Read,
@@ -15,7 +15,7 @@ pub enum HostCall {
 }
 
 /// Why a host refused a call.
-#[derive(Clone, Copy, Debug, PartialEq, Eq)]
+#[derive(Clone, Copy, PartialEq, Eq, Debug)]
 pub enum HostFail {
     /// The outside failed.
     Failed,

@@ -7,7 +7,7 @@ ghost use Rattle.host_tree.specs.Faults.{count_of};
 use crate::call::HostCall;
 
 /// How often calls of each kind have failed. A count stands still at its last number.
-#[derive(Clone, Copy, Debug, PartialEq, Eq)]
+#[derive(Clone, Copy, PartialEq, Eq)]
 pub struct Faults {
     list: u64,
     read: u64,

@@ -8,7 +8,7 @@ use std::time::Instant;
 const PATIENCE: u64 = 1;
 
 /// What a command is at, and how much of it is done.
-#[derive(Clone, Copy, Debug, PartialEq, Eq, Drop)]
+#[derive(Clone, Copy, PartialEq, Eq, Drop)]
 pub enum Progress {
     /// So many files of the input were read.
     Input { read: u64, of: u64 },

@@ -25,7 +25,7 @@ use std::mem;
 use type_rules::TypedFolder;
 
 /// What becomes of an instruction.
-#[derive(Debug, Drop)]
+#[derive(Drop)]
 pub(crate) enum Step {
     /// It stays as it is.
     Stays,

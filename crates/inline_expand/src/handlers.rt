@@ -12,7 +12,7 @@ use flow_code::{FlatHandler, FlatHandlerList};
 use std::alloc::Global;
 
 /// The handlers around each instruction from one offset to before another, in bytes.
-#[derive(Debug, Drop)]
+#[derive(Drop)]
 pub(crate) struct Around {
     pub(crate) from: u32,
     pub(crate) until: u32,

@@ -13,7 +13,7 @@ use class_model::{Frame, INIT, Text, VType};
 use class_tree::OBJECT;
 
 /// An uninitialised object.
-#[derive(Clone, Copy, Debug, Drop)]
+#[derive(Clone, Copy, Drop)]
 pub(crate) enum Object {
     /// The one that the `new` at an offset made.
     New(u32),

@@ -7,7 +7,7 @@ use std::alloc::Global;
 use std::marker::Model;
 
 /// What is left to do of a method.
-#[derive(Clone, Copy, Debug, Drop)]
+#[derive(Clone, Copy, Drop)]
 pub(crate) enum Visit {
     /// It is to be looked at.
     Enter(MethodAt),

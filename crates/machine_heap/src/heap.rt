@@ -24,7 +24,7 @@ pub struct Heap {
 }
 
 /// What becomes of a value that is written to the heap.
-#[derive(Clone, Copy, Debug, PartialEq, Eq)]
+#[derive(Clone, Copy, PartialEq, Eq, Debug)]
 pub enum Put {
     /// It is written.
     Done,

@@ -19,7 +19,7 @@ use std::alloc::Global;
 
 /// What a method is called with: the locals with which its frame begins, and its first argument, which of an instance method is
 /// the receiver.
-#[derive(Debug, Drop)]
+#[derive(Drop)]
 pub(crate) struct Arguments {
     pub(crate) locals: LocalList,
     pub(crate) first: Option<Value>,

@@ -19,7 +19,7 @@ use machine_step::{
 use machine_values::{MethodFrame, Value, ValueList};
 
 /// What an operation does that needs its frame alone, or what else there is to do.
-#[derive(Clone, Copy, Debug, PartialEq, Eq)]
+#[derive(Clone, Copy, PartialEq, Eq)]
 pub(crate) enum Moved {
     /// It is done.
     Went,

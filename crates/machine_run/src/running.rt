@@ -92,7 +92,7 @@ fn take_turns(
 }
 
 // What turns that follow each other come to.
-#[derive(Clone, Copy, Debug, PartialEq, Eq)]
+#[derive(Clone, Copy, PartialEq, Eq)]
 pub(crate) struct Turned {
     // how many there were
     count: u64,

@@ -36,7 +36,7 @@ use machine_values::{MethodFrame, RunFrame, RunFrameList, Value};
 use std::alloc::Global;
 
 // What an operation of the top frame has done, or leaves to do.
-#[derive(Debug, Drop)]
+#[derive(Drop)]
 pub(crate) enum Operated {
     // It is done.
     Went,
@@ -78,7 +78,7 @@ pub fn step(alloc: Global, tree: &Tree, world: &mut World) -> Result<Outcome, No
 }
 
 // What steps that follow each other come to.
-#[derive(Clone, Copy, Debug, PartialEq, Eq)]
+#[derive(Clone, Copy, PartialEq, Eq)]
 pub(crate) struct Stepped {
     // how many there were
     pub(crate) count: u64,
@@ -170,7 +170,7 @@ fn step_state(
 }
 
 // What is on top of the frames.
-#[derive(Clone, Copy, Debug, PartialEq, Eq)]
+#[derive(Clone, Copy, PartialEq, Eq)]
 pub(crate) enum Top {
     Nothing,
     Library,
@@ -327,7 +327,7 @@ fn finish(
 }
 
 // What operations of one frame that follow each other have done.
-#[derive(Debug, Drop)]
+#[derive(Drop)]
 pub(crate) struct Operations {
     // how many there were
     count: u64,

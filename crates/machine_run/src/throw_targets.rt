@@ -17,14 +17,14 @@ use std::alloc::Global;
 
 /// The frame in which a thrown object lands, which stands on top once the methods above it are ended: by how many frames are left
 /// with it, and what it is.
-#[derive(Clone, Copy, Debug, PartialEq, Eq)]
+#[derive(Clone, Copy, PartialEq, Eq)]
 pub(crate) struct ThrowTarget {
     pub(crate) left: usize,
     pub(crate) kind: TargetKind,
 }
 
 /// What a thrown object lands in.
-#[derive(Clone, Copy, Debug, PartialEq, Eq)]
+#[derive(Clone, Copy, PartialEq, Eq)]
 pub(crate) enum TargetKind {
     /// A method, which goes on at the point where a handler begins.
     Handler(u32),
@@ -34,7 +34,7 @@ pub(crate) enum TargetKind {
 }
 
 /// What a thrown object comes to in one frame.
-#[derive(Clone, Copy, Debug, PartialEq, Eq)]
+#[derive(Clone, Copy, PartialEq, Eq)]
 pub(crate) enum Passing {
     Lands(TargetKind),
     /// The frame below is looked at.

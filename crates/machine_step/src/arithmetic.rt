@@ -170,7 +170,7 @@ fn long_unsigned_shr(number: i64, by: i32) -> i64
 }
 
 /// What a division of ints or longs comes to.
-#[derive(Clone, Copy, Debug, PartialEq, Eq)]
+#[derive(Clone, Copy, PartialEq, Eq)]
 pub enum Divided {
     Gives(Value),
     /// The divisor is zero.

@@ -5,7 +5,7 @@ use machine_values::{Ref, Value};
 use member_link::Reference;
 
 /// What the library is asked. The values of a call, of a dynamic one and of floats are the operands.
-#[derive(Debug, Drop)]
+#[derive(Drop)]
 pub enum Asked {
     Call(Reference),
     Dynamic {
@@ -22,7 +22,7 @@ pub enum Asked {
 }
 
 /// What an operation comes to.
-#[derive(Debug, Drop)]
+#[derive(Drop)]
 pub enum Completed {
     /// It pushes a value or none, and control goes on behind it.
     Gives(Option<Value>),

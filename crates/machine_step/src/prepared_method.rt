@@ -4,7 +4,7 @@ use class_model::Text;
 
 /// A handler of a method's exception table: the range of offsets, in bytes, around which it stands, the point at which it begins,
 /// and the class that it catches; without one everything.
-#[derive(Debug, Drop)]
+#[derive(Drop)]
 pub struct PreparedHandler {
     pub start: u32,
     pub end: u32,
@@ -13,7 +13,7 @@ pub struct PreparedHandler {
 }
 
 /// Which monitor a method enters as it is called.
-#[derive(Clone, Copy, Debug, PartialEq, Eq)]
+#[derive(Clone, Copy, PartialEq, Eq)]
 pub enum Locks {
     None,
     Receiver,
@@ -21,7 +21,7 @@ pub enum Locks {
 }
 
 /// What the flags and the name of a method say.
-#[derive(Clone, Copy, Debug, PartialEq, Eq)]
+#[derive(Clone, Copy, PartialEq, Eq)]
 pub struct MethodTraits {
     pub locks: Locks,
     /// It is a class initialiser.
@@ -31,7 +31,7 @@ pub struct MethodTraits {
 
 /// The code of a method: the operations at its points, the offset of each in bytes, the handlers in the order of the exception
 /// table, and how many local units it has.
-#[derive(Debug, Drop)]
+#[derive(Drop)]
 pub struct PreparedMethod {
     pub ops: Vec<RunOp>,
     pub offsets: Vec<u32>,

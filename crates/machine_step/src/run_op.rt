@@ -5,7 +5,7 @@ use machine_values::{Constant, Value};
 use member_link::Reference;
 
 /// A throwable that the machine raises.
-#[derive(Clone, Copy, Debug, PartialEq, Eq)]
+#[derive(Clone, Copy, PartialEq, Eq)]
 pub enum Throwable {
     NullPointer,
     Arithmetic,
@@ -21,7 +21,7 @@ pub enum Throwable {
 
 /// What an operation does, at a point of a method's code. Jumps name numbers of points. The first number of an operation of
 /// arithmetic, of the stack, of elements or of a conditional jump is its opcode.
-#[derive(Debug, Drop)]
+#[derive(Drop)]
 pub enum RunOp {
     Nop,
     /// An instruction whose constant lacks what it needs, whose opcode is none of its form, or that returns another kind than the
@@ -68,7 +68,7 @@ pub enum RunOp {
 }
 
 /// A `tableswitch`: the lowest key, the point for every other key, and a point for each key from the lowest on.
-#[derive(Debug, Drop)]
+#[derive(Drop)]
 pub struct TableOp {
     pub low: i32,
     pub other: u32,
@@ -76,14 +76,14 @@ pub struct TableOp {
 }
 
 /// A `lookupswitch`: the point for every other key, and keys with their points.
-#[derive(Debug, Drop)]
+#[derive(Drop)]
 pub struct LookupOp {
     pub other: u32,
     pub pairs: PairList,
 }
 
 /// A read or a store of a field.
-#[derive(Debug, Drop)]
+#[derive(Drop)]
 pub struct FieldOp {
     pub named: Reference,
     /// Of a store: the class whose instance initialiser (for a static field class initialiser) the code is.
@@ -93,7 +93,7 @@ pub struct FieldOp {
 }
 
 /// A field that is found.
-#[derive(Debug, Drop)]
+#[derive(Drop)]
 pub struct FieldTarget {
     /// By the class that declares it.
     pub field: Reference,
@@ -107,21 +107,21 @@ pub struct FieldTarget {
 }
 
 /// Where a field is declared: in the library, or in a class of the folder by its number, as the field of a number there.
-#[derive(Clone, Copy, Debug, PartialEq, Eq)]
+#[derive(Clone, Copy, PartialEq, Eq)]
 pub enum FieldHome {
     Library,
     Folder { class: usize, number: Option<usize> },
 }
 
 /// A class of the folder by its number, and the number of a field in its objects.
-#[derive(Clone, Copy, Debug, PartialEq, Eq)]
+#[derive(Clone, Copy, PartialEq, Eq)]
 pub struct SeenSlot {
     pub class: usize,
     pub slot: usize,
 }
 
 /// A call of a method.
-#[derive(Debug, Drop)]
+#[derive(Drop)]
 pub struct CallOp {
     pub named: Reference,
     /// Of a special call: the class at which its selection starts.
@@ -133,7 +133,7 @@ pub struct CallOp {
 }
 
 /// A method that is found.
-#[derive(Debug, Drop)]
+#[derive(Drop)]
 pub struct CallTarget {
     /// By the class that declares it.
     pub method: Reference,
@@ -150,7 +150,7 @@ pub struct CallTarget {
 }
 
 /// What a call runs.
-#[derive(Debug, Drop)]
+#[derive(Drop)]
 pub enum Callee {
     /// A method of the folder with code.
     Runs(MethodAt),
@@ -162,14 +162,14 @@ pub enum Callee {
 }
 
 /// A class of the folder by its number, and what a call on its objects runs.
-#[derive(Debug, Drop)]
+#[derive(Drop)]
 pub struct SeenCallee {
     pub class: usize,
     pub callee: Callee,
 }
 
 /// An `invokedynamic`: the class whose code has it, the number of its bootstrap method, name and descriptor.
-#[derive(Debug, Drop)]
+#[derive(Drop)]
 pub struct DynamicOp {
     pub class: Text,
     pub bootstrap: u16,
@@ -179,7 +179,7 @@ pub struct DynamicOp {
 }
 
 /// A `new`: the named class, its number where it is the folder's, and what the fields of its objects hold at first.
-#[derive(Debug, Drop)]
+#[derive(Drop)]
 pub struct NewOp {
     pub class: Text,
     pub home: Option<usize>,
@@ -187,7 +187,7 @@ pub struct NewOp {
 }
 
 /// A `checkcast` or `instanceof`: the named class or array.
-#[derive(Debug, Drop)]
+#[derive(Drop)]
 pub struct CastOp {
     pub name: Text,
     /// The last object's class, and whether it is an instance.
@@ -195,7 +195,7 @@ pub struct CastOp {
 }
 
 /// A class of the folder by its number, and the answer of a test of its objects.
-#[derive(Clone, Copy, Debug, PartialEq, Eq)]
+#[derive(Clone, Copy, PartialEq, Eq)]
 pub struct SeenAnswer {
     pub class: usize,
     pub answer: bool,

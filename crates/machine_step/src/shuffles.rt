@@ -11,7 +11,7 @@ use class_model::opcodes::{DUP, DUP_X1, DUP_X2, DUP2, DUP2_X1, DUP2_X2, POP, POP
 use machine_values::ValueList;
 
 /// How entries of the operand stack move.
-#[derive(Clone, Copy, Debug, PartialEq, Eq)]
+#[derive(Clone, Copy, PartialEq, Eq)]
 enum Move {
     /// The top goes.
     Pop,

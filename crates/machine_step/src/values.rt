@@ -43,7 +43,7 @@ pub fn blank(kind: Kind) -> Value
 }
 
 /// What is kept of an int that is put into a field or array of a type, or returned at it (this project's profile).
-#[derive(Clone, Copy, Debug, PartialEq, Eq)]
+#[derive(Clone, Copy, PartialEq, Eq)]
 pub enum Narrowing {
     /// The low eight bits, with their sign.
     Byte,

@@ -59,7 +59,7 @@ impl Model for World {
 }
 
 /// What a step comes to.
-#[derive(Clone, Copy, Debug, PartialEq, Eq)]
+#[derive(Clone, Copy, PartialEq, Eq, Debug)]
 pub enum Outcome {
     /// The run goes on.
     Running,
@@ -74,7 +74,7 @@ pub enum Outcome {
 }
 
 /// What an action of the library comes to.
-#[derive(Clone, Copy, Debug, PartialEq, Eq)]
+#[derive(Clone, Copy, PartialEq, Eq, Debug)]
 pub enum Acted {
     Done,
     /// The run ends by it.

@@ -2,7 +2,7 @@
 use class_model::{ListOf, Text, TextList};
 
 /// A value that the library gives: a reference is the number of one that it knows.
-#[derive(Clone, Copy, Debug, PartialEq, Eq)]
+#[derive(Clone, Copy, PartialEq, Eq)]
 pub enum Given {
     Int(i32),
     Long(i64),
@@ -18,7 +18,7 @@ pub enum Given {
 pub type GivenList = ListOf<Given>;
 
 /// An action of the library. References are numbers of those that it knows.
-#[derive(Debug, Drop)]
+#[derive(Drop)]
 pub enum Action {
     /// Calls a method of a class of the folder without selection, the receiver first where it is not static.
     Call {

@@ -5,14 +5,14 @@ ghost use Rattle.machine_values.specs.Counts.{all_counts, AreHeld};
 use std::marker::Model;
 
 /// How often the monitor of the known reference of a number is entered, which is more than 0.
-#[derive(Clone, Copy, Debug, PartialEq, Eq)]
+#[derive(Clone, Copy, PartialEq, Eq)]
 pub struct HeldCount {
     pub number: usize,
     pub count: u64,
 }
 
 /// A count for each number from 0 on, of which zeros take no memory. Contracts see the list of all counts.
-#[derive(Debug, Drop)]
+#[derive(Drop)]
 pub struct CountList {
     len: usize,
     held: Vec<HeldCount>,

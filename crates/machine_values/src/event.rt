@@ -5,7 +5,7 @@ use class_model::{ListOf, Text, TextList};
 
 /// What a reference shows where it appears first: its class or array type, the interfaces that an object of the library also
 /// implements, and the constant that it is.
-#[derive(Debug, Drop)]
+#[derive(Drop)]
 pub struct First {
     pub class: Text,
     pub also: TextList,
@@ -13,14 +13,14 @@ pub struct First {
 }
 
 /// A reference as the library knows it: the number of its first appearance.
-#[derive(Debug, Drop)]
+#[derive(Drop)]
 pub struct SeenRef {
     pub number: u64,
     pub first: Option<First>,
 }
 
 /// A value as the library sees it.
-#[derive(Debug, Drop)]
+#[derive(Drop)]
 pub enum Seen {
     Int(i32),
     Long(i64),
@@ -36,7 +36,7 @@ pub enum Seen {
 pub type SeenList = ListOf<Seen>;
 
 /// What an event is. The library answers the first five.
-#[derive(Debug, Drop)]
+#[derive(Drop)]
 pub enum EventKind {
     /// The call of a method that is not the folder's, the receiver first.
     Call {
@@ -83,7 +83,7 @@ pub enum EventKind {
 
 /// An event: its kind, how many objects were allocated and how many monitors entered so far, and how often the monitor of each
 /// known reference is entered, by number.
-#[derive(Debug, Drop)]
+#[derive(Drop)]
 pub struct Event {
     pub kind: EventKind,
     pub allocations: u128,
@@ -95,7 +95,7 @@ pub struct Event {
 pub type EventList = ListOf<Event>;
 
 /// How a run ends.
-#[derive(Clone, Copy, Debug, PartialEq, Eq)]
+#[derive(Clone, Copy, PartialEq, Eq)]
 pub enum End {
     Stopped,
     /// The actions are used up at the library's turn.
@@ -111,7 +111,7 @@ pub enum End {
 }
 
 /// What a run shows.
-#[derive(Debug, Drop)]
+#[derive(Drop)]
 pub struct Shown {
     pub events: EventList,
     pub end: End,

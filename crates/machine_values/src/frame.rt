@@ -7,7 +7,7 @@ use std::marker::Model;
 /// The frame of a method: the number of the instruction at which it stands, its locals and operand stack, and the reference
 /// whose monitor the method entered as a synchronized one. A frame that waits for a call or the library stands at its instruction, whose operands are
 /// taken. Contracts see the top of the stack first.
-#[derive(Debug, Drop)]
+#[derive(Drop)]
 pub struct MethodFrame {
     pub at: MethodAt,
     pub place: u32,
@@ -32,7 +32,7 @@ impl Model for MethodFrame {
 }
 
 /// A frame of a run.
-#[derive(Debug, Drop)]
+#[derive(Drop)]
 pub enum RunFrame {
     /// The library's, with the object that it is constructing.
     Library { made: Option<Ref> },
@@ -42,7 +42,7 @@ pub enum RunFrame {
 }
 
 /// The frames of a run. Contracts see the top one first.
-#[derive(Debug, Drop)]
+#[derive(Drop)]
 pub struct RunFrameList {
     pub frames: Vec<RunFrame>,
 }

@@ -5,7 +5,7 @@ use crate::slot_list::ValueList;
 use class_model::{NoMemory, Text, TextList};
 
 /// What an object is.
-#[derive(Debug, Drop)]
+#[derive(Drop)]
 pub enum Shape {
     /// An object of a class of the folder, by the number of the class.
     Folder(usize),
@@ -17,7 +17,7 @@ pub enum Shape {
 
 /// An object: the values of its fields, those of the highest class first, or of its elements; and how often its monitor is
 /// entered.
-#[derive(Debug, Drop)]
+#[derive(Drop)]
 pub struct Object {
     pub shape: Shape,
     pub values: ValueList,
@@ -26,7 +26,7 @@ pub struct Object {
 
 /// A constant that is an object: a string, a class, a method type by its descriptor, or a method handle by its kind and the
 /// class, name and descriptor of the member that it refers to.
-#[derive(PartialEq, Eq, Hash, Debug, Drop)]
+#[derive(PartialEq, Eq, Hash, Drop)]
 pub enum Constant {
     Str(Text),
     Class(Text),

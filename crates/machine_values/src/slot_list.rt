@@ -8,7 +8,7 @@ use std::alloc::Global;
 use std::marker::Model;
 
 /// A list whose items are written in place. Contracts see the list.
-#[derive(Debug, Drop)]
+#[derive(Drop)]
 pub struct SlotList<T> {
     pub items: Vec<T>,
 }

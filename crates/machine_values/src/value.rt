@@ -3,7 +3,7 @@ use class_model::ListOf;
 use std::marker::Model;
 
 /// A reference to an object of a heap, by its number there. Contracts see the number.
-#[derive(Clone, Copy, Debug, PartialEq, Eq)]
+#[derive(Clone, Copy, PartialEq, Eq, Debug)]
 pub struct Ref {
     pub number: u64,
 }
@@ -22,7 +22,7 @@ impl Model for Ref {
 pub type RefList = ListOf<Ref>;
 
 /// A value. What is narrower than int is an int (JVM Specification SE 8, 2.11.1).
-#[derive(Clone, Copy, Debug, PartialEq, Eq)]
+#[derive(Clone, Copy, PartialEq, Eq, Debug)]
 pub enum Value {
     Int(i32),
     Long(i64),

@@ -4,7 +4,7 @@ ghost use Rattle.map_frames.specs.Inner.Choosing.{kind_meant, first_passing, pas
 ghost use Rattle.map_frames.specs.Writing.{frame_kinds};
 
 /// A kind of frame, in the order in which they are tried.
-#[derive(Clone, Copy, Debug)]
+#[derive(Clone, Copy)]
 pub(crate) enum Kind {
     Same,
     SameItem,
@@ -23,7 +23,7 @@ const MAX_CHANGE: usize = 3;
 
 /// How a frame differs from the one before: the numbers of locals that are gone and that are new behind
 /// those that both begin with, and its entries on the stack.
-#[derive(Clone, Copy, Debug)]
+#[derive(Clone, Copy)]
 pub(crate) struct Change {
     pub(crate) gone: usize,
     pub(crate) more: usize,

@@ -13,7 +13,7 @@ use class_model::{
 use std::alloc::Global;
 
 /// A class and the index of its Class constant.
-#[derive(Debug, Drop)]
+#[derive(Drop)]
 pub struct NamedIndex {
     pub class: Text,
     pub index: u16,

@@ -11,7 +11,7 @@ use class_model::{Const, NoMemory, Pool, Text};
 use std::marker::Model;
 
 /// A symbolic reference to a field or method: the class or array that it is looked up in or declared in, its name and its descriptor.
-#[derive(Debug, Drop)]
+#[derive(Drop)]
 pub struct Reference {
     pub class: Text,
     pub name: Text,

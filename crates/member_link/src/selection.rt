@@ -20,7 +20,7 @@ use class_model::{ACC_ABSTRACT, ACC_INTERFACE, ACC_PRIVATE, ACC_PUBLIC, INIT, Me
 use class_tree::{OBJECT, Place, Tree, a_tree_is_a_hierarchy};
 
 /// How a method is called: by `invokevirtual`, `invokeinterface` or `invokespecial` (JVM Specification SE 8, 6.5).
-#[derive(Clone, Copy, Debug, PartialEq, Eq)]
+#[derive(Clone, Copy, PartialEq, Eq)]
 pub enum CallForm {
     Virtual,
     Interface,
@@ -29,7 +29,7 @@ pub enum CallForm {
 
 /// The method that a call runs, or why there is none: it is abstract or there is none, there are several defaults, or it is
 /// not public.
-#[derive(Clone, Copy, Debug, PartialEq, Eq)]
+#[derive(Clone, Copy, PartialEq, Eq, Debug)]
 pub enum Selected {
     Found(Found),
     Abstract,

@@ -29,7 +29,7 @@ pub(crate) struct Decoded<'a> {
 }
 
 /// Stated frames, each found by its offset in constant time. Contracts see them in their order.
-#[derive(Debug, Drop)]
+#[derive(Drop)]
 pub(crate) struct StatedFrames {
     frames: PlacedFrameList,
     index: OffsetIndex,

@@ -6,7 +6,7 @@ use class_model::ByteList;
 use host_tree::FileName;
 
 /// A file with its name.
-#[derive(Debug, Drop)]
+#[derive(Drop)]
 pub struct NamedFile {
     pub name: FileName,
     pub bytes: ByteList,

@@ -15,7 +15,7 @@ use std::alloc::Global;
 use type_rules::TypedFolder;
 
 /// The files that are written, and the line that sums them up.
-#[derive(Debug, Drop)]
+#[derive(Drop)]
 pub(crate) struct Output {
     pub files: Vec<NamedFile>,
     pub line: Vec<u8>,

@@ -41,7 +41,7 @@ pub(crate) struct Input {
 }
 
 /// Why the input was not read.
-#[derive(Debug, Drop)]
+#[derive(Drop)]
 pub(crate) enum ReadStop {
     /// A call of this kind failed.
     Fault(HostCall),
@@ -63,7 +63,7 @@ pub(crate) enum ReadStop {
 }
 
 /// A file that is refused, for what is explained of it.
-#[derive(Debug, Drop)]
+#[derive(Drop)]
 pub(crate) struct Refused {
     pub side: Side,
     pub bytes: ByteList,
@@ -424,7 +424,7 @@ fn header_of(
 {
     a_library_file_is_told_once();
     match read_header(alloc, bytes.as_slice()) {
-        Ok(header) => Ok(texts.header(alloc, header)?),
+        Ok(header) => Ok(texts.header(alloc, &header)?),
         Err(fault) => Err(stop_of(Side::Library, name, bytes, fault)),
     }
 }

@@ -15,7 +15,7 @@ use script_text::{ScriptFault, read_script};
 use std::alloc::Global;
 
 /// Why a script was not read.
-#[derive(Debug, Drop)]
+#[derive(Drop)]
 pub(crate) enum ScriptStop {
     /// The root without a name does not hold it.
     Absent { name: FileName },

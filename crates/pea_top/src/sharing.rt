@@ -1,5 +1,6 @@
 //! Texts that many headers have, kept once.
 ghost use Rattle.std.specs.Prelude.{◌≡◌, IfOk};
+ghost use Rattle.std.specs.Option.{option_copied};
 
 use class_model::{Header, ListOf, Member, MemberList, NoMemory, Text, TextList};
 use std::alloc::Global;
@@ -27,30 +28,22 @@ impl SharedTexts {
     }
 
     /// An equal header, whose texts are shared with those of the headers before.
-    pub(crate) fn header(&mut self, alloc: Global, header: Header) -> Result<Header, NoMemory>
-        ensures { IfOk result (λ shared. shared ≡ header) }
+    pub(crate) fn header(&mut self, alloc: Global, header: &Header) -> Result<Header, NoMemory>
+        ensures { IfOk result (λ shared. shared ≡ header.now) }
     {
-        let Header {
-            name,
-            flags,
-            super_name,
-            interfaces,
-            fields,
-            methods,
-        } = header;
         Ok(Header {
-            name: self.text(name)?,
-            flags,
-            super_name: self.optional(super_name)?,
-            interfaces: self.texts(alloc, interfaces)?,
-            fields: self.members(alloc, fields)?,
-            methods: self.members(alloc, methods)?,
+            name: self.text(&header.name)?,
+            flags: header.flags,
+            super_name: self.optional(header.super_name.as_ref())?,
+            interfaces: self.texts(alloc, header.interfaces.as_slice())?,
+            fields: self.members(alloc, header.fields.as_slice())?,
+            methods: self.members(alloc, header.methods.as_slice())?,
         })
     }
 
     // An equal text, if there is one.
-    fn optional(&mut self, text: Option<Text>) -> Result<Option<Text>, NoMemory>
-        ensures { IfOk result (λ shared. shared ≡ text) }
+    fn optional(&mut self, text: Option<&Text>) -> Result<Option<Text>, NoMemory>
+        ensures { IfOk result (λ shared. shared ≡ option_copied text.entry) }
     {
         match text {
             Some(text) => Ok(Some(self.text(text)?)),
@@ -59,37 +52,37 @@ impl SharedTexts {
     }
 
     // An equal list of members.
-    fn members(&mut self, alloc: Global, members: MemberList) -> Result<MemberList, NoMemory>
-        ensures { IfOk result (λ shared. shared ≡ members) }
+    fn members(&mut self, alloc: Global, members: &[Member]) -> Result<MemberList, NoMemory>
+        ensures { IfOk result (λ shared. shared ≡ members.now) }
     {
         let mut shared = Vec::with_capacity(alloc, members.len())?;
-        for member in members.into_vec() {
+        for member in members {
             shared.push(Member {
                 flags: member.flags,
-                name: self.text(member.name)?,
-                desc: self.text(member.desc)?,
+                name: self.text(&member.name)?,
+                desc: self.text(&member.desc)?,
             })?;
         }
         Ok(ListOf::from_vec(shared))
     }
 
     // An equal list of texts.
-    fn texts(&mut self, alloc: Global, texts: TextList) -> Result<TextList, NoMemory>
-        ensures { IfOk result (λ shared. shared ≡ texts) }
+    fn texts(&mut self, alloc: Global, texts: &[Text]) -> Result<TextList, NoMemory>
+        ensures { IfOk result (λ shared. shared ≡ texts.now) }
     {
         let mut shared = Vec::with_capacity(alloc, texts.len())?;
-        for text in texts.into_vec() {
+        for text in texts {
             shared.push(self.text(text)?)?;
         }
         Ok(ListOf::from_vec(shared))
     }
 
     // An equal text.
-    fn text(&mut self, text: Text) -> Result<Text, NoMemory>
-        ensures { IfOk result (λ shared. shared ≡ text) }
+    fn text(&mut self, text: &Text) -> Result<Text, NoMemory>
+        ensures { IfOk result (λ shared. shared ≡ text.now) }
     {
         let Some(slot) = self.slots.get_mut(slot_of(text.bytes())) else {
-            return Ok(text);
+            return text.copy();
         };
         if let Some(held) = slot {
             if held.bytes() == text.bytes() {
@@ -97,7 +90,7 @@ impl SharedTexts {
             }
         }
         *slot = Some(text.copy()?);
-        Ok(text)
+        text.copy()
     }
 }
 

@@ -8,7 +8,7 @@ ghost use Rattle.pea_top.specs.Seen.{option_view, Makes, MakesNone, EndsCommand,
 
 /// What the words ask for: to optimise the folder `input` into the folder `output`, to verify the folder `input`, to say what becomes of
 /// each of its methods, or to run it by the file `script` for at most `steps` steps. Each uses the folder of the library.
-#[derive(Clone, Copy, Debug)]
+#[derive(Clone, Copy)]
 pub(crate) enum Command<'a> {
     Optimise {
         input: &'a str,

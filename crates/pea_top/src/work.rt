@@ -37,7 +37,7 @@ use std::alloc::Global;
 use type_rules::TypedFolder;
 
 /// What is left to do of a command, once its class files are linked and verified.
-#[derive(Debug, Drop)]
+#[derive(Drop)]
 pub(crate) enum Work<'a> {
     /// To optimise the input, write its files into this folder, and print the line that sums them up. The names are those of the classes
     /// of its class files, in order.

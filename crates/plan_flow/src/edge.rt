@@ -4,7 +4,7 @@ use virtual_state::VState;
 
 /// How control goes on at an edge: to the next point, to a target of a jump, by the target's number among those of the
 /// instruction, or to a handler, by its number among those of the point. A switch's default is its target 0.
-#[derive(Clone, Copy, Debug, PartialEq, Eq)]
+#[derive(Clone, Copy, PartialEq, Eq)]
 pub enum EdgeKind {
     Next,
     Jump(u32),
@@ -12,7 +12,7 @@ pub enum EdgeKind {
 }
 
 /// An edge: the point that it leads to, how, and the state behind it.
-#[derive(Debug, Drop)]
+#[derive(Drop)]
 pub struct Edge {
     pub to: usize,
     pub by: EdgeKind,

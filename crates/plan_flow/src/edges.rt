@@ -22,7 +22,7 @@ use std::alloc::Global;
 use virtual_state::VState;
 
 /// An edge of a point, and the states in which control may take it.
-#[derive(Clone, Copy, Debug)]
+#[derive(Clone, Copy)]
 pub(crate) struct GuardedEdge {
     pub by: EdgeKind,
     pub to: usize,

@@ -8,7 +8,7 @@ use std::marker::Model;
 use virtual_state::{SiteSet, VState};
 
 /// An edge of a point that is reached, and the sites whose objects are made on it.
-#[derive(Debug, Drop)]
+#[derive(Drop)]
 pub(crate) struct EdgePlan {
     pub by: EdgeKind,
     pub to: usize,
@@ -24,7 +24,7 @@ impl Model for EdgePlan {
 }
 
 /// A point that is reached: the state before it, the sites whose objects are made before its instruction, and its edges.
-#[derive(Debug, Drop)]
+#[derive(Drop)]
 pub(crate) struct PointPlan {
     pub state: VState,
     pub made: SiteSet,
@@ -41,7 +41,7 @@ impl Model for PointPlan {
 }
 
 /// Which points of flat code are reached, with which states, and which objects are made where.
-#[derive(Debug, Drop)]
+#[derive(Drop)]
 pub struct Plan {
     points: Vec<Option<PointPlan>>,
 }

@@ -9,7 +9,7 @@ use std::marker::Model;
 use virtual_state::VState;
 
 /// The state before each point that is reached so far.
-#[derive(Debug, Drop)]
+#[derive(Drop)]
 pub(crate) struct PointStates {
     states: Vec<Option<VState>>,
 }

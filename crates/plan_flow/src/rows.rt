@@ -10,7 +10,7 @@ use class_model::{Frame, Text};
 use member_link::Reference;
 
 /// Where the value of a place comes from.
-#[derive(Debug, Drop)]
+#[derive(Drop)]
 pub(crate) enum Source {
     /// A value, or a reference to an object that was made.
     Plain,
@@ -23,7 +23,7 @@ pub(crate) enum Source {
 }
 
 /// What an instruction pushes.
-#[derive(Debug, Drop)]
+#[derive(Drop)]
 pub(crate) enum Gives {
     Nothing,
     One(Source),
@@ -32,7 +32,7 @@ pub(crate) enum Gives {
 }
 
 /// What becomes of the virtual objects.
-#[derive(Debug, Drop)]
+#[derive(Drop)]
 pub(crate) enum Change {
     Nothing,
     /// A new object of a site, whose fields hold plain values and whose monitor is not entered.
@@ -50,7 +50,7 @@ pub(crate) enum Change {
 }
 
 /// The states in which control may take an edge.
-#[derive(Clone, Copy, Debug)]
+#[derive(Clone, Copy)]
 pub(crate) enum Guard {
     Always,
     /// The place holds no virtual object.
@@ -62,7 +62,7 @@ pub(crate) enum Guard {
 }
 
 /// Which objects an instruction asks to be made, besides those that its change asks.
-#[derive(Debug, Drop)]
+#[derive(Drop)]
 pub(crate) enum Asks {
     /// Those of so many operands.
     Operands(usize),
@@ -71,7 +71,7 @@ pub(crate) enum Asks {
 }
 
 /// A row of the table.
-#[derive(Debug, Drop)]
+#[derive(Drop)]
 pub(crate) struct Row {
     pub asks: Asks,
     /// The local unit that becomes what the topmost operand is.

@@ -16,7 +16,7 @@ pub(crate) fn form_on(opcode: u8, stack: &[VType]) -> Option<Form>
 }
 
 /// How many units a value takes.
-#[derive(Clone, Copy, Debug)]
+#[derive(Clone, Copy)]
 pub(crate) enum Width {
     One,
     Two,
@@ -36,7 +36,7 @@ impl Width {
 }
 
 /// A form of an instruction: the widths of its operands, and what it pushes by their numbers, the topmost last.
-#[derive(Clone, Copy, Debug)]
+#[derive(Clone, Copy)]
 pub(crate) struct Form {
     pub takes: &'static [Width],
     pub gives: &'static [usize],

@@ -10,7 +10,7 @@ use std::mem;
 
 /// A work list of points, each once. It goes over them by increasing number, and then over those that came back meanwhile, so
 /// that what several edges say of the start of a loop is carried into the loop at once.
-#[derive(Debug, Drop)]
+#[derive(Drop)]
 pub(crate) struct WorkList {
     // The points above the one that was taken last, and the others.
     ahead: BTreeSet<usize>,

@@ -11,13 +11,13 @@ use std::marker::Model;
 
 /// A constant as it stands in bytes: the text of a Utf8 constant is neither checked nor copied yet.
 /// Contracts see the constant.
-#[derive(Debug, Drop)]
+#[derive(Drop)]
 pub(crate) struct RawConst<'a> {
     form: RawForm<'a>,
 }
 
 /// The bytes of a Utf8 constant's text, or another constant.
-#[derive(Debug, Drop)]
+#[derive(Drop)]
 pub(crate) enum RawForm<'a> {
     Text(&'a [u8]),
     Constant(Const),
@@ -74,7 +74,7 @@ impl<'a> RawConst<'a> {
 
 /// A constant pool that was cut out of bytes and is not checked yet. Contracts see the constants by
 /// index, as those of a `Pool`.
-#[derive(Debug, Drop)]
+#[derive(Drop)]
 pub struct RawPool<'a> {
     // from index 1 on
     entries: Vec<Option<RawConst<'a>>>,

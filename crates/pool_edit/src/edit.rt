@@ -14,7 +14,7 @@ use std::collections::HashMap;
 use std::marker::Model;
 
 /// Why a constant is not added.
-#[derive(Clone, Copy, Debug, PartialEq, Eq)]
+#[derive(Clone, Copy, PartialEq, Eq)]
 pub enum AddFault {
     /// No entry equals it, and appending it would take the count past the limit.
     PoolFull,

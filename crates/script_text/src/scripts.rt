@@ -13,7 +13,7 @@ use machine_values::{Action, ActionList};
 use std::alloc::Global;
 
 /// Why bytes were not read as a script.
-#[derive(Clone, Copy, Debug, PartialEq, Eq)]
+#[derive(Clone, Copy, PartialEq, Eq)]
 pub enum ScriptFault {
     /// The first line outside the grammar, counted from 1.
     BadScript { line: u64 },
@@ -64,7 +64,7 @@ fn add_line(
 }
 
 /// What a line was read as.
-#[derive(Debug, Drop)]
+#[derive(Drop)]
 pub(crate) enum Line {
     /// An empty line or a comment.
     Empty,

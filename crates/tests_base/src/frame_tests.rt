@@ -52,8 +52,10 @@ fn is_by_unit(units: &[VType]) -> bool
 {
     match units {
         [] => true,
-        [VType::Long | VType::Double, VType::Top, others @ ..] => is_by_unit(others),
-        [VType::Long | VType::Double, ..] => false,
+        [first, others @ ..] if matches!(first, VType::Long | VType::Double) => match others {
+            [second, behind @ ..] => matches!(second, VType::Top) && is_by_unit(behind),
+            [] => false,
+        },
         [_, others @ ..] => is_by_unit(others),
     }
 }

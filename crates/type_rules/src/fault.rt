@@ -33,7 +33,7 @@ pub enum TypeRule {
 }
 
 /// Why an instruction has no frame behind it.
-#[derive(Clone, Copy, PartialEq, Eq, Debug)]
+#[derive(Clone, Copy, PartialEq, Eq)]
 pub enum RuleFault {
     /// The first rule that fails: `Stack`, `Local`, `Depth` or `Kind`.
     Fails(TypeRule),

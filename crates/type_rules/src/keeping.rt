@@ -31,7 +31,7 @@ impl MethodRules<'_> {
 }
 
 /// The local units, counted from 0, that may have other types behind an instruction than before it.
-#[derive(Clone, Copy, Debug, PartialEq, Eq)]
+#[derive(Clone, Copy, PartialEq, Eq)]
 pub enum LocalChanges {
     /// None.
     Nowhere,

@@ -2,7 +2,7 @@
 use class_model::Frame;
 
 /// The frames behind an instruction (JVM Specification SE 8, 4.10.1.4).
-#[derive(Debug, Drop)]
+#[derive(Drop)]
 pub struct Ruled {
     /// The frame with which control falls through or jumps; `None` where it does neither.
     pub next: Option<Frame>,

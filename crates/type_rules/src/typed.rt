@@ -15,7 +15,7 @@ pub type TypedMethod = ListOf<Frame>;
 pub type TypedClass = ListOf<Option<TypedMethod>>;
 
 /// The frames of the methods of a folder's classes. Contracts see them class by class.
-#[derive(Debug, Drop)]
+#[derive(Drop)]
 pub struct TypedFolder {
     classes: ListOf<TypedClass>,
 }

@@ -9,7 +9,7 @@ use std::alloc::Global;
 use type_rules::{MethodRules, has_code};
 
 /// The frames before an instruction: the one that flows into it, and the one that is stated there.
-#[derive(Debug, Drop)]
+#[derive(Drop)]
 pub struct FrameBefore {
     pub flows: Option<Frame>,
     pub stated: Option<Frame>,

@@ -6,7 +6,7 @@ use class_model::NoMemory;
 use type_rules::TypeRule;
 
 /// The first failure in a method, or want of memory.
-#[derive(Clone, Copy, Debug)]
+#[derive(Clone, Copy)]
 pub(crate) enum Stop {
     /// A rule fails at an offset of the code, in bytes.
     Fails { offset: u32, rule: TypeRule },

@@ -8,7 +8,7 @@ use std::marker::Model;
 use std::rc::Rc;
 
 /// A virtual object that several states may hold. Contracts see the object.
-#[derive(Debug, Drop)]
+#[derive(Drop)]
 pub(crate) struct SharedObject {
     object: Rc<VObject>,
 }

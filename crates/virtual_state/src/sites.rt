@@ -9,7 +9,7 @@ use std::alloc::Global;
 use std::marker::Model;
 
 /// A set of allocation sites. Contracts see the list of their numbers, which increases.
-#[derive(Debug, Drop)]
+#[derive(Drop)]
 pub struct SiteSet {
     sites: Vec<u16>,
 }

@@ -19,7 +19,7 @@ pub enum Slot {
 pub type SlotList = ListOf<Slot>;
 
 /// An object that is not made: the number of its allocation site, its fields, and how often its monitor is entered.
-#[derive(Debug, Drop)]
+#[derive(Drop)]
 pub struct VObject {
     pub site: u16,
     pub fields: SlotList,

@@ -14,7 +14,7 @@ use std::rc::Rc;
 
 /// What each place of a frame holds, and the virtual objects that are present: those that the places reach. Places are
 /// counted from 0. States share their slots and each object with the states that they were made of.
-#[derive(Debug, Drop)]
+#[derive(Drop)]
 pub struct VState {
     slots: Rc<SlotList>,
     objects: Rc<ObjectTable>,

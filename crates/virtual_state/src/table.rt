@@ -11,7 +11,7 @@ use std::alloc::Global;
 use std::marker::Model;
 
 /// Virtual objects, each found by its site in constant time. Contracts see the objects by increasing site.
-#[derive(Debug, Drop)]
+#[derive(Drop)]
 pub(crate) struct ObjectTable {
     // Each object at the index of its site.
     entries: Vec<Option<SharedObject>>,

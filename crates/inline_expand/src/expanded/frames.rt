@@ -104,7 +104,7 @@ pub(crate) fn stored(frame: Frame, at: u16) -> Result<Frame, NoMemory>
         → argument.unit ≡ at
         → behind ≡ frame_stored frame argument) }
 {
-    let Frame { locals, stack } = frame;
+    let (locals, stack) = frame.into_parts();
     let mut stack = stack.into_vec();
     let value = stack.pop().unwrap_or(VType::Top);
     Ok(Frame {

@@ -15,7 +15,7 @@ use std::alloc::Global;
 /// How a method stands in place of a call: its shape; the number of the first point of each of its instructions and of what is
 /// behind them, counted from that of the first; how many points stand in place of the call; and how many local units it and its own callees
 /// have. What is more than a `u16` counts stands as its greatest.
-#[derive(Debug, Drop)]
+#[derive(Drop)]
 pub(crate) struct Layout {
     pub(crate) shape: Shape,
     pub(crate) starts: Vec<u16>,

@@ -12,7 +12,7 @@ use std::alloc::Global;
 /// The layouts of callees' bodies; the number of the first point of each of a host's instructions, and of what is behind them; how
 /// many points there are; and how many local units its callees have. What is more than a `u16` counts stands as its
 /// greatest.
-#[derive(Debug, Drop)]
+#[derive(Drop)]
 pub(crate) struct Measure {
     pub(crate) layouts: Vec<Layout>,
     pub(crate) starts: Vec<u16>,

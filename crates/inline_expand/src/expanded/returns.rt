@@ -92,7 +92,7 @@ fn with_int(alloc: Global, typed: &Frame) -> Result<Frame, NoMemory>
     ensures { IfOk result
         (λ frame. frame ≡ record typed.now { stack = typed.now.stack ++ Int ∷ [] }) }
 {
-    let Frame { locals, stack } = typed.copy(alloc)?;
+    let (locals, stack) = typed.copy(alloc)?.into_parts();
     let mut above = stack.into_vec();
     match above.push(VType::Int) {
         Ok(()) => Ok(Frame {

@@ -17,7 +17,7 @@ use std::alloc::Global;
 
 /// What a callee has beside a host: the number of the point behind its call, how its results are narrowed, and the
 /// handlers of its call.
-#[derive(Debug, Drop)]
+#[derive(Drop)]
 pub(crate) struct Call {
     pub(crate) behind: u16,
     pub(crate) narrowed: Narrowed,

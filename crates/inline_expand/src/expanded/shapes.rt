@@ -16,14 +16,14 @@ use code_bytes::method_descriptor;
 use std::alloc::Global;
 
 /// A parameter: its kind, and its local unit, counted from the method's first.
-#[derive(Clone, Copy, Debug)]
+#[derive(Clone, Copy)]
 pub(crate) struct Parameter {
     pub(crate) kind: Kind,
     pub(crate) unit: u16,
 }
 
 /// What becomes of an int before it is returned, by the declared type.
-#[derive(Clone, Copy, Debug)]
+#[derive(Clone, Copy)]
 pub(crate) enum Narrowed {
     Same,
     ToByte,
@@ -46,7 +46,7 @@ impl Narrowed {
 }
 
 /// The parameters of a method, its receiver first; whether the receiver is tested for null; and how a result is narrowed.
-#[derive(Debug, Drop)]
+#[derive(Drop)]
 pub(crate) struct Shape {
     pub(crate) parameters: Vec<Parameter>,
     pub(crate) tests_receiver: bool,

@@ -24,7 +24,7 @@ pub(crate) struct Numbered<'s, 't> {
 }
 
 /// A candidate site: the number of its point, and the class of the object that it makes.
-#[derive(Debug, Drop)]
+#[derive(Drop)]
 pub(crate) struct NewAt {
     pub(crate) at: u16,
     pub(crate) class: Text,

@@ -31,7 +31,7 @@ use machine_values::{Given, MethodFrame, Ref, RunFrame, RunFrameList, Value};
 use std::alloc::Global;
 
 // What goes to the operation that waits: a value or none.
-#[derive(Debug, Drop)]
+#[derive(Drop)]
 pub(crate) struct Answer {
     value: Option<Value>,
 }

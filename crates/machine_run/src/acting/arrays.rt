@@ -134,7 +134,7 @@ fn length_in(object: &Object) -> Option<u32>
 // ---- writes
 
 // A value that is written to an array, by the number of its element.
-#[derive(Debug, Drop)]
+#[derive(Drop)]
 struct Written {
     reference: Ref,
     number: u32,

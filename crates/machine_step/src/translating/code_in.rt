@@ -54,7 +54,7 @@ fn result_type(alloc: Global, pool: &Pool, method: &Method) -> Result<Option<Fie
         unreachable!()
     };
     let descriptor = method_descriptor(alloc, text, method.flags)?;
-    Ok(descriptor.result)
+    Ok(descriptor.into_result())
 }
 
 /// The content of the first Code attribute among attributes. It does not allocate.

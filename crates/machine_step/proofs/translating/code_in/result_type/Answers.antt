@@ -6,7 +6,8 @@ use Rattle.machine_step.proofs.translating.code_in.result_type.Goals as goal
 
 pub returns : goal.returns
 returns c =
-    sym
+    c.into_result.ensures
+    ∙ sym
     (result_spelled c.in-Some.text.now c.in_ok-descriptor.descriptor
     c.in_ok-descriptor.ensures.params c.in_ok-descriptor.ensures.spelled)
     ∙ ap (λ (text : Option (List ℕ)). result_of (text_or_empty text)) c.in-Some.ensures
