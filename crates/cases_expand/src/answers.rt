@@ -40,14 +40,32 @@ fn verified_answer(
     about: &str,
 ) -> Option<String> {
     let tree = setting.tree_with(alloc, setting.folder)?;
-    let Ok(()) = check_links(alloc, &tree) else {
-        return None;
-    };
-    let Ok(typed) = verify_all(alloc, &tree) else {
-        return None;
-    };
+    let answer = tree_answer(alloc, &tree, call, about);
+    drop(tree);
+    answer
+}
+
+// What is answered about a folder, where it verifies.
+fn tree_answer(alloc: Global, tree: &Tree, call: &str, about: &str) -> Option<String> {
+    check_links(alloc, tree).ok()?;
+    let typed = verify_all(alloc, tree).ok()?;
+    let answer = words_answer(alloc, tree, &typed, call, about);
+    drop(typed);
+    answer
+}
+
+// What is answered to words about a folder that its frames type.
+fn words_answer(
+    alloc: Global,
+    tree: &Tree,
+    typed: &TypedFolder,
+    call: &str,
+    about: &str,
+) -> Option<String>
+    requires { TypesFolder tree.now typed.now }
+{
     let words = about.split(' ').collect::<Vec<&str>>(alloc).ok()?;
-    folder_answer(alloc, &tree, &typed, call, words.as_slice())
+    folder_answer(alloc, tree, typed, call, words.as_slice())
 }
 
 // What is answered about a folder that its frames type.

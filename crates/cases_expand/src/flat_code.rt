@@ -2,6 +2,7 @@
 use crate::points::{Parts, handlers_in, host_of, parts_in, tree_of};
 use cases_notation::Setting;
 use cases_rewrite::flat_of;
+use class_tree::Tree;
 use flow_code::Flat;
 use std::alloc::Global;
 
@@ -9,14 +10,24 @@ use std::alloc::Global;
 /// to that of its points the instruction, whether there are types, and the handlers. `-` where it is not well formed.
 pub(crate) fn flat_answer(alloc: Global, setting: &Setting<'_>, about: &str) -> Option<String> {
     let tree = tree_of(alloc, setting, about)?;
-    let host = host_of(alloc, setting, &tree)?;
+    let answer = tree_answer(alloc, setting, &tree, about);
+    drop(tree);
+    answer
+}
+
+fn tree_answer(alloc: Global, setting: &Setting<'_>, tree: &Tree, about: &str) -> Option<String> {
+    let host = host_of(alloc, setting, tree)?;
     let Parts {
         locals,
         sites,
         points,
-    } = parts_in(alloc, &tree, host, about)?;
+    } = parts_in(alloc, tree, host, about)?;
     match flat_of(host, locals, points, sites) {
-        Some(flat) => flat_text(alloc, &flat),
+        Some(flat) => {
+            let text = flat_text(alloc, &flat);
+            drop(flat);
+            text
+        }
         None => String::from_str(alloc, "-").ok(),
     }
 }

@@ -26,14 +26,21 @@ pub(crate) fn plan_answer(alloc: Global, setting: &Setting<'_>, about: &str) -> 
 
 fn method_in(alloc: Global, setting: &Setting<'_>, about: &str) -> Option<Method> {
     let tree = tree_of(alloc, setting, about)?;
-    let host = host_of(alloc, setting, &tree)?;
+    let Some(code) = code_in(alloc, setting, &tree, about) else {
+        drop(tree);
+        return None;
+    };
+    Some(Method { tree, code })
+}
+
+fn code_in(alloc: Global, setting: &Setting<'_>, tree: &Tree, about: &str) -> Option<PlanCode> {
+    let host = host_of(alloc, setting, tree)?;
     let Parts {
         locals,
         sites,
         points,
-    } = parts_in(alloc, &tree, host, about)?;
-    let code = PlanCode::of(host, locals, points, sites)?;
-    Some(Method { tree, code })
+    } = parts_in(alloc, tree, host, about)?;
+    PlanCode::of(host, locals, points, sites)
 }
 
 fn plan_text(alloc: Global, method: &Method, plan: &Plan) -> Option<String> {
