@@ -4,8 +4,7 @@ use Rattle.std.proofs.lemmas.List.{length-map}
 use Rattle.class_model.specs.Instructions.{keys_increase}
 use Rattle.class_model.specs.declared.instr.Instr.TheVariants.{IfNull, Lookup}
 use Rattle.class_model.specs.declared.instr.Pair.{Pair}
-use Rattle.member_link.specs.Targets.{pair_to}
-use Rattle.code_layout.specs.Emitting.{HasForm}
+use Rattle.member_link.specs.Targets.{pair_to, HasForm}
 
 pub null_form : (opcode to : ℕ) → opcode ≡ 199 → HasForm (IfNull opcode to)
 null_form opcode to is = subst (λ (one : ℕ). HasForm (IfNull one to)) (sym is) (refl, omega arith)

@@ -1,11 +1,12 @@
 //! Emitted code.
+ghost use Rattle.member_link.specs.Targets.{HasForm};
 ghost use Rattle.std.specs.Prelude.{◌≡◌, ◌<◌, ◌≤◌, ℕ, Some, length, map, IfSome, IsTrue};
 ghost use Rattle.std.specs.List.{AllByRecursion, slice_get};
 ghost use Rattle.class_model.specs.Instructions.{keys_increase, targets};
 ghost use Rattle.class_model.specs.declared.instr.Imm.TheVariants as imms;
 ghost use Rattle.class_model.specs.declared.instr.Instr.TheVariants.{Const, Throw};
 ghost use Rattle.cases_rewrite.specs.Inner.Forms.{IsSmallTable};
-ghost use Rattle.code_layout.specs.Emitting.{HasForm, HasInstr, IfNear, IsItem, JumpsNear, NamesItem};
+ghost use Rattle.code_layout.specs.Emitting.{HasInstr, IfNear, IsItem, JumpsNear, NamesItem};
 ghost use Rattle.code_layout.specs.declared.emitted.EmitItem.{EmitItem};
 
 use class_model::opcodes::IFNONNULL;

@@ -1,4 +1,6 @@
 //! Laws: functions that do nothing, whose contracts say what always holds.
+ghost use Rattle.same_runs.specs.ClearedFields.{ReplacesByFlats};
+ghost use Rattle.same_runs.specs.TypedFlats.{TypesFlat};
 ghost use Rattle.std.specs.Prelude.{◌≡◌, List, Some};
 ghost use Rattle.class_model.specs.declared.class_file.ClassFile.{ClassFile};
 ghost use Rattle.class_model.specs.declared.class_file.MethodAt.{MethodAt};
@@ -9,8 +11,8 @@ ghost use Rattle.class_tree.specs.Headers.{Classes, headers_of};
 ghost use Rattle.class_tree.specs.Hierarchy.{IsHierarchy};
 ghost use Rattle.class_tree.specs.Trees.{IsTree};
 ghost use Rattle.expanded_code.specs.ExpandAnswers.{IsExpanded, IsNoHost};
-ghost use Rattle.expanded_runs.specs.ExpandedPrograms.{AreExpanded, ReplacesByFlats};
-ghost use Rattle.expanded_runs.specs.ReadTypes.{NoThisOutside, TypesFlat};
+ghost use Rattle.expanded_runs.specs.ExpandedPrograms.{AreExpanded};
+ghost use Rattle.expanded_runs.specs.ReadTypes.{NoThisOutside};
 ghost use Rattle.flow_code.specs.FlatCode.{FlatCode};
 ghost use Rattle.flow_code.specs.TypedFrames.{FolderFrames};
 ghost use Rattle.flow_code.specs.declared.reason.Reason.{Reason};

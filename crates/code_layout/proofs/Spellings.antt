@@ -10,8 +10,7 @@ use Rattle.class_model.specs.declared.instr.Instr.TheVariants.{If, If2, IfSame, 
 use Rattle.class_model.specs.declared.instr.Pair.{Pair}
 use Rattle.code_bytes.specs.Encoding.{FitsForm, HasSpelling, IsPlace, Reaches}
 use Rattle.code_bytes.specs.Forms.{instr_bytes, offset_of, is_near, goto_bytes, target_bytes, pair_bytes, switch_bytes, table_bytes, lookup_bytes}
-use Rattle.member_link.specs.Targets.{pair_to, with_targets}
-use Rattle.code_layout.specs.Emitting.{HasForm}
+use Rattle.member_link.specs.Targets.{pair_to, with_targets, HasForm}
 use Rattle.code_layout.specs.Layout.{short_len}
 
 -- ---- what reaches

@@ -1,9 +1,9 @@
 -- Steps of the loops over items.
+use Rattle.member_link.specs.Targets.{HasForm}
 use Rattle.std.proofs.Common.{◌≡◌, ℕ, ◌+◌, ◌≤◌, ◌<◌, List, [], ◌∷◌, ◌++◌, length, map, drop, slice_get, get_or, Some, sym, ap, subst, ◌∙◌, append_assoc, arith}
 use Rattle.std.proofs.lemmas.Option.{slice_get-get_or}
 use Rattle.class_model.specs.Laws.Lists.{at_index, drop_item}
 use Rattle.class_model.specs.declared.class_file.Handler.{Handler}
-use Rattle.code_layout.specs.Emitting.{HasForm}
 use Rattle.code_layout.specs.Inner.Writing.{ArePlaced, HaveForms}
 use Rattle.code_layout.specs.Layout.{end_from, item_ranges, range_of, ranges_from, short_len, short_starts, start_in, starts_from}
 use Rattle.code_layout.specs.declared.emitted.EmitItem.{EmitItem}

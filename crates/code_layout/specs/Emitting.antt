@@ -2,16 +2,11 @@
 use Rattle.std.specs.Prelude.{◌≡◌, ℕ, ◌+◌, ◌<◌, true, List, length, slice_get, Some}
 use Rattle.std.specs.List.{AllByRecursion}
 use Rattle.class_model.specs.Instructions.{targets}
-use Rattle.member_link.specs.Targets.{with_targets}
+use Rattle.member_link.specs.Targets.{HasForm}
 use Rattle.class_model.specs.declared.instr.Imm.TheVariants as imms
 use Rattle.class_model.specs.declared.instr.Instr.{Instr}
 use Rattle.class_model.specs.declared.instr.Instr.TheVariants.{Const, IfNull, Throw}
-use Rattle.code_bytes.specs.Encoding.{FitsForm}
 use Rattle.code_layout.specs.declared.emitted.EmitItem.{EmitItem}
-
--- its opcode, count, code and numbers are of its form: it would have a spelling if it stood where it jumps to
-abbrev pub HasForm : Instr → Type 0
-HasForm instr = FitsForm 0 (with_targets (λ _. 0) instr)
 
 -- a number names one of so many items
 abbrev pub NamesItem : ℕ → ℕ → Type 0

@@ -1,6 +1,6 @@
 //! How long instructions are in the short form.
+ghost use Rattle.member_link.specs.Targets.{HasForm};
 ghost use Rattle.std.specs.Prelude.{◌≡◌, ◌≤◌};
-ghost use Rattle.code_layout.specs.Emitting.{HasForm};
 ghost use Rattle.code_layout.specs.Layout.{short_len};
 
 use class_model::Instr;

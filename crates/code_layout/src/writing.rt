@@ -1,6 +1,6 @@
 //! The bytes of a code and its exception table.
+ghost use Rattle.member_link.specs.Targets.{HasForm};
 ghost use Rattle.std.specs.Prelude.{◌≡◌, ◌≤◌, ◌++◌, ℕ, length, map, IfOk, OnOk};
-ghost use Rattle.code_layout.specs.Emitting.{HasForm};
 ghost use Rattle.code_layout.specs.Inner.Writing.{ArePlaced, AreSpelled, IsAppended};
 ghost use Rattle.code_layout.specs.Layout.{end_from, item_ranges, placed_bytes, placed_items, range_of, start_in};
 

@@ -1,4 +1,6 @@
 -- Classes whose objects may be kept in local variables. It is this project's profile.
+use Rattle.class_tree.specs.Layouts.{chain}
+use Rattle.member_link.specs.FieldConstructors.{HasFieldConstructor, field_types}
 use Rattle.std.specs.Prelude.{◌≡◌, ◌≤◌, ℕ, Bool, bytes_eq, codes, length, slice_get, Some, IsTrue, IsFalse}
 use Rattle.std.specs.List.{AllByRecursion, list_any}
 use Rattle.class_model.specs.Descriptors.{parameter_units}
@@ -13,8 +15,7 @@ use Rattle.class_model.specs.declared.instr.Instr.TheVariants.{PutField}
 use Rattle.class_model.specs.declared.instr.Placed.{Placed}
 use Rattle.class_tree.specs.Headers.{Name, Classes, Headers, headers_of, named}
 use Rattle.class_tree.specs.Names.{is_interface, is_member}
-use Rattle.expanded_code.specs.FieldConstructors.{HasFieldConstructor, field_types}
-use Rattle.expanded_code.specs.Quiet.{IsQuiet, chain}
+use Rattle.expanded_code.specs.Quiet.{IsQuiet}
 use Rattle.member_link.specs.DeclaredMembers.{Declared}
 use Rattle.member_link.specs.Fields.{FindsField}
 use Rattle.member_link.specs.References.{Reference}

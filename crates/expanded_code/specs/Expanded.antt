@@ -2,6 +2,7 @@
 --
 -- In place of a call stand: a store for each argument, the last first; for a method of an object that is no initialiser a test of the
 -- receiver for null; the callee's instructions, its locals in a block of units of its own; and for each return a narrowing and a goto behind.
+use Rattle.member_link.specs.FieldConstructors.{field_types}
 use Rattle.std.specs.Prelude.{◌==◌, ◌+◌, ℕ, not, ◌||◌, List, [], ◌∷◌, ◌++◌, Bool, pos, drop, length, map, reverse, take, replicate, Option, Some, None, if◌then◌else◌}
 use Rattle.class_model.specs.Descriptors.{kind_of, parameters_of, units_of}
 use Rattle.class_model.specs.Members.{has, STATIC}
@@ -20,7 +21,6 @@ use Rattle.class_model.specs.declared.opcodes.TheConstants.{I2B, I2C, I2S, IAND}
 use Rattle.class_tree.specs.Headers.{Headers}
 use Rattle.expanded_code.specs.Alone.{handlers_by}
 use Rattle.expanded_code.specs.Expansions.{Coded, Expansion, no_more, replaced, site, stays}
-use Rattle.expanded_code.specs.FieldConstructors.{field_types}
 use Rattle.flow_code.specs.FlatCode.{FlatCode}
 use Rattle.flow_code.specs.declared.handlers.FlatHandler.{FlatHandler}
 use Rattle.flow_code.specs.declared.point.FlatInstr.TheVariants.{Of, NullTest}

@@ -1,7 +1,6 @@
 pub mod Alone
 pub mod AloneAnswers
 pub mod Quiet
-pub mod FieldConstructors
 pub mod Candidates
 pub mod Callees
 pub mod Sites

@@ -1,20 +1,15 @@
 -- Classes of the folder whose beginning runs no class initialiser, and the classes above them. It is this project's profile.
-use Rattle.std.specs.Prelude.{◌≡◌, not, Bool, List, filter, bytes_eq, Some, IsSome, IsFalse}
+use Rattle.std.specs.Prelude.{◌≡◌, Bool, bytes_eq, Some, IsSome, IsFalse}
 use Rattle.std.specs.List.{AllByRecursion, list_any}
 use Rattle.class_model.specs.Names.{clinit}
 use Rattle.class_model.specs.declared.header.Header.{Header}
 use Rattle.class_tree.specs.Headers.{Name, Headers, named}
-use Rattle.class_tree.specs.Layouts.{superclasses}
-use Rattle.class_tree.specs.Names.{object}
+use Rattle.class_tree.specs.Layouts.{chain}
 use Rattle.member_link.specs.Access.{IsAtOrBelow}
 
 -- a class of the folder
 abbrev pub IsOfFolder : Headers → Name → Type 0
 IsOfFolder headers name = IsSome (named name headers.folder)
-
--- The chain of a class: itself and the classes above it but java/lang/Object, upwards.
-abbrev pub chain : Headers → Name → List Name
-chain headers class = filter (λ name. not (bytes_eq name object)) (superclasses headers class)
 
 -- it declares a class initialiser, with code or without
 abbrev pub declares_initialiser : Header → Bool

@@ -1,4 +1,6 @@
 -- Flat codes of hosts have a replacement: of each field it is decided which of its flags are cleared.
+use Rattle.class_tree.specs.Layouts.{chain}
+use Rattle.same_runs.specs.ClearedFields.{ClearsFinal, ConstantFinds, IsInstanceField, OpensPrivate, ReplacesByFlats, StoresInFlat, UsesField, UsesInFlat, reads_field, writes_field}
 use Rattle.std.proofs.Common.{◌≡◌, ◌≢◌, ℕ, zero, suc, Bool, true, false, List, [], ◌∷◌, bytes_eq, slice_get, Option, Some, None, IsTrue, IsFalse, ◌⊎◌, ◌↔◌, ◌+◌, refl, sym, ap, subst, ◌∙◌, inl, inr}
 use Rattle.std.specs.List.{list_any}
 use Rattle.std.proofs.lemmas.Bool.{cases_eq}
@@ -13,9 +15,8 @@ use Rattle.class_model.specs.declared.instr.Instr.TheVariants.{GetField, PutFiel
 use Rattle.class_tree.specs.Headers.{Classes, Headers, Name, headers_of}
 use Rattle.class_tree.specs.Laws.Decided.{same_bytes, told, told_is}
 use Rattle.expanded_code.specs.ExpandAnswers.{has_no_code}
-use Rattle.expanded_code.specs.Quiet.{chain}
 use Rattle.expanded_runs.proofs.Runs.CallTargets.{HasScope, scope_has}
-use Rattle.expanded_runs.specs.ExpandedPrograms.{AreExpanded, ClearsFinal, ConstantFinds, IsInstanceField, OpensPrivate, ReplacesByFlats, StoresInFlat, UsesField, UsesInFlat, reads_field, writes_field}
+use Rattle.expanded_runs.specs.ExpandedPrograms.{AreExpanded}
 use Rattle.flow_code.specs.FlatCode.{FlatCode}
 use Rattle.flow_code.specs.TypedFrames.{FolderFrames}
 use Rattle.flow_code.specs.declared.point.FlatInstr.{FlatInstr}

@@ -1,3 +1,4 @@
 pub mod FlatCode
 pub mod FlatRoom
 pub mod TypedFrames
+pub mod ReadTypes

@@ -1,4 +1,5 @@
 -- Field constructors by the descriptors of the fields.
+use Rattle.member_link.specs.FieldConstructors.{HandlesNone, HasFieldConstructor, IsFree, constructor_descriptor, handled}
 use Rattle.std.proofs.Common.{◌≡◌, ◌≢◌, ◌↔◌, ◌≤◌, ◌++◌, ◌&&◌, ◌||◌, cond, ℕ, Bool, true, false, List, [], ◌∷◌, bytes_eq, codes, length, map, replicate, Option, Some, None, IsTrue, IsFalse, option_map, option_and_then, refl, sym, ap, subst, ◌∙◌, inl, inr}
 use Rattle.std.specs.List.{AllByRecursion, flat_map, list_any}
 use Rattle.std.proofs.lemmas.Bool.{cases_Bool, false≢true}
@@ -14,7 +15,6 @@ use Rattle.class_model.specs.declared.pool.Const.{Const}
 use Rattle.class_tree.specs.Headers.{Name, Classes, Headers, headers_of, class_named}
 use Rattle.class_tree.specs.Layouts.{instance_fields}
 use Rattle.class_tree.specs.Names.{is_member}
-use Rattle.expanded_code.specs.FieldConstructors.{HandlesNone, HasFieldConstructor, IsFree, constructor_descriptor, handled}
 use Rattle.inline_expand.specs.Inner.ConstructorWords.{HasFree, descriptor_of, field_descs, handled_in, handled_of, handled_of_pool, is_taken}
 use Rattle.member_link.specs.DeclaredMembers.{declared, declared_by, own_method}
 use Rattle.member_link.specs.References.{Reference}

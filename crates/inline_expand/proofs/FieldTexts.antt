@@ -1,4 +1,5 @@
 -- The descriptors of the fields of a candidate class are texts of field types.
+use Rattle.member_link.specs.FieldConstructors.{constructor_descriptor, field_types}
 use Rattle.std.proofs.Common.{◌≡◌, ◌≢◌, ◌+◌, ◌≤◌, not, cond, ℕ, Bool, true, false, List, [], ◌∷◌, ◌++◌, bytes_eq, codes, filter, length, map, replicate, reverse, Option, Some, None, IfSome, IsSome, refl, sym, ap, subst, ◌∙◌, arith}
 use Rattle.std.proofs.lemmas.List.{append-nil, append_assoc, length-append}
 use Rattle.std.proofs.lemmas.Option.{same_Some}
@@ -26,12 +27,10 @@ use Rattle.class_model.specs.declared.header.Header.{Header}
 use Rattle.class_model.specs.declared.header.Member.{Member}
 use Rattle.class_tree.specs.Headers.{Classes, Headers, IsClassFile, Name, headers_of, named}
 use Rattle.class_tree.specs.Hierarchy.{IsHierarchy}
-use Rattle.class_tree.specs.Layouts.{instance_fields, own_fields, superclasses}
+use Rattle.class_tree.specs.Layouts.{instance_fields, own_fields, superclasses, chain}
 use Rattle.class_tree.specs.Names.{object}
 use Rattle.expanded_code.specs.Candidates.{HasRoom, IsCandidate}
-use Rattle.expanded_code.specs.FieldConstructors.{constructor_descriptor, field_types}
 use Rattle.expanded_code.specs.Laws.SuperChains.{chain_is, has_superclass}
-use Rattle.expanded_code.specs.Quiet.{chain}
 use Rattle.inline_expand.proofs.AloneFlat.{all-append}
 use Rattle.inline_expand.proofs.FolderNames.{of_folder}
 use Rattle.inline_expand.specs.Inner.ConstructorWords.{field_descs}

@@ -11,7 +11,7 @@ use Rattle.class_tree.specs.Interfaces.{AreSuperinterfaces}
 use Rattle.class_tree.specs.Laws.Above.{below_more, class_above_interface, hierarchy_is_rooted, hierarchy_is_sound, nothing_above_object}
 use Rattle.class_tree.specs.Laws.Headers.{class_there, interfaces_there, own_name, same_class}
 use Rattle.class_tree.specs.Laws.Names.{IsOneName, one_name_first, each_of_names}
-use Rattle.class_tree.specs.Layouts.{superclasses}
+use Rattle.class_tree.specs.Layouts.{superclasses, chain}
 use Rattle.class_tree.specs.Names.{is_interface, object}
 use Rattle.class_tree.specs.Order.{header_at, place_of}
 use Rattle.class_tree.specs.Subtype.{IsBelow, IsChain, IsDirectlyBelow, superclass, interface, directly, onwards}
@@ -19,7 +19,7 @@ use Rattle.class_tree.specs.Subtype.IsChain.{root, below}
 use Rattle.class_tree.specs.declared.place.Place.{Place}
 use Rattle.class_tree.specs.declared.place.Place.TheVariants.{Folder, Library}
 use Rattle.expanded_code.specs.Laws.SuperChains.{chain_is, chain_of_object, of_each_class, superclasses_is, superclasses_of_root}
-use Rattle.expanded_code.specs.Quiet.{IsOfFolder, IsQuiet, chain, declares_initialiser}
+use Rattle.expanded_code.specs.Quiet.{IsOfFolder, IsQuiet, declares_initialiser}
 use Rattle.inline_expand.proofs.FolderNames.{in_folder_at, of_folder}
 use Rattle.inline_expand.specs.Inner.QuietWords.{IsInterfaceThere, IsQuietItself, IsSilent, IsSilentAt, IsSilentItself}
 use Rattle.member_link.specs.Access.{IsAtOrBelow}

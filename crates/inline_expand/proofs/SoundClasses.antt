@@ -1,4 +1,5 @@
 -- Sound classes, class by class, and the candidates among them.
+use Rattle.member_link.specs.FieldConstructors.{field_types}
 use Rattle.std.proofs.Common.{◌≡◌, ◌≢◌, ◌↔◌, ◌≤◌, ◌++◌, not, ℕ, List, [], ◌∷◌, filter, length, map, reverse, slice_get, is_some, option_map, Option, Some, None, IsFalse, refl, sym, ap, subst, ◌∙◌, inl, inr, arith}
 use Rattle.std.specs.List.{AllByRecursion, flat_map}
 use Rattle.std.proofs.lemmas.Bool.{false≢true, or_left, or_right}
@@ -21,14 +22,12 @@ use Rattle.class_tree.specs.Hierarchy.{IsHierarchy}
 use Rattle.class_tree.specs.Laws.Above.{hierarchy_is_rooted, hierarchy_is_sound, object_no_superclass}
 use Rattle.class_tree.specs.Laws.Decided.{same_bytes}
 use Rattle.class_tree.specs.Laws.Names.{IsOneName, each_of_names}
-use Rattle.class_tree.specs.Layouts.{instance_fields, own_fields, superclasses}
+use Rattle.class_tree.specs.Layouts.{instance_fields, own_fields, superclasses, chain}
 use Rattle.class_tree.specs.Names.{is_interface, object}
 use Rattle.class_tree.specs.Order.{place_of}
 use Rattle.class_tree.specs.declared.place.Place.TheVariants.{Folder}
 use Rattle.expanded_code.specs.Candidates.{HasNoFinalizer, HasRoom, Initialises, IsCandidate, KeepsFinals, declares_finalizer}
-use Rattle.expanded_code.specs.FieldConstructors.{field_types}
 use Rattle.expanded_code.specs.Laws.SuperChains.{chain_is, chain_of_object, has_superclass, superclasses_is, superclasses_of_root}
-use Rattle.expanded_code.specs.Quiet.{chain}
 use Rattle.inline_expand.proofs.ConstructorLaws.{constructor_is}
 use Rattle.inline_expand.proofs.FolderNames.{folder_name, in_folder_at, of_folder}
 use Rattle.inline_expand.proofs.QuietLaws.{quiet_is}

@@ -1,8 +1,8 @@
 //! Method handles of instance initialisers.
+ghost use Rattle.member_link.specs.FieldConstructors.{handled};
 ghost use Rattle.std.specs.Prelude.{◌≡◌, ◌++◌, ◌<◌, ℕ, List, Some, IfOk, OnOk};
 ghost use Rattle.std.specs.Option.{option_copied, option_map};
 ghost use Rattle.class_tree.specs.Headers.{Name, headers_of};
-ghost use Rattle.expanded_code.specs.FieldConstructors.{handled};
 ghost use Rattle.inline_expand.specs.Inner.ConstructorWords.{AreHandled, handled_in, handled_of, handled_of_pool};
 ghost use Rattle.member_link.specs.MemberRefs.{reference_meant};
 

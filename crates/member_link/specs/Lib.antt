@@ -23,6 +23,7 @@ pub mod LinkedFirst
 pub mod LinkedPlaces
 pub mod Assignability
 pub mod Signatures
+pub mod FieldConstructors
 pub mod Targets
 pub mod RowScope
 pub mod Rows

@@ -10,3 +10,4 @@ pub mod ShuffleRows
 pub mod ArrayRows
 pub mod MemberRows
 pub mod Table
+pub mod Readings

@@ -1,5 +1,7 @@
 pub mod Flats
 pub mod FlatBodies
+pub mod TypedFlats
+pub mod ClearedFields
 pub mod EqualRuns
 pub mod Simulations
 pub mod Renamings

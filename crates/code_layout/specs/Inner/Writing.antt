@@ -5,8 +5,7 @@ use Rattle.class_model.specs.Instructions.{IsSpelling}
 use Rattle.class_model.specs.declared.instr.Instr.{Instr}
 use Rattle.class_model.specs.declared.instr.Placed.{Placed}
 use Rattle.code_bytes.specs.Forms.{instr_bytes}
-use Rattle.member_link.specs.Targets.{with_targets}
-use Rattle.code_layout.specs.Emitting.{HasForm}
+use Rattle.member_link.specs.Targets.{with_targets, HasForm}
 use Rattle.code_layout.specs.Layout.{end_from, short_starts}
 use Rattle.code_layout.specs.declared.emitted.EmitItem.{EmitItem}
 

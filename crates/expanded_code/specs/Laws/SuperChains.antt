@@ -8,11 +8,10 @@ use Rattle.class_tree.specs.Interfaces.{IsInterfaceWalk, of_root, below}
 use Rattle.class_tree.specs.Laws.Above.{hierarchy_is_sound, hierarchy_is_rooted, object_no_superclass}
 use Rattle.class_tree.specs.Laws.Decided.{same_bytes}
 use Rattle.class_tree.specs.Laws.Headers.{class_there, own_name, super_is_there, superclass_is}
-use Rattle.class_tree.specs.Layouts.{classes_up, superclasses}
+use Rattle.class_tree.specs.Layouts.{classes_up, superclasses, chain}
 use Rattle.class_tree.specs.Names.{object}
 use Rattle.class_tree.specs.Order.{place_of}
 use Rattle.class_tree.specs.declared.place.Place.{Place}
-use Rattle.expanded_code.specs.Quiet.{chain}
 
 climb_low : (headers : Headers) (fuel : ℕ) (next : Option Place) → climb headers fuel next ≤ fuel
 unfolding climb

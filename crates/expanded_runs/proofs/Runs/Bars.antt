@@ -1,4 +1,6 @@
 -- A store into a final field is barred in both programs, or in none.
+use Rattle.class_tree.specs.Layouts.{chain as chain_of}
+use Rattle.same_runs.specs.ClearedFields.{ClearsFinal}
 use Rattle.std.proofs.Common.{◌≡◌, ◌<◌, ◌+◌, ◌&&◌, not, ℕ, zero, suc, Bool, true, false, List, [], ◌∷◌, bytes_eq, get_or, length, map, slice_get, Option, Some, None, option_map, IsTrue, IsFalse, if◌then◌else◌, refl, sym, ap, subst, ◌∙◌, arith, inl, inr}
 use Rattle.std.specs.Prelude.{option_and_then}
 use Rattle.std.specs.List.{list_any}
@@ -23,7 +25,6 @@ use Rattle.expanded_code.specs.Candidates.{Initialises, IsCandidate, StoresInto}
 use Rattle.expanded_code.specs.ExpandAnswers.{is_initialiser}
 use Rattle.expanded_code.specs.Expanded.{Setting, expanded, instr_points, point_in, set_frame}
 use Rattle.expanded_code.specs.Expansions.{Coded, Expands, Expansion}
-use Rattle.expanded_code.specs.Quiet.{chain as chain_of}
 use Rattle.expanded_code.specs.Sites.{HasFrames}
 use Rattle.expanded_runs.proofs.AloneProgram.{EachTyped, OneEach, pool-of-scope}
 use Rattle.expanded_runs.proofs.Runs.FlatOpLaws.{Bars}
@@ -36,7 +37,6 @@ use Rattle.expanded_runs.proofs.Runs.Setup.{IsSetup, Setup, after, before}
 use Rattle.expanded_runs.proofs.Runs.SiteInitialisers.{OfSite, ThisInInit, initialiser_of_site, no_clinit_stands, own_class_numbered}
 use Rattle.expanded_runs.proofs.Runs.StandingLaws.{stands_so}
 use Rattle.expanded_runs.proofs.Runs.Standings.{IsStanding, Stands}
-use Rattle.expanded_runs.specs.ExpandedPrograms.{ClearsFinal}
 use Rattle.flow_code.specs.FlatCode.{FlatCode}
 use Rattle.flow_code.specs.declared.point.FlatInstr.TheVariants.{Of}
 use Rattle.flow_code.specs.declared.point.Point.{Point}

@@ -2,12 +2,13 @@
 use Rattle.class_tree.specs.Headers.{Classes, headers_of}
 use Rattle.class_tree.specs.Hierarchy.{IsHierarchy}
 use Rattle.class_tree.specs.Trees.{IsTree}
-use Rattle.expanded_runs.specs.ExpandedPrograms.{AreExpanded, ReplacesByFlats}
+use Rattle.expanded_runs.specs.ExpandedPrograms.{AreExpanded}
 use Rattle.flow_code.specs.TypedFrames.{FolderFrames}
 use Rattle.member_link.specs.Machine.Classes.{program_of}
 use Rattle.member_link.specs.Machine.Links.{AreLinksOf}
 use Rattle.member_link.specs.Machine.Programs.{Links, Program}
 use Rattle.member_link.specs.Machine.Replaced.{Replacement, replaced}
+use Rattle.same_runs.specs.ClearedFields.{ReplacesByFlats}
 use Rattle.same_runs.specs.Flats.{Flats}
 use Rattle.type_rules.specs.Verified.{TypesFolder}
 use Rattle.typed_runs.specs.FolderTypings.{HasTypings}

@@ -1,4 +1,5 @@
 -- An instance initialiser that stands in flat code is of the class of a site, or of a class above it.
+use Rattle.class_tree.specs.Layouts.{chain}
 use Rattle.std.proofs.Common.{◌≡◌, ◌≢◌, ◌⊎◌, ◌++◌, ℕ, zero, suc, Bool, true, false, List, [], ◌∷◌, bytes_eq, slice_get, Option, Some, None, option_map, IsTrue, if◌then◌else◌, refl, sym, ap, subst, ◌∙◌, inl, inr}
 use Rattle.std.specs.List.{list_any}
 use Rattle.std.proofs.lemmas.Bool.{false≢true, or_right}
@@ -23,7 +24,6 @@ use Rattle.expanded_code.specs.Expanded.{expanded}
 use Rattle.expanded_code.specs.Expansions.{Coded, Expands, Expansion}
 use Rattle.expanded_code.specs.Laws.Instructions.{calls_of, new_there}
 use Rattle.expanded_code.specs.Laws.SuperChains.{chain_is, chain_of_object, has_superclass, of_each_class, super_there}
-use Rattle.expanded_code.specs.Quiet.{chain}
 use Rattle.expanded_code.specs.Sites.{HasFrames, IsReplaced, IsSite}
 use Rattle.expanded_runs.proofs.AloneProgram.{EachTyped, OneEach}
 use Rattle.expanded_runs.proofs.Runs.CalledNames.{clinit_named, init_named, init_of_named, method_at, run_has_name}

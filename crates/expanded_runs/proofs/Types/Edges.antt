@@ -1,4 +1,5 @@
 -- Where control goes among the instructions of a method that stands in flat code: as in its own code, and to frames in their place.
+use Rattle.flow_code.specs.ReadTypes.{class_of_site, read_frame, read_type}
 use Rattle.std.proofs.Common.{◌≡◌, ◌+◌, ◌≤◌, ◌<◌, ℕ, List, [], ◌∷◌, ◌++◌, ◌⊎◌, length, map, slice_get, Option, Some, None, option_map, IsTrue, refl, sym, ap, subst, ◌∙◌, arith}
 use Rattle.std.specs.List.{list_any}
 use Rattle.std.proofs.lemmas.List.{length-map, map-append}
@@ -9,7 +10,6 @@ use Rattle.class_model.specs.declared.frame.VType.TheVariants as types
 use Rattle.class_tree.specs.Headers.{Headers, Name}
 use Rattle.expanded_code.specs.Expanded.{Setting, overlaid, set_frame, set_type}
 use Rattle.expanded_runs.proofs.Types.Units.{ThisAt, Where, all_assignable, append_assignable, as_long, block_long, each_assignable, get_inside, get_outside, has_this, inside, outside, this_at, to_themselves, where_is}
-use Rattle.expanded_runs.specs.ReadTypes.{class_of_site, read_frame, read_type}
 use Rattle.flow_code.specs.FlatCode.{FlatCode}
 use Rattle.member_link.specs.Assignability.{IsAssignable, from_null, of_names, to_same, to_top}
 use Rattle.member_link.specs.Rows.FrameAssignability.{AreAssignable, IsFrameAssignable, is_uninit_this}

@@ -1,4 +1,6 @@
 -- The points before a callee's instructions are typed.
+use Rattle.flow_code.specs.ReadTypes.{read_frame, read_type}
+use Rattle.same_runs.specs.TypedFlats.{MayGoToPoint, TypesPoint}
 use Rattle.std.proofs.Common.{◌≡◌, ◌≢◌, ◌+◌, ◌-◌, ◌≤◌, ◌<◌, ℕ, zero, suc, Bool, true, false, List, [], ◌∷◌, ◌++◌, length, map, drop, replicate, reverse, slice_get, Some, IsTrue, if◌then◌else◌, refl, sym, ap, subst, ◌∙◌, arith, inl, inr, append-nil}
 use Rattle.std.specs.Prelude.{IsSome}
 use Rattle.std.specs.List.{AllByRecursion, list_any}
@@ -37,7 +39,6 @@ use Rattle.expanded_runs.proofs.Types.StorePoints.{same_over, stores_typed, unit
 use Rattle.expanded_runs.proofs.Types.StoredUnits.{IsClear, read_kind, stores_over}
 use Rattle.expanded_runs.proofs.Types.ThroughClass.{ArrayInterfaces}
 use Rattle.expanded_runs.proofs.Types.Units.{TopsFrom, as_long, get_replicate, get_back, get_inside, item_there, to_themselves}
-use Rattle.expanded_runs.specs.ReadTypes.{MayGoToPoint, TypesPoint, read_frame, read_type}
 use Rattle.flow_code.specs.FlatCode.{FlatCode, point_at}
 use Rattle.flow_code.specs.FlatRoom.{stack_room}
 use Rattle.flow_code.specs.TypedFrames.{FolderFrames}

@@ -1,4 +1,5 @@
 -- The frame behind the stores of a callee's arguments may stand for the callee's first frame, in its place.
+use Rattle.flow_code.specs.ReadTypes.{read_type}
 use Rattle.std.proofs.Common.{◌≡◌, ◌≢◌, ◌+◌, ◌-◌, ◌≤◌, ◌<◌, ◌⊎◌, ℕ, Bool, true, false, List, [], ◌∷◌, ◌++◌, length, map, take, drop, replicate, slice_get, Option, Some, None, IsTrue, if◌then◌else◌, refl, sym, ap, subst, ◌∙◌, arith, inl, inr}
 use Rattle.std.specs.List.{AllByRecursion, list_any}
 use Rattle.std.proofs.lemmas.List.{length-append, length-replicate, map-append}
@@ -21,7 +22,6 @@ use Rattle.expanded_runs.proofs.Types.EntryTypes.{AreArguments, params_free, par
 use Rattle.expanded_runs.proofs.Types.StoredUnits.{ArgumentsLaid, one_more_laid}
 use Rattle.expanded_runs.proofs.Types.ThroughClass.{ArrayInterfaces}
 use Rattle.expanded_runs.proofs.Types.Units.{TopsFrom, Where, append_assignable, get_back, get_front, get_inside, get_outside, get_replicate, has_this, inside, le_cases, outside, same_lists, this_at, to_themselves, where_is}
-use Rattle.expanded_runs.specs.ReadTypes.{read_type}
 use Rattle.flow_code.specs.FlatCode.{FlatCode}
 use Rattle.member_link.specs.Assignability.{IsAssignable}
 use Rattle.member_link.specs.Rows.FrameAssignability.{AreAssignable, is_uninit_this}

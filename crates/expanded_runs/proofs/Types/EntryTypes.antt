@@ -1,4 +1,5 @@
 -- What is passed to a callee may stand for what its first frame says.
+use Rattle.flow_code.specs.ReadTypes.{read_type}
 use Rattle.std.proofs.Common.{◌≡◌, ◌≢◌, ◌+◌, ℕ, zero, suc, List, [], ◌∷◌, ◌++◌, length, map, replicate, refl, sym, ap, subst}
 use Rattle.std.specs.List.{AllByRecursion}
 use Rattle.class_model.specs.Code.{verification_type}
@@ -17,7 +18,6 @@ use Rattle.expanded_runs.proofs.Types.CallFacts.{passes}
 use Rattle.expanded_runs.proofs.Types.FrameFacts.{top_only}
 use Rattle.expanded_runs.proofs.Types.StoredUnits.{ArgumentsLaid, none_laid, one_more_laid}
 use Rattle.expanded_runs.proofs.Types.ThroughClass.{ArrayInterfaces, IsKnown}
-use Rattle.expanded_runs.specs.ReadTypes.{read_type}
 use Rattle.flow_code.specs.FlatCode.{FlatCode}
 use Rattle.member_link.specs.Assignability.{IsAssignable, from_null, of_names, to_same, to_top}
 use Rattle.member_link.specs.Rows.FrameAssignability.{AreAssignable}

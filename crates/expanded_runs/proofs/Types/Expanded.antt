@@ -1,4 +1,5 @@
 -- The typed points of expanded code type it, by what is known of the rows of its methods.
+use Rattle.same_runs.specs.TypedFlats.{TypesFlat, TypesPoint}
 use Rattle.std.proofs.Common.{◌≡◌, ◌≢◌, ℕ, List, [], ◌∷◌, length, map, slice_get, Option, Some, None, refl, sym, ap, subst, ◌∙◌, arith}
 use Rattle.std.specs.Prelude.{IsSome}
 use Rattle.std.specs.List.{AllByRecursion}
@@ -37,7 +38,6 @@ use Rattle.expanded_runs.proofs.Types.Returns.{returns_typed}
 use Rattle.expanded_runs.proofs.Types.StandingUnits.{HasNarrowThis, folder_paired, narrow_block}
 use Rattle.expanded_runs.proofs.Types.ThroughClass.{ArrayInterfaces, IsKnown}
 use Rattle.expanded_runs.proofs.Types.Units.{item_there}
-use Rattle.expanded_runs.specs.ReadTypes.{TypesFlat, TypesPoint}
 use Rattle.flow_code.specs.FlatCode.{FlatCode}
 use Rattle.flow_code.specs.TypedFrames.{FolderFrames}
 use Rattle.member_link.specs.Rows.FrameAssignability.{IsFrameAssignable}

@@ -1,4 +1,5 @@
 -- The place of a method in flat code, by its setting: its types, read, and what its rows read there.
+use Rattle.flow_code.specs.ReadTypes.{class_of_site, read_frame, read_type}
 use Rattle.std.proofs.Common.{◌≡◌, ◌≢◌, ◌+◌, ◌≤◌, ℕ, suc, false, List, [], ◌∷◌, ◌++◌, length, map, slice_get, replicate, zero, Option, Some, None, option_map, refl, sym, ap, subst, ◌∙◌, inl, inr, arith}
 use Rattle.std.specs.Prelude.{◌==◌, ◌⊎◌}
 use Rattle.std.proofs.lemmas.List.{length-map, map-append}
@@ -18,7 +19,6 @@ use Rattle.expanded_runs.proofs.Types.PlacedMembers.{HasThis, IsWithout, KeepsNe
 use Rattle.expanded_runs.proofs.Types.PlacedReads.{HasRoom}
 use Rattle.expanded_runs.proofs.Types.PlacedThis.{IsWithoutThis}
 use Rattle.expanded_runs.proofs.Types.PlacedTypes.{Place, flat_scope, new_type, placed_frame, placed_type, this_type}
-use Rattle.expanded_runs.specs.ReadTypes.{class_of_site, read_frame, read_type}
 use Rattle.flow_code.specs.FlatCode.{FlatCode}
 use Rattle.flow_code.specs.FlatRoom.{deepest, stack_room}
 use Rattle.flow_code.specs.declared.point.FlatInstr.TheVariants.{Of}

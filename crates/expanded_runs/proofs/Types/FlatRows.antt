@@ -1,5 +1,8 @@
 -- The row of each instruction of a method that stays in flat code, as it is read there: it holds, and the frame behind it may stand for
 -- what the frame of the method may stand for.
+use Rattle.flow_code.specs.ReadTypes.{class_of_site, is_site_object, read_frame, read_type}
+use Rattle.member_link.specs.Rows.Readings.{Reading, reads_itself, reads_pop, row_by}
+use Rattle.same_runs.specs.TypedFlats.{read_row, reading_of, reading_of_call, reading_of_new}
 use Rattle.std.proofs.Common.{◌≡◌, ◌≢◌, ◌+◌, ◌-◌, ◌≤◌, ℕ, zero, suc, Bool, true, false, List, [], ◌∷◌, ◌++◌, length, map, take, drop, Option, Some, None, is_some, if◌then◌else◌, refl, sym, ap, subst, ◌∙◌, inl, inr, arith}
 use Rattle.std.specs.Prelude.{◌==◌, ◌&&◌, ◌⊎◌, bytes_eq}
 use Rattle.std.proofs.lemmas.Bool.{eqb-true}
@@ -25,7 +28,6 @@ use Rattle.expanded_runs.proofs.Types.PlacedRows.{has_enough}
 use Rattle.expanded_runs.proofs.Types.PlacedTable.{CallStays, Stays, placed_instr, row_moves}
 use Rattle.expanded_runs.proofs.Types.PlacedThis.{IsWithoutThis, frame_without, none_behind}
 use Rattle.expanded_runs.proofs.Types.PlacedTypes.{Place, flat_scope, placed_frame, this_type}
-use Rattle.expanded_runs.specs.ReadTypes.{Reading, class_of_site, is_site_object, read_frame, read_row, read_type, reading_of, reading_of_call, reading_of_new, reads_itself, reads_pop, row_by}
 use Rattle.flow_code.specs.FlatCode.{FlatCode}
 use Rattle.flow_code.specs.declared.point.FlatInstr.TheVariants.{Of}
 use Rattle.member_link.specs.BodyTyping.{MayGoTo, RowHolds}

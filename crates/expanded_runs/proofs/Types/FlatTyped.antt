@@ -1,4 +1,5 @@
 -- The typed points of flat code type it, if those of instructions that stay, of entries and of returns do.
+use Rattle.same_runs.specs.TypedFlats.{MayGoToPoint, TypesFlat, TypesPoint}
 use Rattle.std.proofs.Common.{◌≡◌, ◌≢◌, ◌==◌, ◌+◌, ℕ, zero, suc, Bool, true, false, List, [], ◌∷◌, ◌++◌, map, reverse, slice_get, Option, Some, None, if◌then◌else◌, refl, sym, ap, subst, ◌∙◌, arith, inl, inr}
 use Rattle.std.specs.Prelude.{IsSome}
 use Rattle.std.specs.List.{AllByRecursion, flat_map}
@@ -25,7 +26,6 @@ use Rattle.expanded_runs.proofs.Types.FlatParts.{EntryPart, IsOwn, OwnPart, Part
 use Rattle.expanded_runs.proofs.Types.FrameFacts.{FrameFacts}
 use Rattle.expanded_runs.proofs.Types.Handlers.{handlers_typed, same_itself}
 use Rattle.expanded_runs.proofs.Types.OwnPoints.{PlacedRow, TypingLaws, own_headers, own_point, own_point_typed, own_typed}
-use Rattle.expanded_runs.specs.ReadTypes.{MayGoToPoint, TypesFlat, TypesPoint}
 use Rattle.flow_code.specs.TypedFrames.{FolderFrames}
 use Rattle.flow_code.specs.declared.handlers.FlatHandler.{FlatHandler}
 use Rattle.flow_code.specs.declared.point.Point.{Point}

@@ -1,4 +1,6 @@
 -- The handlers around what stands in flat code are the host's, and each begins with what stands there: units of callees are Top in its frame.
+use Rattle.flow_code.specs.ReadTypes.{read_frame, read_type}
+use Rattle.same_runs.specs.TypedFlats.{MayGoToPoint}
 use Rattle.std.proofs.Common.{◌≡◌, ◌≢◌, ◌==◌, ◌+◌, ◌≤◌, ◌<◌, ℕ, Bool, true, false, List, [], ◌∷◌, ◌++◌, length, map, slice_get, Option, Some, None, if◌then◌else◌, refl, sym, ap, subst, ◌∙◌, arith, inl, inr}
 use Rattle.std.specs.Prelude.{IsSome}
 use Rattle.std.specs.List.{AllByRecursion, flat_map}
@@ -25,7 +27,6 @@ use Rattle.expanded_runs.proofs.Types.Edges.{frame_kept, placed_frame, read_this
 use Rattle.expanded_runs.proofs.Types.FrameFacts.{FrameFacts, frame_fits, tops_behind, whole}
 use Rattle.expanded_runs.proofs.Types.OwnPoints.{TypingLaws, edges_at, goes_to_place, one_frame, own_headers}
 use Rattle.expanded_runs.proofs.Types.Units.{TopsFrom, all_assignable, as_long, each_assignable, get_inside, get_outside, has_this, inside, le_cases, outside, this_at, where_is}
-use Rattle.expanded_runs.specs.ReadTypes.{MayGoToPoint, read_frame, read_type}
 use Rattle.flow_code.specs.FlatCode.{FlatCode}
 use Rattle.flow_code.specs.TypedFrames.{FolderFrames}
 use Rattle.flow_code.specs.declared.handlers.FlatHandler.{FlatHandler}

@@ -1,4 +1,6 @@
 -- The frame that a host begins with, with all units of its flat code, may stand for the first point of the flat code.
+use Rattle.flow_code.specs.ReadTypes.{read_type}
+use Rattle.same_runs.specs.TypedFlats.{MayGoToPoint}
 use Rattle.std.proofs.Common.{◌≡◌, ◌+◌, ◌-◌, ◌≤◌, ◌++◌, ℕ, zero, suc, Bool, true, false, List, [], ◌∷◌, length, map, drop, replicate, slice_get, Option, Some, None, refl, sym, ap, subst, ◌∙◌, arith}
 use Rattle.std.proofs.lemmas.List.{append_assoc, drop-replicate, length-append, length-map, length-replicate, map-append, replicate-append-replicate}
 use Rattle.class_model.specs.Code.{verification_type}
@@ -25,7 +27,6 @@ use Rattle.expanded_runs.proofs.Types.EntryFrames.{this_of}
 use Rattle.expanded_runs.proofs.Types.FrameFacts.{FrameFacts, frame_fits}
 use Rattle.expanded_runs.proofs.Types.OwnPoints.{TypingLaws, goes_to}
 use Rattle.expanded_runs.proofs.Types.Units.{as_long}
-use Rattle.expanded_runs.specs.ReadTypes.{MayGoToPoint, read_type}
 use Rattle.flow_code.specs.FlatCode.{FlatCode}
 use Rattle.flow_code.specs.TypedFrames.{FolderFrames}
 use Rattle.member_link.specs.Rows.FrameAssignability.{IsFrameAssignable}

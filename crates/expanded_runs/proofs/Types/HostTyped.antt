@@ -1,4 +1,5 @@
 -- The typed points of the flat code of a host type it, by what is known of its calls that are replaced.
+use Rattle.same_runs.specs.TypedFlats.{TypesFlat}
 use Rattle.std.proofs.Common.{ℕ, List, [], length}
 use Rattle.class_model.specs.declared.class_file.MethodAt.{MethodAt}
 use Rattle.class_model.specs.declared.frame.Frame.{Frame}
@@ -23,7 +24,6 @@ use Rattle.expanded_runs.proofs.Types.OwnPoints.{TypingLaws}
 use Rattle.expanded_runs.proofs.Types.StandingRows.{flat_rows, host_no_init, narrow_this}
 use Rattle.expanded_runs.proofs.Types.ThisWithin.{NoThisStanding}
 use Rattle.expanded_runs.proofs.Types.ThroughClass.{ArrayInterfaces}
-use Rattle.expanded_runs.specs.ReadTypes.{TypesFlat}
 use Rattle.member_link.specs.Rows.Operands.{topmost}
 use Rattle.member_link.specs.Scope.{Scope, instructions}
 

@@ -1,4 +1,5 @@
 -- What the row of a call of an initialiser that is replaced says: the object becomes an initialised one, where it is read as one before.
+use Rattle.flow_code.specs.ReadTypes.{read_type}
 use Rattle.std.proofs.Common.{◌≡◌, ◌≢◌, ◌⊎◌, ◌==◌, ◌+◌, ◌≤◌, ℕ, suc, Bool, true, false, List, [], ◌∷◌, ◌++◌, length, map, slice_get, Option, Some, refl, sym, ap, subst, ◌∙◌, arith, inl, inr}
 use Rattle.std.specs.Prelude.{bytes_eq}
 use Rattle.std.proofs.lemmas.Bool.{eqb-true}
@@ -27,7 +28,6 @@ use Rattle.expanded_runs.proofs.Types.Entries.{topmost_set}
 use Rattle.expanded_runs.proofs.Types.EntryFrames.{PassedValues, passed_object, this_of}
 use Rattle.expanded_runs.proofs.Types.PlainCalls.{args_fit, enough_there, known_top, object_count}
 use Rattle.expanded_runs.proofs.Types.ThroughClass.{IsKnown}
-use Rattle.expanded_runs.specs.ReadTypes.{read_type}
 use Rattle.flow_code.specs.FlatCode.{FlatCode}
 use Rattle.member_link.specs.Assignability.{IsAssignable, from_null, of_names, to_same, to_top}
 use Rattle.member_link.specs.BodyTyping.{RowHolds}

@@ -1,11 +1,11 @@
 -- A typed folder in which no flat code takes the place of a method's own.
+use Rattle.same_runs.specs.ClearedFields.{ReplacesByFlats}
 use Rattle.std.proofs.Common.{◌≡◌, Some, None, refl}
 use Rattle.class_model.specs.Members.{has}
 use Rattle.class_tree.specs.Headers.{Classes, headers_of}
 use Rattle.class_tree.specs.Hierarchy.{IsHierarchy}
 use Rattle.class_tree.specs.Trees.{IsTree}
 use Rattle.expanded_runs.proofs.Runs.Setup.{IsSetup, Setup, before}
-use Rattle.expanded_runs.specs.ExpandedPrograms.{ReplacesByFlats}
 use Rattle.flow_code.specs.FlatCode.{FlatCode}
 use Rattle.flow_code.specs.TypedFrames.{FolderFrames}
 use Rattle.member_link.specs.Machine.Links.{AreLinksOf}

@@ -1,4 +1,6 @@
 -- The points of instructions that stay: where their rows hold in their place, control goes from them to frames in their place.
+use Rattle.flow_code.specs.ReadTypes.{read_frame}
+use Rattle.same_runs.specs.TypedFlats.{MayGoToPoint, TypesPoint, read_at, read_row}
 use Rattle.std.proofs.Common.{◌≡◌, ◌+◌, ℕ, suc, Bool, true, false, List, [], ◌∷◌, map, slice_get, Option, Some, None, option_map, if◌then◌else◌, refl, sym, ap, subst, ◌∙◌, arith}
 use Rattle.std.specs.Prelude.{IfSome, option_and_then}
 use Rattle.std.specs.List.{AllByRecursion}
@@ -29,7 +31,6 @@ use Rattle.expanded_runs.proofs.Types.Edges.{placed_frame}
 use Rattle.expanded_runs.proofs.Types.FrameFacts.{FrameFacts}
 use Rattle.expanded_runs.proofs.Types.Starts.{start_typed}
 use Rattle.expanded_runs.proofs.Types.Units.{item_there, to_themselves}
-use Rattle.expanded_runs.specs.ReadTypes.{MayGoToPoint, TypesPoint, read_at, read_frame, read_row}
 use Rattle.flow_code.specs.FlatCode.{FlatCode}
 use Rattle.flow_code.specs.TypedFrames.{FolderFrames, typed_frames_at}
 use Rattle.flow_code.specs.declared.point.Point.{Point}

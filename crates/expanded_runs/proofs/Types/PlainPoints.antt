@@ -1,4 +1,6 @@
 -- Points whose instruction takes some entries, gives others, and goes on behind.
+use Rattle.flow_code.specs.ReadTypes.{read_frame}
+use Rattle.same_runs.specs.TypedFlats.{MayGoToPoint, TypesPoint, read_at, read_row}
 use Rattle.std.proofs.Common.{◌≡◌, ◌+◌, ◌≤◌, ◌-◌, ℕ, Bool, true, false, List, [], ◌∷◌, length, drop, Option, Some, None, option_map, if◌then◌else◌, refl, sym, ap, subst, ◌∙◌, arith}
 use Rattle.std.specs.Prelude.{IfSome}
 use Rattle.std.specs.List.{AllByRecursion}
@@ -8,7 +10,6 @@ use Rattle.class_model.specs.declared.frame.Frame.{Frame}
 use Rattle.class_model.specs.declared.frame.VType.{VType}
 use Rattle.class_tree.specs.Headers.{Classes}
 use Rattle.expanded_runs.proofs.StackRoom.{no_deeper, two_each}
-use Rattle.expanded_runs.specs.ReadTypes.{MayGoToPoint, TypesPoint, read_at, read_frame, read_row}
 use Rattle.flow_code.specs.FlatCode.{FlatCode, point_at}
 use Rattle.flow_code.specs.FlatRoom.{stack_room}
 use Rattle.flow_code.specs.declared.point.Point.{Point}

@@ -1,4 +1,5 @@
 -- The rows of special calls that are replaced, and with them those of all.
+use Rattle.flow_code.specs.ReadTypes.{class_of_site, read_type}
 use Rattle.std.proofs.Common.{◌≡◌, ◌≢◌, ℕ, Bool, true, false, List, Option, Some, None, bytes_eq, refl, sym, ap, subst, ◌∙◌}
 use Rattle.std.proofs.lemmas.Bool.{eq-eqb, false≢true}
 use Rattle.std.proofs.lemmas.Slice.Eq.{bytes_eq-Decides}
@@ -32,7 +33,6 @@ use Rattle.expanded_runs.proofs.Types.OwnPoints.{TypingLaws, scope_headers}
 use Rattle.expanded_runs.proofs.Types.ReplacedRows.{RowSays, instr_is, known, on_passes, own_classes, row, row_says, there}
 use Rattle.expanded_runs.proofs.Types.SiteObjects.{call as site_call, initialises, row_of_callee, site_setting, there as site_there, this_is}
 use Rattle.expanded_runs.proofs.Types.SpecialCalls.{special_leaves, special_own, special_passed, special_target}
-use Rattle.expanded_runs.specs.ReadTypes.{class_of_site, read_type}
 use Rattle.flow_code.specs.FlatCode.{FlatCode}
 use Rattle.member_link.specs.Access.{IsAtOrBelow}
 use Rattle.member_link.specs.Assignability.{IsAssignable}

@@ -1,4 +1,5 @@
 -- What a callee leaves where it returns may stand for the frame behind its call, in its place.
+use Rattle.flow_code.specs.ReadTypes.{read_type}
 use Rattle.std.proofs.Common.{◌≡◌, ◌≢◌, ◌+◌, ◌-◌, ◌≤◌, ℕ, suc, Bool, List, [], ◌∷◌, ◌++◌, length, map, take, drop, slice_get, Option, Some, None, option_map, if◌then◌else◌, refl, sym, ap, subst, ◌∙◌, arith, inl}
 use Rattle.std.specs.Prelude.{IsSome}
 use Rattle.std.proofs.lemmas.List.{append_assoc, length-append, length-map, map-append, take-map}
@@ -27,7 +28,6 @@ use Rattle.expanded_runs.proofs.Types.Handlers.{SameBefore, same_before_assignab
 use Rattle.expanded_runs.proofs.Types.OwnPoints.{TypingLaws, flows_to, next_at, next_is}
 use Rattle.expanded_runs.proofs.Types.ThroughClass.{ArrayInterfaces, IsKnown}
 use Rattle.expanded_runs.proofs.Types.Units.{ThisAt, TopsFrom, append_assignable, as_long, each_assignable, get_inside, get_outside, has_this, inside, outside, this_at, where_is}
-use Rattle.expanded_runs.specs.ReadTypes.{read_type}
 use Rattle.flow_code.specs.FlatCode.{FlatCode}
 use Rattle.flow_code.specs.TypedFrames.{FolderFrames}
 use Rattle.member_link.specs.Assignability.{IsAssignable}

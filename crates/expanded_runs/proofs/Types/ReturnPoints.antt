@@ -1,4 +1,6 @@
 -- The points in place of a callee's return: the result is narrowed, and control goes behind the call.
+use Rattle.flow_code.specs.ReadTypes.{read_frame, read_type}
+use Rattle.same_runs.specs.TypedFlats.{MayGoToPoint, TypesPoint}
 use Rattle.std.proofs.Common.{◌≡◌, ◌+◌, ◌≤◌, ℕ, zero, suc, List, [], ◌∷◌, ◌++◌, length, map, slice_get, Option, Some, None, refl, sym, ap, subst, ◌∙◌, arith, append-nil}
 use Rattle.std.specs.Prelude.{pos}
 use Rattle.std.specs.List.{AllByRecursion}
@@ -22,7 +24,6 @@ use Rattle.expanded_runs.proofs.Types.CallFacts.{Returned, returned_none, return
 use Rattle.expanded_runs.proofs.Types.OwnPoints.{itself}
 use Rattle.expanded_runs.proofs.Types.PlainPoints.{goes_typed, has_room, read_there, topmost_none, under_none}
 use Rattle.expanded_runs.proofs.Types.ReturnFrames.{topmost_back, under_back}
-use Rattle.expanded_runs.specs.ReadTypes.{MayGoToPoint, TypesPoint, read_frame, read_type}
 use Rattle.flow_code.specs.FlatCode.{FlatCode, point_at}
 use Rattle.flow_code.specs.FlatRoom.{stack_room}
 use Rattle.flow_code.specs.declared.point.Point.{Point}

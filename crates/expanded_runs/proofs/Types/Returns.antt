@@ -1,4 +1,6 @@
 -- The points of each return of a callee are typed.
+use Rattle.flow_code.specs.ReadTypes.{read_frame}
+use Rattle.same_runs.specs.TypedFlats.{MayGoToPoint, TypesPoint}
 use Rattle.std.proofs.Common.{◌≡◌, ◌≢◌, ◌+◌, ℕ, suc, List, ◌∷◌, slice_get, Option, Some, refl, sym, ap, subst, ◌∙◌}
 use Rattle.std.specs.Prelude.{IsSome}
 use Rattle.std.proofs.lemmas.Option.{same_Some}
@@ -27,7 +29,6 @@ use Rattle.expanded_runs.proofs.Types.OwnPoints.{TypingLaws, goes_to, number_is,
 use Rattle.expanded_runs.proofs.Types.ReturnFrames.{behind_call, return_assignable}
 use Rattle.expanded_runs.proofs.Types.ReturnPoints.{return_points_typed}
 use Rattle.expanded_runs.proofs.Types.ThroughClass.{ArrayInterfaces}
-use Rattle.expanded_runs.specs.ReadTypes.{MayGoToPoint, TypesPoint, read_frame}
 use Rattle.flow_code.specs.TypedFrames.{FolderFrames}
 use Rattle.flow_code.specs.declared.point.Point.{Point}
 use Rattle.member_link.specs.BodyTyping.{RowHolds}

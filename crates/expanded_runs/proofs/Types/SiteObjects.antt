@@ -1,4 +1,5 @@
 -- The own object of an initialiser that stands in flat code is that of a candidate site, of its class or of one below.
+use Rattle.flow_code.specs.ReadTypes.{class_of_site}
 use Rattle.std.proofs.Common.{◌≡◌, ◌==◌, ◌+◌, ◌≤◌, ℕ, true, false, List, ◌∷◌, ◌++◌, bytes_eq, length, map, slice_get, Some, ◌⊎◌, refl, sym, ap, subst, ◌∙◌, arith, inl, inr}
 use Rattle.std.specs.Prelude.{is_some}
 use Rattle.std.proofs.lemmas.Bool.{eq-eqb}
@@ -46,7 +47,6 @@ use Rattle.expanded_runs.proofs.Types.OwnPoints.{TypingLaws, row_at, scope_heade
 use Rattle.expanded_runs.proofs.Types.PlacedRows.{has_enough}
 use Rattle.expanded_runs.proofs.Types.SitesThere.{made_by, site_here}
 use Rattle.expanded_runs.proofs.Types.StandingPlaces.{CalleeHere, callee_here, host_scope_is, number_of_instr, start_number}
-use Rattle.expanded_runs.specs.ReadTypes.{class_of_site}
 use Rattle.member_link.specs.Access.{IsAtOrBelow}
 use Rattle.member_link.specs.BodyTyping.{RowHolds}
 use Rattle.member_link.specs.References.{Reference}

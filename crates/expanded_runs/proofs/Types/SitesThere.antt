@@ -1,4 +1,5 @@
 -- Which class the candidate site at the number of an instruction has: that which becomes of the instruction.
+use Rattle.flow_code.specs.ReadTypes.{class_of_site}
 use Rattle.std.proofs.Common.{◌≡◌, ◌==◌, ◌+◌, ◌≤◌, ◌<◌, ◌++◌, ℕ, zero, suc, Bool, true, false, List, [], ◌∷◌, length, slice_get, Option, Some, None, if◌then◌else◌, refl, sym, ap, subst, ◌∙◌, arith, ◌⊎◌, inl, inr}
 use Rattle.std.proofs.lemmas.Bool.{eqb-true, ne_eqb, eq-eqb}
 use Rattle.std.proofs.lemmas.Option.{none-some}
@@ -12,7 +13,6 @@ use Rattle.expanded_runs.proofs.Runs.Positions.{Becomes, Standing, becomes, inst
 use Rattle.expanded_runs.proofs.Runs.Standings.{IsStanding, callee_stands, host_stands}
 use Rattle.expanded_runs.proofs.Types.FlatParts.{IsOwn, own_remains, own_site}
 use Rattle.expanded_runs.proofs.Types.InstrStarts.{own_least}
-use Rattle.expanded_runs.specs.ReadTypes.{class_of_site}
 use Rattle.flow_code.specs.declared.point.Site.{Site}
 use Rattle.member_link.specs.Scope.{Scope, instructions}
 

@@ -1,5 +1,6 @@
 -- Special calls that stay in flat code: an initialiser is called on the object of no candidate site, but that of java/lang/Object on the object
 -- of an initialiser that is a callee.
+use Rattle.flow_code.specs.ReadTypes.{class_of_site, is_site_object}
 use Rattle.std.proofs.Common.{◌≡◌, ◌≢◌, ◌==◌, ◌+◌, ℕ, Bool, true, false, List, ◌∷◌, bytes_eq, length, slice_get, Option, Some, None, option_map, IsSome, IsTrue, refl, sym, ap, subst, ◌∙◌}
 use Rattle.std.proofs.lemmas.Bool.{eqb-true, false≢true}
 use Rattle.std.proofs.lemmas.Option.{same_Some}
@@ -39,7 +40,6 @@ use Rattle.expanded_runs.proofs.Types.SiteObjects.{call, init_row_at, initialise
 use Rattle.expanded_runs.proofs.Types.SitesThere.{is_own, made_by, own_true, site_here}
 use Rattle.expanded_runs.proofs.Types.StandingPlaces.{host_scope_is, new_at, new_is_own, number_of_instr, start_number}
 use Rattle.expanded_runs.proofs.Types.ThisWithin.{NoThisStanding}
-use Rattle.expanded_runs.specs.ReadTypes.{class_of_site, is_site_object}
 use Rattle.flow_code.specs.TypedFrames.{FolderFrames, typed_frames_at}
 use Rattle.member_link.specs.BodyTyping.{RowHolds}
 use Rattle.member_link.specs.Machine.CallSteps.{is_object_init}

@@ -1,4 +1,6 @@
 -- The points that store a callee's arguments are typed.
+use Rattle.flow_code.specs.ReadTypes.{read_frame, read_type}
+use Rattle.same_runs.specs.TypedFlats.{MayGoToPoint, TypesPoint}
 use Rattle.std.proofs.Common.{◌≡◌, ◌≢◌, ◌+◌, ◌≤◌, ℕ, zero, suc, List, [], ◌∷◌, ◌++◌, length, map, reverse, slice_get, Some, option_map, refl, sym, ap, subst, ◌∙◌, arith, inl, inr, append-nil}
 use Rattle.std.specs.List.{AllByRecursion}
 use Rattle.std.proofs.lemmas.List.{append_assoc, length-append, length-map, length-reverse, map-append}
@@ -21,7 +23,6 @@ use Rattle.expanded_runs.proofs.Types.PlainPoints.{goes_typed, read_there}
 use Rattle.expanded_runs.proofs.Types.ReturnFrames.{lowest_back, topmost_back, under_back}
 use Rattle.expanded_runs.proofs.Types.StoredUnits.{ArgumentsLaid, IsClear, clear_tops, last_reversed, later_tops, none_laid, one_more_laid, read_kind, some_units, stored_over, stored_read, stores_over}
 use Rattle.expanded_runs.proofs.Types.Units.{TopsFrom, block_long, get_back, get_inside, get_outside, inside, outside, where_is}
-use Rattle.expanded_runs.specs.ReadTypes.{MayGoToPoint, TypesPoint, read_frame, read_type}
 use Rattle.flow_code.specs.FlatCode.{FlatCode, point_at}
 use Rattle.flow_code.specs.declared.point.Point.{Point}
 use Rattle.member_link.specs.Bodies.{caught_type}

@@ -1,4 +1,5 @@
 -- The locals behind the stores of a callee's arguments: their units in a block, over those that were there.
+use Rattle.flow_code.specs.ReadTypes.{class_of_site, read_type}
 use Rattle.std.proofs.Common.{◌≡◌, ◌+◌, ◌≤◌, ℕ, zero, suc, Bool, true, false, List, [], ◌∷◌, ◌++◌, length, map, drop, take, reverse, slice_get, Option, Some, None, option_map, if◌then◌else◌, refl, sym, ap, ◌∙◌, arith, inl, append-nil}
 use Rattle.std.specs.Prelude.{slice_set}
 use Rattle.std.proofs.lemmas.List.{append_assoc, length-append, map-set, reverse-append, take-append-drop}
@@ -13,7 +14,6 @@ use Rattle.class_tree.specs.Headers.{Name}
 use Rattle.expanded_code.specs.Expanded.{Argument, frame_behind_stores, frame_stored, overlaid}
 use Rattle.expanded_runs.proofs.Types.ReturnFrames.{lowest_back, under_back}
 use Rattle.expanded_runs.proofs.Types.Units.{TopsFrom, get_outside}
-use Rattle.expanded_runs.specs.ReadTypes.{class_of_site, read_type}
 use Rattle.flow_code.specs.FlatCode.{FlatCode}
 use Rattle.member_link.specs.Rows.LocalRows.{cut_before, stored, with_units}
 use Rattle.member_link.specs.Rows.Operands.{IsOfKind}

@@ -1,4 +1,5 @@
 -- The typed points of each flat code of a verified folder type it.
+use Rattle.same_runs.specs.TypedFlats.{TypesFlat}
 use Rattle.std.proofs.Common.{◌≡◌, ℕ, List, [], Some, sym, subst}
 use Rattle.class_model.specs.declared.class_file.MethodAt.{MethodAt}
 use Rattle.class_model.specs.declared.frame.Frame.{Frame}
@@ -24,7 +25,7 @@ use Rattle.expanded_runs.proofs.Types.ReplacedRows.{RowSays}
 use Rattle.expanded_runs.proofs.Types.StandingRows.{host_no_init}
 use Rattle.expanded_runs.proofs.Types.ThisWithin.{NoThisStanding, no_this_standing}
 use Rattle.expanded_runs.proofs.Types.ThroughClass.{ArrayInterfaces}
-use Rattle.expanded_runs.specs.ReadTypes.{NoThisOutside, TypesFlat}
+use Rattle.expanded_runs.specs.ReadTypes.{NoThisOutside}
 use Rattle.flow_code.specs.FlatCode.{FlatCode}
 use Rattle.member_link.specs.Linked.{IsLinked}
 use Rattle.member_link.specs.Scope.{Scope, instructions, scope_at}

@@ -1,4 +1,6 @@
 -- What is asked of each class of a candidate's chain.
+use Rattle.class_tree.specs.Layouts.{chain}
+use Rattle.member_link.specs.FieldConstructors.{field_types}
 use Rattle.std.specs.Prelude.{Bool, IfSome, IsFalse, IsTrue, List, None, Option, Some, [], false, filter, get_or, length, map, not, slice_get, ℕ, ◌++◌, ◌<◌, ◌↔◌, ◌∷◌, ◌≡◌, ◌≤◌}
 use Rattle.std.specs.List.{AllByRecursion}
 use Rattle.class_model.specs.Descriptors.{parameter_units, type_of}
@@ -13,8 +15,6 @@ use Rattle.class_tree.specs.Subtype.{IsChain}
 use Rattle.class_tree.specs.declared.place.Place.{Place}
 use Rattle.class_tree.specs.declared.place.Place.TheVariants.{Folder}
 use Rattle.expanded_code.specs.Candidates.{HasNoFinalizer, HasRoom, declares_finalizer}
-use Rattle.expanded_code.specs.FieldConstructors.{field_types}
-use Rattle.expanded_code.specs.Quiet.{chain}
 use Rattle.inline_expand.specs.Inner.ConstructorWords.{AreHandled, field_descs, handled_of}
 use Rattle.inline_expand.specs.Inner.QuietWords.{IsQuietItself}
 use Rattle.inline_expand.specs.Inner.StoreWords.{IsStored, StoredBefore}

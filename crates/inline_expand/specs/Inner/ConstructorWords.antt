@@ -1,4 +1,5 @@
 -- Descriptors of field constructors by the descriptors of the fields.
+use Rattle.member_link.specs.FieldConstructors.{handled}
 use Rattle.std.specs.Prelude.{◌≡◌, ◌≤◌, ◌<◌, ◌++◌, ◌&&◌, ◌||◌, slice_get, ℕ, Bool, List, [], ◌∷◌, bytes_eq, codes, length, map, replicate, Option, Some, None, IsTrue, IsFalse, if◌then◌else◌}
 use Rattle.std.specs.List.{flat_map, list_any}
 use Rattle.class_model.specs.Characters.{left_bracket, left_parenthesis}
@@ -9,7 +10,6 @@ use Rattle.class_model.specs.declared.header.Header.{Header}
 use Rattle.class_tree.specs.Headers.{Name, Headers}
 use Rattle.class_tree.specs.Layouts.{instance_fields}
 use Rattle.class_tree.specs.Names.{is_member}
-use Rattle.expanded_code.specs.FieldConstructors.{handled}
 use Rattle.member_link.specs.References.{Reference}
 
 -- the descriptors of the fields of an object of a class

@@ -1,8 +1,8 @@
 -- Words of the candidate sites of a method in its place.
+use Rattle.member_link.specs.FieldConstructors.{field_types}
 use Rattle.std.specs.Prelude.{◌≡◌, ◌+◌, ◌≤◌, ℕ, Bool, true, false, List, [], ◌∷◌, length, map, Option, Some, None}
 use Rattle.class_tree.specs.Headers.{Headers}
 use Rattle.expanded_code.specs.Expanded.{points_before, points_of}
-use Rattle.expanded_code.specs.FieldConstructors.{field_types}
 use Rattle.flow_code.specs.declared.point.Site.{Site}
 use Rattle.inline_expand.specs.Inner.Layouts.{starts_from}
 use Rattle.inline_expand.specs.Inner.Steps.{Callee, expansion_by}

@@ -1,10 +1,10 @@
 //! The candidate sites with the types of their fields.
+ghost use Rattle.member_link.specs.FieldConstructors.{field_types};
 ghost use Rattle.std.specs.Prelude.{◌≡◌, map, IfOk};
 ghost use Rattle.std.specs.List.{AllByRecursion};
 ghost use Rattle.class_model.specs.Descriptors.{type_of};
 ghost use Rattle.class_tree.specs.Headers.{headers_of};
 ghost use Rattle.expanded_code.specs.Candidates.{IsCandidate};
-ghost use Rattle.expanded_code.specs.FieldConstructors.{field_types};
 ghost use Rattle.inline_expand.specs.Inner.FieldTypes.{IsShortDescriptor};
 ghost use Rattle.inline_expand.specs.Inner.SiteNumbers.{sites_by};
 

@@ -1,8 +1,8 @@
+use Rattle.member_link.specs.Targets.{HasForm}
 use Rattle.std.proofs.Common.{List, length, sym, subst, ◌≡◌, true, ◌≤◌}
 use Rattle.std.proofs.lemmas.Bool.{eqb-true}
 use Rattle.class_model.specs.Instructions.{keys_increase}
 use Rattle.class_model.specs.declared.instr.Pair.{Pair}
-use Rattle.code_layout.specs.Emitting.{HasForm}
 use Rattle.cases_rewrite.proofs.Forms.{lookup_form, null_form}
 use Rattle.cases_rewrite.proofs.emitting.has_form.Goals as goal
 

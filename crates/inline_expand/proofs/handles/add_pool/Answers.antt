@@ -1,3 +1,4 @@
+use Rattle.member_link.specs.FieldConstructors.{handled}
 use Rattle.std.proofs.Common.{◌≡◌, ◌++◌, ◌<◌, ℕ, length, get_or, take, slice_get, Option, Some, None, refl, ap, ◌∙◌, arith}
 use Rattle.std.proofs.lemmas.Option.{slice_get-get_or}
 use Rattle.std.specs.List.{flat_map}
@@ -5,7 +6,6 @@ use Rattle.std.specs.Option.{option_copied}
 use Rattle.class_model.specs.Pool.{Constants, constant_at}
 use Rattle.class_model.specs.declared.pool.Const.{Const}
 use Rattle.class_tree.specs.Headers.{headers_of}
-use Rattle.expanded_code.specs.FieldConstructors.{handled}
 use Rattle.inline_expand.proofs.HandledLists.{flat_all, flat_more, flat_none, handled_same}
 use Rattle.inline_expand.proofs.handles.add_pool.Goals as goal
 use Rattle.inline_expand.specs.Inner.ConstructorWords.{handled_in}
