@@ -1,7 +1,5 @@
 -- What is answered where the expanded code of a method is asked for: the first reason why it is kept, else its flat code.
-use Rattle.std.specs.Prelude.{◌≡◌, ◌<◌, ◌⊎◌, ◌+◌, max, List, [], ◌∷◌, length, slice_get, Some, None, Result, Ok, Err, IsTrue, ℕ}
-use Rattle.class_model.specs.Descriptors.{parameter_units}
-use Rattle.class_model.specs.Frames.{depth}
+use Rattle.std.specs.Prelude.{◌≡◌, ◌<◌, ◌⊎◌, ◌+◌, [], length, slice_get, Some, None, Result, Ok, Err, IsTrue, ℕ}
 use Rattle.class_model.specs.declared.class_file.MethodAt.{MethodAt}
 use Rattle.class_model.specs.declared.instr.Instr.TheVariants.{FloatAsk}
 use Rattle.class_model.specs.declared.instr.Placed.{Placed}
@@ -11,8 +9,7 @@ use Rattle.expanded_code.specs.Expansions.{Coded, Expands, Expansion}
 use Rattle.expanded_code.specs.Sites.{HasFrames}
 use Rattle.flow_code.specs.FlatCode.{FlatCode}
 use Rattle.flow_code.specs.TypedFrames.{FolderFrames}
-use Rattle.flow_code.specs.declared.point.Point.{Point}
-use Rattle.flow_code.specs.declared.point.Site.{Site}
+use Rattle.flow_code.specs.WrittenUnits.{field_units, greatest_depth, written_units}
 use Rattle.flow_code.specs.declared.reason.KeptFault.{KeptFault}
 use Rattle.flow_code.specs.declared.reason.KeptFault.TheVariants as faults
 use Rattle.flow_code.specs.declared.reason.Reason.TheVariants as reasons
@@ -54,21 +51,6 @@ IsTooLong flat = 8000 < length flat.points
 
 abbrev pub HasNoSite : FlatCode → Type 0
 HasNoSite flat = flat.sites ≡ []
-
--- the units of the fields of its sites
-abbrev pub field_units : List Site → ℕ
-field_units [] = 0
-field_units (site ∷ sites) = parameter_units site.fields + field_units sites
-
--- the most units of the stack before a point
-abbrev pub greatest_depth : List Point → ℕ
-greatest_depth [] = 0
-greatest_depth (point ∷ points) = max (depth point.typed.stack) (greatest_depth points)
-
--- the local units of written code: those of the methods, those of the sites' fields, one for each site's object, and scratch units
-abbrev pub written_units : FlatCode → ℕ
-written_units flat =
-    flat.locals + field_units flat.sites + length flat.sites + greatest_depth flat.points
 
 -- it has more sites, fields, local units or stack than written code may have
 pub data IsWide (flat : FlatCode) : Type 0 where

@@ -4,7 +4,7 @@ use Rattle.std.proofs.lemmas.Option.{same_Some}
 use Rattle.class_model.specs.Frames.{depth}
 use Rattle.class_model.specs.Laws.Lists.{drop_item}
 use Rattle.class_model.specs.declared.frame.Frame.{Frame}
-use Rattle.expanded_code.specs.ExpandAnswers.{greatest_depth}
+use Rattle.flow_code.specs.WrittenUnits.{greatest_depth}
 use Rattle.flow_code.specs.declared.point.Point.{Point}
 use Rattle.inline_expand.specs.Inner.WideWords.{counted}
 

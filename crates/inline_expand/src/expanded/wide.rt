@@ -2,7 +2,8 @@
 ghost use Rattle.std.specs.Prelude.{◌≡◌, ◌↔◌, length, max, IsTrue};
 ghost use Rattle.class_model.specs.Descriptors.{parameter_units};
 ghost use Rattle.class_model.specs.Frames.{depth, units};
-ghost use Rattle.expanded_code.specs.ExpandAnswers.{IsWide, field_units, greatest_depth};
+ghost use Rattle.expanded_code.specs.ExpandAnswers.{IsWide};
+ghost use Rattle.flow_code.specs.WrittenUnits.{field_units, greatest_depth};
 ghost use Rattle.inline_expand.specs.Inner.WideWords.{counted};
 
 use class_model::{FieldType, VType};

@@ -1,5 +1,5 @@
 use Rattle.std.proofs.Common.{◌≡◌, ◌+◌, ◌≤◌, drop}
-use Rattle.expanded_code.specs.ExpandAnswers.{field_units}
+use Rattle.flow_code.specs.WrittenUnits.{field_units}
 use Rattle.inline_expand.proofs.expanded.wide.field_units.Given as goal
 use Rattle.inline_expand.specs.Inner.WideWords.{counted}
 

@@ -2,7 +2,7 @@ use Rattle.std.proofs.Common.{◌≡◌, ◌+◌, drop, arith}
 use Rattle.std.proofs.Common.{List, ap, ◌∙◌}
 use Rattle.class_model.specs.Frames.{depth}
 use Rattle.class_model.specs.declared.frame.VType.{VType}
-use Rattle.expanded_code.specs.ExpandAnswers.{greatest_depth}
+use Rattle.flow_code.specs.WrittenUnits.{greatest_depth}
 use Rattle.inline_expand.proofs.WideParts.{deepest-more, next-depth}
 use Rattle.inline_expand.proofs.expanded.wide.greatest_depth.Goals as goal
 use Rattle.inline_expand.specs.Inner.WideWords.{counted}

@@ -1,5 +1,5 @@
 use Rattle.std.proofs.Common.{◌≡◌, ◌≤◌, drop, max}
-use Rattle.expanded_code.specs.ExpandAnswers.{greatest_depth}
+use Rattle.flow_code.specs.WrittenUnits.{greatest_depth}
 use Rattle.inline_expand.proofs.expanded.wide.greatest_depth.Given as goal
 use Rattle.inline_expand.specs.Inner.WideWords.{counted}
 
