@@ -6,7 +6,7 @@ use Rattle.class_rewrite.specs.Written.{IsWrittenFolder}
 use Rattle.class_rewrite.specs.declared.folder.Optimised.{Optimised}
 use Rattle.class_tree.specs.Headers.{Classes}
 use Rattle.flow_code.specs.TypedFrames.{FolderFrames}
-use Rattle.machine_step.specs.Programs.{IsProgram}
+use Rattle.member_link.specs.TreePrograms.{IsProgram}
 use Rattle.member_link.specs.Machine.Programs.{Program}
 use Rattle.member_link.specs.Machine.SameRuns.{SameRuns}
 use Rattle.type_rules.specs.Verified.{IsVerified}

@@ -16,7 +16,7 @@ ghost use Rattle.expanded_runs.specs.ReadTypes.{NoThisOutside};
 ghost use Rattle.flow_code.specs.FlatCode.{FlatCode};
 ghost use Rattle.flow_code.specs.TypedFrames.{FolderFrames};
 ghost use Rattle.flow_code.specs.declared.reason.Reason.{Reason};
-ghost use Rattle.machine_step.specs.Programs.{IsProgram};
+ghost use Rattle.member_link.specs.TreePrograms.{IsProgram};
 ghost use Rattle.member_link.specs.Linked.{IsLinked};
 ghost use Rattle.member_link.specs.Machine.Classes.{program_of};
 ghost use Rattle.member_link.specs.Machine.Links.{AreLinksOf};

@@ -1,2 +1,4 @@
 pub mod KeptEntries
 pub mod ClimbedFields
+pub mod KindLists
+pub mod UnitLists

@@ -2,13 +2,16 @@
 //! the references of constants.
 #![tactic(auto)]
 
+mod array_heap;
 mod blanks;
 mod classes;
 mod comparison;
 mod heap;
 mod kept;
 mod laws;
+mod values;
 
+pub use array_heap::ArrayHeap;
 pub use blanks::{blank, blank_elements, blank_fields, component_text};
 pub use heap::{Heap, Put};
 pub use laws::{
@@ -16,3 +19,6 @@ pub use laws::{
     a_write_changes_one_value,
 };
 pub use machine_values::{Constant, Object, Ref, Shape, Value, ValueList};
+pub use values::{
+    Narrowing, blank_of_kind, has_kind, have_kinds, is_wide, locals_of, narrow, narrow_int,
+};

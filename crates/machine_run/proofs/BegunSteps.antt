@@ -7,9 +7,9 @@ use Rattle.machine_values.specs.declared.frame.RunFrame.{RunFrame}
 use Rattle.member_link.specs.Machine.Beginnings.{beginning_step, begun_next, come_first, first_unbegun, past_beginning}
 use Rattle.member_link.specs.Machine.Programs.{Program}
 use Rattle.member_link.specs.Machine.Worlds.{Halt, Memory, World, going}
-use Rattle.machine_step.specs.Programs.{IsProgram}
+use Rattle.member_link.specs.TreePrograms.{IsProgram}
 use Rattle.machine_run.specs.Outcomes.{ended}
-use Rattle.machine_step.specs.Laws.ProgramHeaders.{class_with}
+use Rattle.member_link.specs.Laws.ProgramHeaders.{class_with}
 
 pub beginning_is :
     (classes : Classes) (P : Program)

@@ -5,10 +5,10 @@ use Rattle.machine_values.specs.declared.value.Value.{Value}
 use Rattle.member_link.specs.Machine.Performing.{Locking, locked, locked_by}
 use Rattle.member_link.specs.Machine.Programs.{Program, code_at, name_of_class}
 use Rattle.member_link.specs.Machine.Worlds.{Memory}
-use Rattle.machine_step.specs.Prepared.{IsPrepared, IsTraitsOf, locking}
-use Rattle.machine_step.specs.declared.prepared_method.Locks.{Locks}
-use Rattle.machine_step.specs.declared.prepared_method.MethodTraits.{MethodTraits}
-use Rattle.machine_step.specs.declared.prepared_method.PreparedMethod.{PreparedMethod}
+use Rattle.machine_code.specs.Prepared.{IsPrepared, IsTraitsOf, locking}
+use Rattle.machine_code.specs.declared.prepared_method.Locks.{Locks}
+use Rattle.machine_code.specs.declared.prepared_method.MethodTraits.{MethodTraits}
+use Rattle.machine_code.specs.declared.prepared_method.PreparedMethod.{PreparedMethod}
 use Rattle.machine_run.specs.Inner.CallWords.{units_of_code}
 
 -- ---- local units, by the code that is prepared

@@ -20,8 +20,8 @@ use Rattle.member_link.specs.Laws.FolderNumbers.{number_at}
 use Rattle.member_link.specs.Machine.Beginnings.{come_first, first_unbegun, has_defaults, interfaces_up}
 use Rattle.member_link.specs.Machine.Programs.{Program, folder_number, header_named, headers_in}
 use Rattle.member_link.specs.Machine.Worlds.{Memory, is_begun}
-use Rattle.machine_step.specs.Laws.ProgramHeaders.{headers_are, number_by_place}
-use Rattle.machine_step.specs.Programs.{IsProgram}
+use Rattle.member_link.specs.Laws.ProgramHeaders.{headers_are, number_by_place}
+use Rattle.member_link.specs.TreePrograms.{IsProgram}
 use Rattle.machine_run.specs.Inner.ComeFirst.{is_unbegun_at, super_names, unbegun_above, unbegun_default}
 
 module _ (P : Program) (memory : Memory) where

@@ -15,7 +15,7 @@ use Rattle.member_link.specs.Machine.Classes.{handles_in, run_class_of}
 use Rattle.member_link.specs.Machine.Programs.{Program, RunClass}
 use Rattle.member_link.specs.References.{Reference}
 use Rattle.member_link.specs.Signatures.{reference_of}
-use Rattle.machine_step.specs.Programs.{IsProgram}
+use Rattle.member_link.specs.TreePrograms.{IsProgram}
 use Rattle.machine_run.specs.Inner.ActWords.{has_maker, is_initialiser, makes_object}
 
 none_of : (b rest : Bool) → rest ≡ ((b && false) || rest)

@@ -2,8 +2,8 @@
 use Rattle.std.proofs.Common.{◌≡◌, ap, sym}
 use Rattle.class_tree.specs.Headers.{Name, Classes, Headers, class_named, headers_of}
 use Rattle.member_link.specs.Machine.Programs.{Program, header_named}
-use Rattle.machine_step.specs.Programs.{IsProgram}
-use Rattle.machine_step.specs.Laws.ProgramHeaders.{headers_are}
+use Rattle.member_link.specs.TreePrograms.{IsProgram}
+use Rattle.member_link.specs.Laws.ProgramHeaders.{headers_are}
 
 pub header_is :
     (classes : Classes) (P : Program)

@@ -4,8 +4,8 @@ use Rattle.std.proofs.lemmas.Option.{slice_get-map}
 use Rattle.class_model.specs.declared.class_file.MethodAt.{MethodAt}
 use Rattle.machine_values.specs.declared.object.Shape.{Shape}
 use Rattle.member_link.specs.Machine.Programs.{Catch, Code, Point, Program, code_at, code_run, point_at}
-use Rattle.machine_step.specs.Prepared.{IsPrepared, catches_around, catches_at_point}
-use Rattle.machine_step.specs.declared.prepared_method.PreparedMethod.{PreparedMethod}
+use Rattle.machine_code.specs.Prepared.{IsPrepared, catches_around, catches_at_point}
+use Rattle.machine_code.specs.declared.prepared_method.PreparedMethod.{PreparedMethod}
 use Rattle.machine_run.specs.Inner.ThrowTargets.{first_handler, handler_around}
 
 abbrev pub by_catches : Program → Option Shape → Option (List Catch) → Option ℕ

@@ -8,10 +8,10 @@ use Rattle.machine_values.specs.Frames.{MethodState}
 use Rattle.member_link.specs.Machine.Bounds.{HasFewDimensions}
 use Rattle.member_link.specs.Machine.Ops as ops
 use Rattle.member_link.specs.Machine.Programs.{Program, Code, Point, code_at, code_run, point_at}
-use Rattle.machine_step.specs.Prepared.{IsPrepared, op_at}
-use Rattle.machine_step.specs.RunOps.{IsResolved, op_of}
-use Rattle.machine_step.specs.declared.prepared_method.PreparedMethod.{PreparedMethod}
-use Rattle.machine_step.specs.declared.run_op.RunOp.{RunOp}
+use Rattle.machine_code.specs.Prepared.{IsPrepared, op_at}
+use Rattle.member_link.specs.RunOps.{IsResolved, op_of}
+use Rattle.machine_code.specs.declared.prepared_method.PreparedMethod.{PreparedMethod}
+use Rattle.member_link.specs.declared.run_op.RunOp.{RunOp}
 use Rattle.machine_run.specs.Inner.Performed.{HasBoundedNext}
 
 map_set_same :

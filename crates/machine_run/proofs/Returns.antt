@@ -6,8 +6,8 @@ use Rattle.machine_values.specs.declared.value.Value.{Value}
 use Rattle.member_link.specs.Machine.Performing.{returned, returned_by, returned_to, unlocked}
 use Rattle.member_link.specs.Machine.Programs.{Program}
 use Rattle.member_link.specs.Machine.Worlds.{World}
-use Rattle.machine_step.specs.Prepared.{IsTraitsOf}
-use Rattle.machine_step.specs.declared.prepared_method.MethodTraits.{MethodTraits}
+use Rattle.machine_code.specs.Prepared.{IsTraitsOf}
+use Rattle.machine_code.specs.declared.prepared_method.MethodTraits.{MethodTraits}
 
 module _ (P : Program) (w : World) (f : MethodState) (rest : List RunFrame) (values : List Value) where
   abbrev by_name : Bool → World

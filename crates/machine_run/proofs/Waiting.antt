@@ -17,10 +17,10 @@ use Rattle.member_link.specs.Machine.Programs.{Code, Point, Program, code_at, co
 use Rattle.member_link.specs.Machine.Shapes.{value_conforms}
 use Rattle.member_link.specs.Machine.Worlds.{World}
 use Rattle.machine_step.specs.Bounded.{CanGoOn, HasNextPlace}
-use Rattle.machine_step.specs.Prepared.{IsPrepared, op_at}
-use Rattle.machine_step.specs.RunOps.{op_of}
-use Rattle.machine_step.specs.declared.prepared_method.PreparedMethod.{PreparedMethod}
-use Rattle.machine_step.specs.declared.run_op.RunOp.{RunOp}
+use Rattle.machine_code.specs.Prepared.{IsPrepared, op_at}
+use Rattle.member_link.specs.RunOps.{op_of}
+use Rattle.machine_code.specs.declared.prepared_method.PreparedMethod.{PreparedMethod}
+use Rattle.member_link.specs.declared.run_op.RunOp.{RunOp}
 use Rattle.machine_run.specs.declared.acting.answers.Answer.{Answer}
 use Rattle.machine_run.specs.Inner.ActingWords.{HasWaiting, awaited_type, waiting_frame, answer_for, answered, awaited_at, awaited_below, may_throw, nothing_for, thrown_below, value_for, with_answer}
 

@@ -9,12 +9,12 @@ use Rattle.machine_values.specs.declared.frame.RunFrame.{RunFrame}
 use Rattle.member_link.specs.Machine.Programs.{Program}
 use Rattle.member_link.specs.Machine.Stepping.{op_step, work_step}
 use Rattle.member_link.specs.Machine.Worlds.{World}
-use Rattle.machine_step.specs.RunOps.{op_of, special_op}
-use Rattle.machine_step.specs.declared.run_op.CallOp.{CallOp}
-use Rattle.machine_step.specs.declared.run_op.LookupOp.{LookupOp}
-use Rattle.machine_step.specs.declared.run_op.RunOp.{RunOp}
-use Rattle.machine_step.specs.declared.run_op.RunOp.TheVariants as run
-use Rattle.machine_step.specs.declared.run_op.TableOp.{TableOp}
+use Rattle.member_link.specs.RunOps.{op_of, special_op}
+use Rattle.member_link.specs.declared.run_op.CallOp.{CallOp}
+use Rattle.member_link.specs.declared.run_op.LookupOp.{LookupOp}
+use Rattle.member_link.specs.declared.run_op.RunOp.{RunOp}
+use Rattle.member_link.specs.declared.run_op.RunOp.TheVariants as run
+use Rattle.member_link.specs.declared.run_op.TableOp.{TableOp}
 
 -- no operation of the frame alone
 pub record WorksOnOperands (op : RunOp) : Type 0 where

@@ -5,7 +5,7 @@ ghost use Rattle.member_link.specs.Machine.Acting.{act, acted, is_fault};
 ghost use Rattle.member_link.specs.Machine.Programs.{Program};
 ghost use Rattle.member_link.specs.Machine.Stepping.{is_library_turn};
 ghost use Rattle.machine_step.specs.Bounded.{CanGoOn, IsBoundedWorld};
-ghost use Rattle.machine_step.specs.Programs.{IsProgram};
+ghost use Rattle.member_link.specs.TreePrograms.{IsProgram};
 ghost use Rattle.machine_step.specs.Room.{HasRoom};
 ghost use Rattle.machine_run.specs.Outcomes.{ended, halt_behind};
 
@@ -28,8 +28,9 @@ use crate::laws::{a_state_goes_on, a_tree_has_a_program, an_action_keeps_next_pl
 use crate::stepping::spend;
 use class_model::NoMemory;
 use class_tree::Tree;
+use machine_code::Prepared;
 use machine_laws::an_action_keeps_counts_within_bounds;
-use machine_step::{Acted, Prepared, World, WorldState};
+use machine_step::{Acted, World, WorldState};
 use machine_values::Action;
 use std::alloc::Global;
 

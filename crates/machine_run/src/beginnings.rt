@@ -5,7 +5,7 @@ ghost use Rattle.machine_values.specs.declared.frame.RunFrame.TheVariants.{Begin
 ghost use Rattle.member_link.specs.Machine.Beginnings.{beginning_step, begun_on, frame_with, initialiser_of, past_beginning};
 ghost use Rattle.member_link.specs.Machine.Programs.{Program};
 ghost use Rattle.member_link.specs.Machine.Worlds.{is_begun};
-ghost use Rattle.machine_step.specs.Programs.{IsProgram};
+ghost use Rattle.member_link.specs.TreePrograms.{IsProgram};
 ghost use Rattle.machine_run.specs.Inner.CallWords.{beginning_on_top, if_code};
 ghost use Rattle.machine_run.specs.Outcomes.{Lands, ended, halt_of};
 
@@ -16,9 +16,10 @@ use crate::names::name_of_class;
 use crate::starts::start_fields;
 use class_model::{CLINIT, MethodAt, NoMemory, Text};
 use class_tree::{Place, Tree};
-use machine_step::{Outcome, Prepared, WorldState, has_code, place_of_method};
+use machine_code::Prepared;
+use machine_step::{Outcome, WorldState};
 use machine_values::{MethodFrame, RunFrame, RunFrameList, ValueList};
-use member_link::Reference;
+use member_link::{Reference, has_code, place_of_method};
 use std::alloc::Global;
 
 /// Begins a class of the folder that is not begun, on top of the frames as they stand: it is marked as begun, and its static fields have

@@ -5,7 +5,7 @@ ghost use Rattle.machine_values.specs.declared.value.Value.{Value as Argument};
 ghost use Rattle.member_link.specs.Machine.ObjectSteps.{with_entered};
 ghost use Rattle.member_link.specs.Machine.Performing.{called, class_lock, locked, locked_by, receiver_lock, value_in};
 ghost use Rattle.member_link.specs.Machine.Programs.{Program, code_at, name_of_class};
-ghost use Rattle.machine_step.specs.Programs.{IsProgram};
+ghost use Rattle.member_link.specs.TreePrograms.{IsProgram};
 ghost use Rattle.machine_step.specs.Room.{HasRoom};
 ghost use Rattle.machine_run.specs.Inner.CallWords.{AreArguments, locked_as, units_of_code};
 
@@ -13,7 +13,9 @@ use crate::frames::push_frame;
 use crate::names::name_of_class;
 use class_model::{MethodAt, NoMemory};
 use class_tree::Tree;
-use machine_step::{Locks, Memory, Prepared, WorldState, locals_of, method_traits};
+use machine_code::{Locks, Prepared, method_traits};
+use machine_heap::locals_of;
+use machine_step::{Memory, WorldState};
 use machine_values::{Constant, LocalList, MethodFrame, Ref, RunFrame, Value, ValueList};
 use std::alloc::Global;
 

@@ -8,12 +8,13 @@ ghost use Rattle.class_tree.specs.Order.{header_at, place_of};
 ghost use Rattle.member_link.specs.Machine.Beginnings.{come_first, first_unbegun, has_defaults, is_default};
 ghost use Rattle.member_link.specs.Machine.Programs.{Program};
 ghost use Rattle.member_link.specs.Machine.Worlds.{is_begun};
-ghost use Rattle.machine_step.specs.Programs.{IsProgram};
+ghost use Rattle.member_link.specs.TreePrograms.{IsProgram};
 ghost use Rattle.machine_run.specs.Inner.ComeFirst.{is_unbegun_at, super_names, unbegun_above, unbegun_default};
 
 use class_model::{ACC_ABSTRACT, ACC_INTERFACE, ACC_STATIC, Header, Member, Text, has};
 use class_tree::{Place, Tree, a_tree_is_a_hierarchy};
-use machine_step::{Memory, folder_number};
+use machine_step::Memory;
+use member_link::folder_number;
 
 /// The first class of the folder that is not begun among those that come before the class of a header. It does not allocate.
 pub(crate) fn first_unbegun(tree: &Tree, memory: &Memory, header: &Header) -> Option<usize>

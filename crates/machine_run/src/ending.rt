@@ -9,7 +9,8 @@ ghost use Rattle.machine_step.specs.Completing.{values_of};
 
 use crate::frames::pop_frame;
 use class_model::NoMemory;
-use machine_step::{Memory, WorldState, push_top};
+use machine_code::push_top;
+use machine_step::{Memory, WorldState};
 use machine_values::{MethodFrame, Ref, RunFrame, RunFrameList, Value};
 
 /// Ends the method of the top frame: the monitor that the frame holds is left, and it is popped. It does not allocate.

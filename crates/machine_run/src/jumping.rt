@@ -6,8 +6,9 @@ ghost use Rattle.member_link.specs.Machine.Ops.{jump_by_int, jump_by_ints, jump_
 ghost use Rattle.machine_run.specs.Inner.Moves.{HasNoKey, IsMoved, StaysUnlessWent};
 
 use crate::moves::Moved;
-use machine_step::{LookupOp, TableOp, drop_top, entry, lookup_target, table_target};
+use machine_code::{drop_top, entry, lookup_target, table_target};
 use machine_values::{MethodFrame, Value, ValueList};
+use member_link::{LookupOp, TableOp};
 
 // ---- conditional jumps
 
@@ -17,7 +18,7 @@ pub(crate) fn jump_by_int(frame: &mut MethodFrame, opcode: u8, to: u32) -> Moved
     ensures moved { IsMoved frame.old frame.new (jump_by_int opcode to) result }
     ensures stays { StaysUnlessWent frame.old frame.new result }
 {
-    match machine_step::jump_by_int(opcode, &mut frame.stack) {
+    match machine_code::jump_by_int(opcode, &mut frame.stack) {
         Some(taken) => {
             branch(frame, taken, to);
             Moved::Went
@@ -32,7 +33,7 @@ pub(crate) fn jump_by_ints(frame: &mut MethodFrame, opcode: u8, to: u32) -> Move
     ensures moved { IsMoved frame.old frame.new (jump_by_ints opcode to) result }
     ensures stays { StaysUnlessWent frame.old frame.new result }
 {
-    match machine_step::jump_by_ints(opcode, &mut frame.stack) {
+    match machine_code::jump_by_ints(opcode, &mut frame.stack) {
         Some(taken) => {
             branch(frame, taken, to);
             Moved::Went
@@ -47,7 +48,7 @@ pub(crate) fn jump_by_references(frame: &mut MethodFrame, opcode: u8, to: u32) -
     ensures moved { IsMoved frame.old frame.new (jump_by_references opcode to) result }
     ensures stays { StaysUnlessWent frame.old frame.new result }
 {
-    match machine_step::jump_by_references(opcode, &mut frame.stack) {
+    match machine_code::jump_by_references(opcode, &mut frame.stack) {
         Some(taken) => {
             branch(frame, taken, to);
             Moved::Went
@@ -62,7 +63,7 @@ pub(crate) fn jump_by_null(frame: &mut MethodFrame, opcode: u8, to: u32) -> Move
     ensures moved { IsMoved frame.old frame.new (jump_by_null opcode to) result }
     ensures stays { StaysUnlessWent frame.old frame.new result }
 {
-    match machine_step::jump_by_null(opcode, &mut frame.stack) {
+    match machine_code::jump_by_null(opcode, &mut frame.stack) {
         Some(taken) => {
             branch(frame, taken, to);
             Moved::Went

@@ -11,13 +11,13 @@ ghost use Rattle.member_link.specs.Machine.Stepping.{is_library_turn, step};
 ghost use Rattle.member_link.specs.Machine.Work.{work};
 ghost use Rattle.member_link.specs.Machine.Worlds.{Memory, World, going, is_begun};
 ghost use Rattle.machine_step.specs.Bounded.{CanGoOn};
-ghost use Rattle.machine_step.specs.Programs.{IsProgram};
-ghost use Rattle.machine_step.specs.RunOps.{IsResolved, op_of};
+ghost use Rattle.member_link.specs.TreePrograms.{IsProgram};
+ghost use Rattle.member_link.specs.RunOps.{IsResolved, op_of};
 ghost use Rattle.machine_run.specs.Inner.Performed.{TopHasNext};
 
 use class_tree::Tree;
-use machine_step::{RunOp, World as RunWorld, WorldState, arity};
-use member_link::a_tree_has_links;
+use machine_step::{World as RunWorld, WorldState, arity};
+use member_link::{RunOp, a_tree_has_links};
 
 /// The classes of a tree have a program.
 pub fn a_tree_has_a_program(tree: &Tree)

@@ -5,18 +5,17 @@ ghost use Rattle.member_link.specs.Machine.Ops.{increment_local, load_local, ret
 ghost use Rattle.member_link.specs.Machine.Programs.{Program};
 ghost use Rattle.member_link.specs.Machine.Stepping.{op_step};
 ghost use Rattle.member_link.specs.Machine.Worlds.{World};
-ghost use Rattle.machine_step.specs.RunOps.{op_of};
+ghost use Rattle.member_link.specs.RunOps.{op_of};
 ghost use Rattle.machine_run.specs.Inner.Moves.{IsMoved, StaysUnlessWent, top_of_kind, world_moved};
 
 use crate::jumping::{
     jump_by_int, jump_by_ints, jump_by_null, jump_by_references, switch_lookup, switch_table,
 };
 use class_model::{FieldType, Kind, NoMemory};
-use machine_step::{
-    Narrowing, RunOp, drop_top, entry, if_kind, increment, local_value, narrow, push_top, shuffle,
-    store,
-};
+use machine_code::{drop_top, entry, if_kind, increment, local_value, push_top, shuffle, store};
+use machine_heap::{Narrowing, narrow};
 use machine_values::{MethodFrame, Value, ValueList};
+use member_link::RunOp;
 
 /// What an operation does that needs its frame alone, or what else there is to do.
 #[derive(Clone, Copy, PartialEq, Eq)]

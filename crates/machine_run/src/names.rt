@@ -1,11 +1,11 @@
 //! Names of classes of the folder as texts.
 ghost use Rattle.std.specs.Prelude.{◌≡◌, IfOk};
 ghost use Rattle.member_link.specs.Machine.Programs.{Program, name_of_class};
-ghost use Rattle.machine_step.specs.Programs.{IsProgram};
+ghost use Rattle.member_link.specs.TreePrograms.{IsProgram};
 
 use class_model::{NoMemory, Text};
 use class_tree::Tree;
-use machine_step::class_name;
+use member_link::class_name;
 use std::alloc::Global;
 
 /// The name of the class of the folder of a number, which shares its bytes with the class; empty where there is no such class.

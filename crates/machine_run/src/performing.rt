@@ -7,7 +7,7 @@ ghost use Rattle.member_link.specs.Machine.Performing.{called, resumed};
 ghost use Rattle.member_link.specs.Machine.Programs.{Program};
 ghost use Rattle.member_link.specs.Machine.Showing.{shows_asked};
 ghost use Rattle.machine_step.specs.Completing.{asked_of, values_of};
-ghost use Rattle.machine_step.specs.Programs.{IsProgram};
+ghost use Rattle.member_link.specs.TreePrograms.{IsProgram};
 ghost use Rattle.machine_step.specs.Room.{HasRoom};
 ghost use Rattle.machine_run.specs.Inner.Performed.{CanPerform, HasOperands, operands_in, performed, without_operands};
 ghost use Rattle.machine_run.specs.Outcomes.{Steps, ended, halt_of};
@@ -20,9 +20,8 @@ use crate::raising::raise;
 use crate::unwinding::throw;
 use class_model::{MethodAt, NoMemory};
 use class_tree::Tree;
-use machine_step::{
-    Asked, Completed, Outcome, Prepared, WorldState, drop_top, operands, push_top, show_asked,
-};
+use machine_code::{Prepared, drop_top, operands, push_top};
+use machine_step::{Asked, Completed, Outcome, WorldState, show_asked};
 use machine_values::{MethodFrame, RunFrame, RunFrameList, Value};
 use std::alloc::Global;
 

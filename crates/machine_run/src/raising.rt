@@ -2,15 +2,17 @@
 ghost use Rattle.std.specs.Prelude.{◌≡◌, IfOk};
 ghost use Rattle.member_link.specs.Machine.Performing.{raised};
 ghost use Rattle.member_link.specs.Machine.Programs.{Program};
-ghost use Rattle.machine_step.specs.Programs.{IsProgram};
-ghost use Rattle.machine_step.specs.RunOps.{throwable_name};
+ghost use Rattle.member_link.specs.TreePrograms.{IsProgram};
+ghost use Rattle.member_link.specs.RunOps.{throwable_name};
 ghost use Rattle.machine_run.specs.Outcomes.{Lands, ended, halt_of};
 
 use crate::throw_targets::find_target;
 use crate::unwinding::land;
 use class_model::{NoMemory, Text, TextList};
-use machine_step::{Outcome, Prepared, Throwable, WorldState};
+use machine_code::Prepared;
+use machine_step::{Outcome, WorldState};
 use machine_values::{Shape, ValueList};
+use member_link::Throwable;
 use std::alloc::Global;
 
 /// Makes a throwable of the machine, which is not counted, and throws it with the frames as they stand.

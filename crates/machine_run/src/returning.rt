@@ -8,14 +8,15 @@ ghost use Rattle.member_link.specs.Machine.Performing.{result_seen, resumed, ret
 ghost use Rattle.member_link.specs.Machine.Programs.{Program};
 ghost use Rattle.machine_step.specs.Bounded.{CanGoOn};
 ghost use Rattle.machine_step.specs.Completing.{values_of};
-ghost use Rattle.machine_step.specs.Prepared.{IsTraitsOf};
-ghost use Rattle.machine_step.specs.Programs.{IsProgram};
+ghost use Rattle.machine_code.specs.Prepared.{IsTraitsOf};
+ghost use Rattle.member_link.specs.TreePrograms.{IsProgram};
 ghost use Rattle.machine_run.specs.Outcomes.{Lands, ended, halt_of};
 
 use crate::ending::{clear_made, end_method, resume_frame};
 use class_model::NoMemory;
 use class_tree::Tree;
-use machine_step::{MethodTraits, Outcome, WorldState, method_traits, show_result};
+use machine_code::{MethodTraits, method_traits};
+use machine_step::{Outcome, WorldState, show_result};
 use machine_values::{Ref, RunFrame, RunFrameList, Value};
 use std::alloc::Global;
 

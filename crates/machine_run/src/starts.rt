@@ -9,13 +9,14 @@ ghost use Rattle.member_link.specs.Machine.Beginnings.{starts_of, with_starts};
 ghost use Rattle.member_link.specs.Machine.Classes.{constant_of, start_of, starts_from};
 ghost use Rattle.member_link.specs.Machine.Programs.{Program};
 ghost use Rattle.member_link.specs.Machine.Worlds.{field_desc};
-ghost use Rattle.machine_step.specs.Inner.Narrowings.{narrowing_of};
-ghost use Rattle.machine_step.specs.Programs.{IsProgram};
+ghost use Rattle.machine_heap.specs.Narrowings.{narrowing_of};
+ghost use Rattle.member_link.specs.TreePrograms.{IsProgram};
 ghost use Rattle.machine_run.specs.Inner.StartWords.{AreFieldsOf, put_if, start_if, with_start_if};
 
 use class_model::{ACC_STATIC, Attr, ClassFile, Const, Field, NoMemory, Pool, has};
 use class_tree::Tree;
-use machine_step::{Memory, Narrowing, narrow, narrowing_of_text};
+use machine_heap::{Narrowing, narrow};
+use machine_step::{Memory, narrowing_of_text};
 use machine_values::{Constant, Value};
 
 /// Writes the static fields of a class of the folder that have a constant value.

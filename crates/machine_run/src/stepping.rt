@@ -9,10 +9,10 @@ ghost use Rattle.member_link.specs.Machine.Stepping.{frames_step, is_library_tur
 ghost use Rattle.member_link.specs.Machine.Worlds as Worlds;
 ghost use Rattle.member_link.specs.Machine.Worlds.{World as Before};
 ghost use Rattle.machine_step.specs.Bounded.{CanGoOn, IsBoundedWorld};
-ghost use Rattle.machine_step.specs.Prepared.{IsPrepared};
-ghost use Rattle.machine_step.specs.Programs.{IsProgram};
+ghost use Rattle.machine_code.specs.Prepared.{IsPrepared};
+ghost use Rattle.member_link.specs.TreePrograms.{IsProgram};
 ghost use Rattle.machine_step.specs.Room.{HasRoom};
-ghost use Rattle.machine_step.specs.RunOps.{IsResolved, op_of};
+ghost use Rattle.member_link.specs.RunOps.{IsResolved, op_of};
 ghost use Rattle.machine_run.specs.Inner.Performed.{CanFinish, CanFinishFrame, CanPerform, HasBoundedNext, HasNoPoint, IsFrameOf, IsKept, operated_world, performed, top_of, world_operated};
 ghost use Rattle.machine_run.specs.Inner.StepWords.{AreRunning, HasOperated, IsRunning, Leads, Runs, behind};
 ghost use Rattle.machine_run.specs.Outcomes.{Steps, ended, halt_of};
@@ -27,12 +27,11 @@ use crate::performing::{perform, resume_frame};
 use crate::returning::return_value;
 use class_model::{MethodAt, NoMemory};
 use class_tree::Tree;
+use machine_code::{Prepared, PreparedMethod, operands};
 use machine_laws::a_step_keeps_counts_within_bounds;
-use machine_step::{
-    Completed, Memory, Outcome, Prepared, PreparedMethod, RunOp, World, WorldState, arity,
-    operands, work,
-};
+use machine_step::{Completed, Memory, Outcome, World, WorldState, arity, work};
 use machine_values::{MethodFrame, RunFrame, RunFrameList, Value};
+use member_link::RunOp;
 use std::alloc::Global;
 
 // What an operation of the top frame has done, or leaves to do.

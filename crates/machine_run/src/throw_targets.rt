@@ -4,14 +4,15 @@ ghost use Rattle.std.specs.Option.{option_copied};
 ghost use Rattle.class_model.specs.declared.class_file.MethodAt.{MethodAt as At};
 ghost use Rattle.machine_values.specs.declared.frame.RunFrame.TheVariants.{Method};
 ghost use Rattle.member_link.specs.Machine.Programs.{Program, point_at};
-ghost use Rattle.machine_step.specs.Prepared.{IsPrepared, catches_around, stands_around};
-ghost use Rattle.machine_step.specs.Programs.{IsProgram};
+ghost use Rattle.machine_code.specs.Prepared.{IsPrepared, catches_around, stands_around};
+ghost use Rattle.member_link.specs.TreePrograms.{IsProgram};
 ghost use Rattle.machine_run.specs.Inner.ThrowTargets.{catches, first_handler, handler_around, passing_in, shape_at, target_in};
 
 use class_model::{MethodAt, NoMemory};
 use class_tree::Tree;
+use machine_code::{Prepared, PreparedHandler, PreparedMethod, method_traits};
 use machine_heap::Heap;
-use machine_step::{Prepared, PreparedHandler, PreparedMethod, is_instance, method_traits};
+use machine_step::is_instance;
 use machine_values::{MethodFrame, Ref, RunFrame, RunFrameList, Shape};
 use std::alloc::Global;
 

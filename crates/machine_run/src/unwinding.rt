@@ -7,7 +7,7 @@ ghost use Rattle.machine_values.specs.declared.value.Value.TheVariants as values
 ghost use Rattle.member_link.specs.Machine.Performing.{thrown, thrown_in};
 ghost use Rattle.member_link.specs.Machine.Programs.{Program};
 ghost use Rattle.member_link.specs.Machine.Worlds.{World};
-ghost use Rattle.machine_step.specs.Programs.{IsProgram};
+ghost use Rattle.member_link.specs.TreePrograms.{IsProgram};
 ghost use Rattle.machine_run.specs.Inner.ThrowTargets.{shape_at, target_in};
 ghost use Rattle.machine_run.specs.Inner.Unwinding.{AreEnded};
 ghost use Rattle.machine_run.specs.Outcomes.{Lands, ended, halt_of};
@@ -17,7 +17,8 @@ use crate::frames::{frame_count, pop_frame};
 use crate::throw_targets::{TargetKind, ThrowTarget, find_target, shape_of};
 use class_model::NoMemory;
 use class_tree::Tree;
-use machine_step::{Outcome, Prepared, WorldState, show_threw};
+use machine_code::Prepared;
+use machine_step::{Outcome, WorldState, show_threw};
 use machine_values::{Ref, RunFrame, RunFrameList};
 use std::alloc::Global;
 

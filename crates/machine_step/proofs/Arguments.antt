@@ -11,7 +11,7 @@ use Rattle.member_link.specs.Machine.Shapes.{value_conforms}
 use Rattle.member_link.specs.Machine.Worlds.{World}
 use Rattle.member_link.specs.Laws.Parameters.{none_before, not_true, one_before, shorter}
 use Rattle.member_link.specs.Signatures.{begins_type}
-use Rattle.machine_step.specs.Programs.{IsProgram}
+use Rattle.member_link.specs.TreePrograms.{IsProgram}
 
 -- those of the rest of the descriptor are left
 pub record Left (classes : Classes) (heap : Heap) (desc rest : List ℕ) (values others : List Value) : Type 0 where

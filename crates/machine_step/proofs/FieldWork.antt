@@ -28,7 +28,7 @@ use Rattle.member_link.specs.Machine.Worlds.{Memory, field_desc, static_value, s
 use Rattle.member_link.specs.References.{Reference}
 use Rattle.machine_step.specs.Completing.{Completes}
 use Rattle.machine_step.specs.Inner.FieldWords.{put_conforming, slot_at, slot_in, stored_at}
-use Rattle.machine_step.specs.RunOps.{IsStoredAs}
+use Rattle.member_link.specs.RunOps.{IsStoredAs}
 use Rattle.machine_step.specs.declared.completed.Completed.{Completed}
 use Rattle.member_link.specs.Laws.FirstNumbers.{number_is_place}
 

@@ -16,12 +16,12 @@ use Rattle.member_link.specs.declared.selection.CallForm.TheVariants.{Virtual, I
 use Rattle.machine_step.specs.Completing.{Completes}
 use Rattle.machine_step.specs.declared.completed.Completed.{Completed}
 use Rattle.machine_step.specs.Inner.Receivers.{IsByReceiver, by_shape, call_work, takes_shape}
-use Rattle.machine_step.specs.Inner.Resolved.{is_nothing}
-use Rattle.machine_step.specs.RunOps.{HasParameters, IsFoundByReceiver, IsFoundSpecial, IsReceiverTarget, IsSpecialTarget, RunsSpecial, called, takes_receiver}
-use Rattle.machine_step.specs.declared.run_op.CallOp.{CallOp}
-use Rattle.machine_step.specs.declared.run_op.CallTarget.{CallTarget}
-use Rattle.machine_step.specs.declared.run_op.Callee.{Callee}
-use Rattle.machine_step.specs.declared.run_op.Callee.TheVariants.{Runs, Asks, Raises, Nothing}
+use Rattle.member_link.specs.RunOps.{is_nothing}
+use Rattle.member_link.specs.RunOps.{HasParameters, IsFoundByReceiver, IsFoundSpecial, IsReceiverTarget, IsSpecialTarget, RunsSpecial, called, takes_receiver}
+use Rattle.member_link.specs.declared.run_op.CallOp.{CallOp}
+use Rattle.member_link.specs.declared.run_op.CallTarget.{CallTarget}
+use Rattle.member_link.specs.declared.run_op.Callee.{Callee}
+use Rattle.member_link.specs.declared.run_op.Callee.TheVariants.{Runs, Asks, Raises, Nothing}
 
 -- ---- selection by the receiver's class, in both forms
 

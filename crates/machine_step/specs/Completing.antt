@@ -5,7 +5,7 @@ use Rattle.member_link.specs.Machine.Completions as made
 use Rattle.member_link.specs.Machine.Completions.{Completion}
 use Rattle.member_link.specs.Machine.Worlds as halts
 use Rattle.member_link.specs.Machine.Worlds.{Memory}
-use Rattle.machine_step.specs.RunOps.{throwable_name}
+use Rattle.member_link.specs.RunOps.{throwable_name}
 use Rattle.machine_step.specs.declared.completed.Asked.{Asked}
 use Rattle.machine_step.specs.declared.completed.Asked.TheVariants as asked
 use Rattle.machine_step.specs.declared.completed.Completed.{Completed}

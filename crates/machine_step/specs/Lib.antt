@@ -1,11 +1,6 @@
 pub mod Bounded
 pub mod Completing
 pub mod FewOperands
-pub mod Prepared
-pub mod Programs
 pub mod Room
-pub mod RunOps
-pub mod ShortArrays
 pub mod SpentWorlds
 pub mod Inner
-pub mod Laws

@@ -7,11 +7,11 @@ ghost use Rattle.member_link.specs.Machine.Work.{division_work};
 ghost use Rattle.member_link.specs.Machine.Worlds.{Memory};
 ghost use Rattle.machine_step.specs.Inner.Results.{pure_result, completion_of};
 
-use crate::values::{Narrowing, narrow_int};
 use class_model::opcodes::{
     I2B, I2C, I2L, I2S, IADD, IAND, IDIV, IMUL, INEG, IOR, IREM, ISHL, ISHR, ISUB, IUSHR, IXOR,
     L2I, LADD, LAND, LCMP, LDIV, LMUL, LNEG, LOR, LREM, LSHL, LSHR, LSUB, LUSHR, LXOR,
 };
+use machine_heap::{Narrowing, narrow_int};
 use machine_values::Value;
 
 /// How many operands arithmetic of int and long takes that raises nothing.

@@ -12,11 +12,11 @@ ghost use Rattle.machine_step.specs.Room.{HasRoom};
 
 use crate::completed::Completed;
 use crate::memory::Memory;
-use crate::run_op::Throwable;
 use class_model::opcodes::IALOAD;
 use class_model::{NoMemory, Text};
 use machine_heap::{blank_elements, component_text};
 use machine_values::{Object, Ref, Shape, Value, ValueList};
+use member_link::Throwable;
 use std::alloc::Global;
 
 /// The most elements of an array, and of any product of the leading counts of a `multianewarray`: this project's profile.

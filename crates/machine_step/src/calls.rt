@@ -7,15 +7,15 @@ ghost use Rattle.member_link.specs.Machine.CallSteps.{call_dynamic_work, call_st
 ghost use Rattle.member_link.specs.Machine.Programs.{Program};
 ghost use Rattle.member_link.specs.Machine.Worlds.{Memory as State};
 ghost use Rattle.machine_step.specs.Completing.{Completes};
-ghost use Rattle.machine_step.specs.RunOps.{HasParameters, IsFoundStatic, IsStaticTarget, called};
+ghost use Rattle.member_link.specs.RunOps.{HasParameters, IsFoundStatic, IsStaticTarget, called};
 
 use crate::completed::{Asked, Completed};
 use crate::memory::Memory;
 use crate::objects::unbegun;
-use crate::run_op::{CallOp, CallTarget, Callee, DynamicOp};
-use crate::values::have_kinds;
 use class_model::NoMemory;
+use machine_heap::have_kinds;
 use machine_values::Value;
+use member_link::{CallOp, CallTarget, Callee, DynamicOp};
 
 /// An `invokestatic`, behind the beginning of the class that declares the method if that is one of the folder.
 ///

@@ -1,8 +1,7 @@
 //! What an operation comes to with its operands, which stand on the stack until it is performed.
-use crate::run_op::Throwable;
 use class_model::{MethodAt, Text};
 use machine_values::{Ref, Value};
-use member_link::Reference;
+use member_link::{Reference, Throwable};
 
 /// What the library is asked. The values of a call, of a dynamic one and of floats are the operands.
 #[derive(Drop)]

@@ -11,9 +11,9 @@ use crate::arithmetic::{Divided, divide, pure};
 use crate::completed::{Asked, Completed};
 use crate::floats::float_fits;
 use crate::memory::Memory;
-use crate::run_op::Throwable;
 use class_model::NoMemory;
 use machine_values::{Constant, Value};
+use member_link::Throwable;
 
 /// The reference of a constant.
 ///

@@ -8,21 +8,20 @@ ghost use Rattle.member_link.specs.Machine.ArraySteps.{array_length_work, fits_c
 ghost use Rattle.member_link.specs.Machine.Programs.{Program};
 ghost use Rattle.member_link.specs.Machine.Worlds.{Memory as State, with_heap};
 ghost use Rattle.machine_step.specs.Completing.{Completes};
-ghost use Rattle.machine_step.specs.Inner.Narrowings.{narrowing_of};
+ghost use Rattle.machine_heap.specs.Narrowings.{narrowing_of};
 ghost use Rattle.machine_step.specs.Inner.Stores.{IsPlaced, IsRefused};
-ghost use Rattle.machine_step.specs.Programs.{IsProgram};
-ghost use Rattle.machine_step.specs.ShortArrays.{IsShort};
+ghost use Rattle.member_link.specs.TreePrograms.{IsProgram};
+ghost use Rattle.machine_heap.specs.ShortArrays.{IsShort};
 
 use crate::arrays::{index_in, takes_array};
 use crate::completed::Completed;
 use crate::memory::Memory;
 use crate::questions::shapes::{component_named, is_instance};
-use crate::run_op::Throwable;
-use crate::values::{Narrowing, narrow};
 use class_model::opcodes::IASTORE;
 use class_tree::Tree;
-use machine_heap::component_text;
+use machine_heap::{Narrowing, component_text, narrow};
 use machine_values::{Object, Ref, Shape, Value};
+use member_link::Throwable;
 
 // ---- lengths
 

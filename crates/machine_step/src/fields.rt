@@ -2,13 +2,13 @@
 ghost use Rattle.std.specs.Prelude.{◌≡◌, ℕ, List};
 ghost use Rattle.class_model.specs.Descriptors.{kind_of, type_of};
 ghost use Rattle.machine_values.specs.Values.{has_kind, narrowed};
-ghost use Rattle.machine_step.specs.RunOps.{IsStoredAs};
+ghost use Rattle.member_link.specs.RunOps.{IsStoredAs};
 
 mod objects;
 mod statics;
 
-use crate::values::{Narrowing, has_kind, narrow};
 use class_model::FieldType;
+use machine_heap::{Narrowing, has_kind, narrow};
 use machine_values::Value;
 pub(crate) use objects::{get_field, put_field};
 pub(crate) use statics::{get_static, put_static};

@@ -5,12 +5,12 @@ ghost use Rattle.member_link.specs.Machine.Work.{float_work, float_operands};
 ghost use Rattle.member_link.specs.Rows.ArithmeticRows.{float_operations, operation_in};
 ghost use Rattle.machine_step.specs.Inner.Results.{asked_if};
 
-use crate::values::has_kind;
 use class_model::Kind;
 use class_model::opcodes::{
     D2F, D2I, D2L, DADD, DCMPG, DCMPL, DDIV, DMUL, DNEG, DREM, DSUB, F2D, F2I, F2L, FADD, FCMPG,
     FCMPL, FDIV, FMUL, FNEG, FREM, FSUB, I2D, I2F, L2D, L2F,
 };
+use machine_heap::has_kind;
 use machine_values::Value;
 
 /// How many operands arithmetic of float and double takes. Another opcode has none.

@@ -5,7 +5,7 @@ ghost use Rattle.machine_values.specs.Heaps.{allocated, constant_made, left, mon
 ghost use Rattle.member_link.specs.Machine.ObjectSteps.{with_entered};
 ghost use Rattle.member_link.specs.Machine.Worlds.{with_heap, with_static};
 ghost use Rattle.machine_step.specs.Room.{HasRoom};
-ghost use Rattle.machine_step.specs.ShortArrays.{IsShort};
+ghost use Rattle.machine_heap.specs.ShortArrays.{IsShort};
 
 use crate::begun::ClassNumberList;
 use crate::monitors::MonitorHeap;

@@ -3,14 +3,13 @@ ghost use Rattle.std.specs.Prelude.{◌≡◌, ◌<◌, ◌↔◌, ◌^◌, ◌-
 ghost use Rattle.std.specs.Option.{option_copied};
 ghost use Rattle.machine_heap.specs.Objects.{value_at};
 ghost use Rattle.machine_values.specs.Heaps.{allocated, constant_in, constant_made, entered, left, monitor_count, object_at, with_value};
-ghost use Rattle.machine_step.specs.ShortArrays.{IsShort};
+ghost use Rattle.machine_heap.specs.ShortArrays.{IsShort};
 
-use crate::array_heap::ArrayHeap;
 use crate::counting::known_counts;
 use crate::known::KnownRefs;
 use class_model::NoMemory;
 use indexmap::IndexSet;
-use machine_heap::{Heap, Put};
+use machine_heap::{ArrayHeap, Heap, Put};
 use machine_values::{Constant, CountList, Object, Ref, Shape, Value, ValueList};
 use std::alloc::Global;
 use std::marker::Model;

@@ -12,10 +12,10 @@ use crate::arrays::MOST_ELEMENTS;
 use crate::completed::Completed;
 use crate::memory::Memory;
 use crate::monitors::MonitorHeap;
-use crate::run_op::Throwable;
 use class_model::{NoMemory, Text};
 use machine_heap::{blank_elements, component_text};
 use machine_values::{Ref, Shape, Value, ValueList};
+use member_link::Throwable;
 use std::alloc::Global;
 
 /// A `multianewarray`, by the descriptor of the outermost array. It has at most 255 counts.

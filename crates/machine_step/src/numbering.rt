@@ -4,14 +4,14 @@ ghost use Rattle.machine_values.specs.Heaps.{Heap as HeapState};
 ghost use Rattle.member_link.specs.Machine.Programs.{Program};
 ghost use Rattle.member_link.specs.Machine.Shapes.{class_of_shape};
 ghost use Rattle.member_link.specs.Machine.Showing.{also_of, first_of, numbered, numbered_all, numbered_option, numbered_reference};
-ghost use Rattle.machine_step.specs.Programs.{IsProgram};
+ghost use Rattle.member_link.specs.TreePrograms.{IsProgram};
 
 use crate::known::KnownRefs;
-use crate::questions::classes::class_name;
 use class_model::{NoMemory, Text, TextList};
 use class_tree::Tree;
 use machine_heap::Heap;
 use machine_values::{First, Ref, Seen, SeenList, SeenRef, Shape, Value};
+use member_link::class_name;
 use std::alloc::Global;
 
 // The class of an object, or the descriptor of an array.

@@ -12,17 +12,17 @@ ghost use Rattle.member_link.specs.Machine.Programs.{Program, folder_number};
 ghost use Rattle.member_link.specs.Machine.Shapes.{is_instance, shape_conforms};
 ghost use Rattle.machine_step.specs.Completing.{Completes};
 ghost use Rattle.machine_step.specs.Inner.Works.{or_begins};
-ghost use Rattle.machine_step.specs.RunOps.{IsCastOp, IsNewOp};
-ghost use Rattle.machine_step.specs.Programs.{IsProgram};
+ghost use Rattle.member_link.specs.RunOps.{IsCastOp, IsNewOp};
+ghost use Rattle.member_link.specs.TreePrograms.{IsProgram};
 ghost use Rattle.machine_step.specs.Room.{HasRoom};
 
 use crate::completed::Completed;
 use crate::memory::Memory;
 use crate::questions::shapes::{is_instance, shape_conforms};
-use crate::run_op::{CastOp, NewOp, SeenAnswer, Throwable};
 use class_model::{NoMemory, Text, TextList};
 use class_tree::Tree;
 use machine_values::{Ref, Shape, Value, ValueList};
+use member_link::{CastOp, NewOp, SeenAnswer, Throwable};
 use std::alloc::Global;
 
 // ---- monitors

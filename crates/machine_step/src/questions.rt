@@ -1,8 +1,4 @@
-//! What the machine asks of the classes of a tree: the definitions' words, answered without a search over all classes.
-pub(crate) mod classes;
+//! What the machine asks of the classes of a tree and of the objects of a heap: the definitions' words.
 pub(crate) mod conforming;
 pub(crate) mod fields;
-pub(crate) mod members;
-pub(crate) mod methods;
 pub(crate) mod shapes;
-pub(crate) mod traits;

@@ -13,21 +13,21 @@ ghost use Rattle.member_link.specs.Machine.Worlds.{Memory as State};
 ghost use Rattle.member_link.specs.References.{Reference as Named};
 ghost use Rattle.machine_step.specs.Completing.{Completes};
 ghost use Rattle.machine_step.specs.Inner.Receivers.{IsByReceiver, by_shape, call_work, refused, takes_shape};
-ghost use Rattle.machine_step.specs.Inner.Resolved.{is_nothing};
-ghost use Rattle.machine_step.specs.Programs.{IsProgram};
-ghost use Rattle.machine_step.specs.RunOps.{HasParameters, IsFoundByReceiver, IsFoundMethod, IsFoundSpecial, IsSeenCallee, RunsSpecial};
+ghost use Rattle.member_link.specs.RunOps.{is_nothing};
+ghost use Rattle.member_link.specs.TreePrograms.{IsProgram};
+ghost use Rattle.member_link.specs.RunOps.{HasParameters, IsFoundByReceiver, IsFoundMethod, IsFoundSpecial, IsSeenCallee, RunsSpecial};
 
 use crate::calls::comes_to;
 use crate::completed::{Asked, Completed};
 use crate::memory::Memory;
 use crate::questions::shapes::{is_instance, shape_conforms};
-use crate::resolving::calls::{callee_of, run_selected};
-use crate::run_op::{CallOp, CallTarget, Callee, SeenCallee, Throwable};
-use crate::values::have_kinds;
 use class_model::{Kind, NoMemory, Text};
 use class_tree::Tree;
+use machine_heap::have_kinds;
 use machine_values::{Shape, Value};
-use member_link::{CallForm, Reference};
+use member_link::{
+    CallForm, CallOp, CallTarget, Callee, Reference, SeenCallee, Throwable, callee_of, run_selected,
+};
 use std::alloc::Global;
 
 /// An `invokevirtual` or `invokeinterface`. For a receiver of a class of the folder, what the call runs is remembered.

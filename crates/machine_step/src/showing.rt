@@ -3,7 +3,7 @@ ghost use Rattle.std.specs.Prelude.{◌≡◌, [], ◌∷◌, ◌++◌, IfOk, On
 ghost use Rattle.member_link.specs.Machine.Programs.{Program};
 ghost use Rattle.member_link.specs.Machine.Showing.{asked_kind, event_of, shows_asked, shows_got, shows_length, shows_made, shows_result, shows_threw};
 ghost use Rattle.machine_step.specs.Completing.{asked_of};
-ghost use Rattle.machine_step.specs.Programs.{IsProgram};
+ghost use Rattle.member_link.specs.TreePrograms.{IsProgram};
 
 use crate::completed::Asked;
 use crate::known::KnownRefs;

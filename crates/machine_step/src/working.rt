@@ -4,9 +4,9 @@ ghost use Rattle.member_link.specs.Machine.Programs.{Program};
 ghost use Rattle.member_link.specs.Machine.Work.{arity, work};
 ghost use Rattle.machine_step.specs.Completing.{Completes};
 ghost use Rattle.machine_step.specs.FewOperands.{HasFewOperands};
-ghost use Rattle.machine_step.specs.Programs.{IsProgram};
+ghost use Rattle.member_link.specs.TreePrograms.{IsProgram};
 ghost use Rattle.machine_step.specs.Room.{HasRoom};
-ghost use Rattle.machine_step.specs.RunOps.{HasParameters, IsResolved, op_of, special_op};
+ghost use Rattle.member_link.specs.RunOps.{HasParameters, IsResolved, op_of, special_op};
 
 use crate::arithmetic::pure_operands;
 use crate::arrays::{load_element, new_array};
@@ -20,11 +20,10 @@ use crate::memory::Memory;
 use crate::nested_arrays::new_arrays;
 use crate::objects::{check_cast, enter_monitor, instance_of, leave_monitor, new_object, throw};
 use crate::receivers::{call_by_receiver, call_special};
-use crate::run_op::{CallOp, RunOp};
 use class_model::NoMemory;
 use class_tree::Tree;
 use machine_values::Value;
-use member_link::CallForm;
+use member_link::{CallForm, CallOp, RunOp};
 use std::alloc::Global;
 
 /// How many operands an operation takes off the stack. It does not allocate.

@@ -17,3 +17,4 @@ pub mod Scope
 pub mod SelectionSteps
 pub mod SlotWords
 pub mod Spans
+pub mod QuestionWords

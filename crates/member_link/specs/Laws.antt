@@ -8,3 +8,6 @@ pub mod Parameters
 pub mod Renumbered
 pub mod ResultTexts
 pub mod TranslatedOps
+pub mod OwnMethods
+pub mod ProgramHeaders
+pub mod ProgramMembers

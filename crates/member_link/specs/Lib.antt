@@ -30,5 +30,7 @@ pub mod Rows
 pub mod BodyTyping
 pub mod Scope
 pub mod Machine
+pub mod RunOps
+pub mod TreePrograms
 pub mod Laws
 pub mod Inner

@@ -31,11 +31,13 @@ mod names;
 mod overriding;
 mod own;
 mod packages;
+mod questions;
 mod reference;
 mod references;
 mod resolution;
 mod resolver;
 mod resolving;
+mod run_op;
 mod selection;
 mod slots;
 mod spans;
@@ -72,7 +74,16 @@ pub use methods::find_method;
 pub use overriding::overrides;
 pub use own::own_method;
 pub use packages::is_same_package;
+pub use questions::callees::{callee_of, method_found, reference_to, run_call, run_selected};
+pub use questions::classes::{
+    class_name, folder_number, header_named, is_interface_named, is_type_below,
+};
+pub use questions::methods::{has_code, has_method_flag, place_of_method};
 pub use reference::{MemberRef, Reference, descriptor_at, member_at, name_at, reference_of};
+pub use run_op::{
+    CallOp, CallTarget, Callee, CastOp, DynamicOp, FieldHome, FieldOp, FieldTarget, LookupOp,
+    NewOp, RunOp, SeenAnswer, SeenCallee, SeenSlot, TableOp, Throwable,
+};
 pub use selection::{CallForm, Selected, select};
 pub use slots::slot_number;
 pub use special::special_start;

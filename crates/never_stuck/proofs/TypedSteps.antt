@@ -2,7 +2,7 @@ use Rattle.std.specs.Prelude.{◌≡◌, ◌≢◌, true, Result, Ok, Err, IfOk,
 use Rattle.std.proofs.Common.{ap, sym, ◌∙◌, subst}
 use Rattle.class_tree.specs.Headers.{Classes}
 use Rattle.machine_run.specs.Outcomes.{ended, halt_of, halt_behind}
-use Rattle.machine_step.specs.Programs.{IsProgram}
+use Rattle.member_link.specs.TreePrograms.{IsProgram}
 use Rattle.machine_step.specs.declared.world.Acted.{Acted}
 use Rattle.machine_step.specs.declared.world.Acted.TheVariants as acted
 use Rattle.machine_step.specs.declared.world.Outcome.{Outcome}

@@ -1,6 +1,6 @@
 //! Runs of a folder that verifies.
 ghost use Rattle.std.specs.Prelude.{◌≡◌, ◌≢◌, ℕ, List, IfOk};
-ghost use Rattle.machine_step.specs.Programs.{IsProgram};
+ghost use Rattle.member_link.specs.TreePrograms.{IsProgram};
 ghost use Rattle.machine_values.specs.declared.action.Action.{Action};
 ghost use Rattle.machine_values.specs.declared.event.End.TheVariants as ends;
 ghost use Rattle.member_link.specs.Linked.{IsLinked};

@@ -1,7 +1,7 @@
 //! Steps of a run, and actions of its library, that keep a typed world typed.
 ghost use Rattle.std.specs.Prelude.{◌≡◌, ◌≢◌, ◌↔◌, ◌<◌, ◌-◌, ◌^◌, true, false, IfOk, OnOk, OnErr};
 ghost use Rattle.machine_run.specs.Outcomes.{ended, halt_behind, halt_of};
-ghost use Rattle.machine_step.specs.Programs.{IsProgram};
+ghost use Rattle.member_link.specs.TreePrograms.{IsProgram};
 ghost use Rattle.member_link.specs.Machine.Acting.{act};
 ghost use Rattle.member_link.specs.Machine.Programs.{Program};
 ghost use Rattle.member_link.specs.Machine.Stepping.{is_library_turn, step};

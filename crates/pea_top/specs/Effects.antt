@@ -8,7 +8,7 @@ use Rattle.class_tree.specs.Headers.{Classes}
 use Rattle.class_tree.specs.Trees.{IsArranged}
 use Rattle.host_tree.specs.Host.{Bytes, Folder, Files, SameFiles, IsPrefixPrinted}
 use Rattle.host_tree.specs.declared.call.HostCall.TheVariants as calls
-use Rattle.machine_step.specs.Programs.{IsProgram}
+use Rattle.member_link.specs.TreePrograms.{IsProgram}
 use Rattle.machine_values.specs.declared.action.Action.{Action}
 use Rattle.member_link.specs.Machine.Programs.{Program}
 use Rattle.member_link.specs.Machine.Runs.{shown_after}

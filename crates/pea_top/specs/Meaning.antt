@@ -7,7 +7,7 @@ use Rattle.class_model.specs.declared.header.Header.{Header}
 use Rattle.class_tree.specs.Headers.{Classes}
 use Rattle.class_tree.specs.Trees.{IsArranged}
 use Rattle.host_tree.specs.Host.{Bytes, Folder}
-use Rattle.machine_step.specs.Programs.{IsProgram}
+use Rattle.member_link.specs.TreePrograms.{IsProgram}
 use Rattle.member_link.specs.Machine.Programs.{Program}
 use Rattle.member_link.specs.Machine.SameRuns.{SameRuns}
 use Rattle.type_rules.specs.Verified.{IsVerified}

@@ -9,9 +9,9 @@ ghost use Rattle.member_link.specs.Machine.Programs.{Program};
 ghost use Rattle.member_link.specs.Machine.Worlds.{World as State};
 ghost use Rattle.machine_step.specs.Bounded.{CanGoOn};
 ghost use Rattle.machine_step.specs.Completing.{values_of};
-ghost use Rattle.machine_step.specs.Prepared.{IsPrepared};
-ghost use Rattle.machine_step.specs.Programs.{IsProgram};
-ghost use Rattle.machine_step.specs.RunOps.{op_of};
+ghost use Rattle.machine_code.specs.Prepared.{IsPrepared};
+ghost use Rattle.member_link.specs.TreePrograms.{IsProgram};
+ghost use Rattle.member_link.specs.RunOps.{op_of};
 ghost use Rattle.machine_run.specs.Inner.ActingWords.{HasWaiting, answer_for, awaited_at, awaited_below, goes_on, may_throw, method_of, put_back, thrown_below, value_for, waiting_frame, with_answer};
 ghost use Rattle.machine_run.specs.Outcomes.{ended, halt_behind};
 
@@ -25,9 +25,11 @@ use crate::returning::frame_below;
 use crate::unwinding::throw;
 use class_model::NoMemory;
 use class_tree::{THROWABLE, Tree};
+use machine_code::{Prepared, PreparedMethod};
 use machine_heap::Heap;
-use machine_step::{Acted, Outcome, Prepared, PreparedMethod, RunOp, WorldState, is_instance};
+use machine_step::{Acted, Outcome, WorldState, is_instance};
 use machine_values::{Given, MethodFrame, Ref, RunFrame, RunFrameList, Value};
+use member_link::RunOp;
 use std::alloc::Global;
 
 // What goes to the operation that waits: a value or none.

@@ -6,7 +6,7 @@ ghost use Rattle.machine_values.specs.Heaps.{with_value};
 ghost use Rattle.member_link.specs.Machine.Acting.{act_array_get, act_array_length, act_array_set, act_new_array, given_value as value_given, got_of_value, known_object, set_of_shape};
 ghost use Rattle.member_link.specs.Machine.Programs.{Program};
 ghost use Rattle.member_link.specs.Machine.Worlds.{World as State, with_heap};
-ghost use Rattle.machine_step.specs.Programs.{IsProgram};
+ghost use Rattle.member_link.specs.TreePrograms.{IsProgram};
 ghost use Rattle.machine_run.specs.Inner.ArrayWords.{element_in, narrowed_value, length_in, with_array, with_length, with_written};
 ghost use Rattle.machine_run.specs.Outcomes.{ended, halt_behind};
 
@@ -15,10 +15,10 @@ use crate::acting::given::given_value;
 use crate::laws::a_state_goes_on;
 use class_model::{NoMemory, Text};
 use class_tree::Tree;
-use machine_heap::{Heap, component_text};
+use machine_heap::{Heap, component_text, narrow};
 use machine_step::{
-    Acted, MOST_ELEMENTS, Memory, WorldState, blank_array, index_in, narrow, narrowing_of_text,
-    show_got, show_length, show_made, text_conforms,
+    Acted, MOST_ELEMENTS, Memory, WorldState, blank_array, index_in, narrowing_of_text, show_got,
+    show_length, show_made, text_conforms,
 };
 use machine_values::{Given, Object, Ref, Shape, Value};
 use std::alloc::Global;

@@ -4,15 +4,14 @@ ghost use Rattle.std.specs.Option.{option_copied};
 ghost use Rattle.class_model.specs.Descriptors.{type_of};
 ghost use Rattle.member_link.specs.Machine.Acting.{pending_of};
 ghost use Rattle.member_link.specs.Rows.ArithmeticRows.{float_operations, operation_in};
-ghost use Rattle.machine_step.specs.RunOps.{op_of};
+ghost use Rattle.member_link.specs.RunOps.{op_of};
 ghost use Rattle.machine_run.specs.Inner.ActingWords.{awaited_type, computed_type, may_throw};
 
 use class_model::opcodes::{
     D2F, D2I, D2L, DADD, DCMPG, DCMPL, DDIV, DMUL, DNEG, DREM, DSUB, F2D, F2I, F2L, FADD, FCMPG,
     FCMPL, FDIV, FMUL, FNEG, FREM, FSUB, I2D, I2F, L2D, L2F,
 };
-use machine_step::RunOp;
-use member_link::result_text;
+use member_link::{RunOp, result_text};
 
 /// Whether an operation waits for the library. It does not allocate.
 pub(crate) fn is_awaited(op: &RunOp) -> bool

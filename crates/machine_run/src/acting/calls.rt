@@ -5,7 +5,7 @@ ghost use Rattle.member_link.specs.Machine.Acting.{act_call, beginning_if, begin
 ghost use Rattle.member_link.specs.Machine.Performing.{called};
 ghost use Rattle.member_link.specs.Machine.Programs.{Program, place_of_method, run_method};
 ghost use Rattle.member_link.specs.Machine.Worlds.{is_begun};
-ghost use Rattle.machine_step.specs.Programs.{IsProgram};
+ghost use Rattle.member_link.specs.TreePrograms.{IsProgram};
 ghost use Rattle.machine_step.specs.Room.{HasRoom};
 ghost use Rattle.machine_run.specs.Inner.ActWords.{is_null};
 ghost use Rattle.machine_run.specs.Outcomes.{Lands, ended, halt_behind, halt_of};
@@ -17,12 +17,10 @@ use crate::laws::a_state_goes_on;
 use crate::raising::raise;
 use class_model::{MethodAt, NoMemory, Text};
 use class_tree::Tree;
-use machine_step::{
-    Acted, Memory, Outcome, Prepared, Throwable, WorldState, arguments_conform, folder_number,
-    has_code, method_traits, named_conforms, place_of_method,
-};
+use machine_code::{Prepared, method_traits};
+use machine_step::{Acted, Memory, Outcome, WorldState, arguments_conform, named_conforms};
 use machine_values::{GivenList, Value};
-use member_link::Reference;
+use member_link::{Reference, Throwable, folder_number, has_code, place_of_method};
 use std::alloc::Global;
 
 /// Calls a method of a class of the folder without selection, the receiver first where it is not static. A null receiver is no fault:

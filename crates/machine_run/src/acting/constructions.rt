@@ -4,7 +4,7 @@ ghost use Rattle.machine_values.specs.declared.value.Value.{Value as Argument};
 ghost use Rattle.member_link.specs.Machine.Acting.{act_construct, is_concrete, with_made};
 ghost use Rattle.member_link.specs.Machine.Programs.{Program, folder_number, header_named};
 ghost use Rattle.member_link.specs.Machine.Worlds.{World as State};
-ghost use Rattle.machine_step.specs.Programs.{IsProgram};
+ghost use Rattle.member_link.specs.TreePrograms.{IsProgram};
 ghost use Rattle.machine_step.specs.Room.{HasRoom};
 ghost use Rattle.machine_run.specs.Inner.ActWords.{IsMade, initialised, is_concrete_header, may_construct};
 ghost use Rattle.machine_run.specs.Outcomes.{ended, halt_behind};
@@ -15,11 +15,11 @@ use crate::acting::handles::is_handled;
 use crate::frames::{pop_frame, push_frame};
 use class_model::{ACC_ABSTRACT, ACC_INTERFACE, Header, INIT, MethodAt, NoMemory, Text, has};
 use class_tree::Tree;
+use machine_code::{Prepared, resolve_new};
 use machine_heap::Heap;
-use machine_step::{
-    Acted, Memory, Prepared, WorldState, arguments_conform, has_code, header_named, resolve_new,
-};
+use machine_step::{Acted, Memory, WorldState, arguments_conform};
 use machine_values::{GivenList, Ref, RunFrame, RunFrameList, Shape, Value, ValueList};
+use member_link::{has_code, header_named};
 use std::alloc::Global;
 
 /// Makes an object of a class of the folder and calls an instance initialiser on it that a method handle of the folder names. The

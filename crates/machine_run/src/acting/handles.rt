@@ -7,7 +7,7 @@ ghost use Rattle.member_link.specs.Machine.Acting.{is_handled};
 ghost use Rattle.member_link.specs.Machine.Programs.{Program};
 ghost use Rattle.member_link.specs.References.{reference_at};
 ghost use Rattle.member_link.specs.Signatures.{reference_of};
-ghost use Rattle.machine_step.specs.Programs.{IsProgram};
+ghost use Rattle.member_link.specs.TreePrograms.{IsProgram};
 ghost use Rattle.machine_run.specs.Inner.ActWords.{has_maker, is_initialiser, is_text, makes_object};
 
 use class_model::{ClassFile, Const, INIT, Pool, Text};

@@ -3,7 +3,7 @@ ghost use Rattle.std.specs.Prelude.{◌≡◌, not, IfOk};
 ghost use Rattle.std.specs.List.{list_any};
 ghost use Rattle.member_link.specs.Machine.Acting.{act_new_external};
 ghost use Rattle.member_link.specs.Machine.Programs.{Program, is_interface_named};
-ghost use Rattle.machine_step.specs.Programs.{IsProgram};
+ghost use Rattle.member_link.specs.TreePrograms.{IsProgram};
 ghost use Rattle.machine_run.specs.Inner.ActingWords.{may_make};
 ghost use Rattle.machine_run.specs.Outcomes.{ended, halt_behind};
 
@@ -11,8 +11,9 @@ use crate::acting::constructions::is_concrete;
 use crate::laws::a_state_goes_on;
 use class_model::{NoMemory, Text, TextList};
 use class_tree::Tree;
-use machine_step::{Acted, WorldState, copy_texts, folder_number, is_interface_named, show_made};
+use machine_step::{Acted, WorldState, copy_texts, show_made};
 use machine_values::{Shape, ValueList};
+use member_link::{folder_number, is_interface_named};
 use std::alloc::Global;
 
 /// Makes an object of a class of the library, which also implements interfaces, and shows it to the library. It is not counted.

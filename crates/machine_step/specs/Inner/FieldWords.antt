@@ -14,10 +14,10 @@ use Rattle.member_link.specs.Machine.Shapes.{reference_conforms, shape_conforms}
 use Rattle.member_link.specs.Machine.Worlds.{Memory, with_heap, stuck}
 use Rattle.member_link.specs.References.{Reference}
 use Rattle.member_link.specs.Machine.Layouts.{capped}
-use Rattle.machine_step.specs.Programs.{IsProgram}
-use Rattle.machine_step.specs.RunOps.{IsFieldTarget}
-use Rattle.machine_step.specs.declared.run_op.FieldOp.{FieldOp}
-use Rattle.machine_step.specs.declared.run_op.FieldTarget.{FieldTarget}
+use Rattle.member_link.specs.TreePrograms.{IsProgram}
+use Rattle.member_link.specs.RunOps.{IsFieldTarget}
+use Rattle.member_link.specs.declared.run_op.FieldOp.{FieldOp}
+use Rattle.member_link.specs.declared.run_op.FieldTarget.{FieldTarget}
 
 -- ---- what an operation knows
 

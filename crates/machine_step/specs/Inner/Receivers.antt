@@ -13,8 +13,8 @@ use Rattle.member_link.specs.Machine.Worlds.{Memory, stuck}
 use Rattle.member_link.specs.References.{Reference}
 use Rattle.member_link.specs.declared.selection.CallForm.{CallForm}
 use Rattle.member_link.specs.declared.selection.CallForm.TheVariants.{Interface}
-use Rattle.machine_step.specs.RunOps.{IsSeenCallee}
-use Rattle.machine_step.specs.declared.run_op.CallTarget.{CallTarget}
+use Rattle.member_link.specs.RunOps.{IsSeenCallee}
+use Rattle.member_link.specs.declared.run_op.CallTarget.{CallTarget}
 
 abbrev pub takes_shape : Program → CallForm → Shape → Name → Bool
 takes_shape P Interface shape named = is_instance P shape named

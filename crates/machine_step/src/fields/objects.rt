@@ -8,9 +8,9 @@ ghost use Rattle.member_link.specs.Machine.Programs.{Program, field_of, folder_n
 ghost use Rattle.machine_step.specs.Completing.{Completes};
 ghost use Rattle.machine_step.specs.Inner.FieldWords.{IsTargetHere, put_conforming, slot_at, slot_in, slot_of};
 ghost use Rattle.member_link.specs.Machine.Layouts.{capped};
-ghost use Rattle.machine_step.specs.Programs.{IsProgram};
-ghost use Rattle.machine_step.specs.RunOps.{IsFieldOp, IsSeenSlot, home_class};
-ghost use Rattle.machine_step.specs.declared.run_op.FieldOp.{FieldOp as Op};
+ghost use Rattle.member_link.specs.TreePrograms.{IsProgram};
+ghost use Rattle.member_link.specs.RunOps.{IsFieldOp, IsSeenSlot, home_class};
+ghost use Rattle.member_link.specs.declared.run_op.FieldOp.{FieldOp as Op};
 
 use crate::completed::{Asked, Completed};
 use crate::fields::{fits, kept};
@@ -18,12 +18,11 @@ use crate::memory::Memory;
 use crate::questions::conforming::reference_conforms;
 use crate::questions::fields::slot_in_class;
 use crate::questions::shapes::shape_conforms;
-use crate::run_op::{FieldHome, FieldOp, FieldTarget, SeenSlot, Throwable};
 use class_model::{NoMemory, Text};
 use class_tree::Tree;
 use machine_heap::{Heap, Put};
 use machine_values::{Object, Ref, Shape, Value};
-use member_link::Reference;
+use member_link::{FieldHome, FieldOp, FieldTarget, Reference, SeenSlot, Throwable};
 
 // ---- reads
 

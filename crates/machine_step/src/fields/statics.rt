@@ -7,17 +7,17 @@ ghost use Rattle.member_link.specs.Machine.Programs.{Program, folder_number};
 ghost use Rattle.member_link.specs.Machine.Worlds.{static_value};
 ghost use Rattle.member_link.specs.References.{Reference as Named};
 ghost use Rattle.machine_step.specs.Completing.{Completes};
-ghost use Rattle.machine_step.specs.RunOps.{IsFieldOp, IsFieldTarget, IsStoredAs, home_class};
-ghost use Rattle.machine_step.specs.declared.run_op.FieldOp.{FieldOp as Op};
+ghost use Rattle.member_link.specs.RunOps.{IsFieldOp, IsFieldTarget, IsStoredAs, home_class};
+ghost use Rattle.member_link.specs.declared.run_op.FieldOp.{FieldOp as Op};
 
 use crate::completed::{Asked, Completed};
 use crate::fields::{fits, kept};
 use crate::memory::Memory;
 use crate::objects::unbegun;
-use crate::run_op::{FieldHome, FieldOp, FieldTarget, Throwable};
-use crate::values::blank;
 use class_model::{FieldType, NoMemory};
+use machine_heap::blank_of_kind;
 use machine_values::Value;
+use member_link::{FieldHome, FieldOp, FieldTarget, Throwable};
 
 // ---- reads
 
@@ -82,7 +82,7 @@ fn static_value(memory: &Memory, class: usize, number: usize, type_: &FieldType)
 {
     match memory.statics.get(class, number) {
         Some(value) => value,
-        None => blank(type_.kind()),
+        None => blank_of_kind(type_.kind()),
     }
 }
 

@@ -6,14 +6,13 @@ ghost use Rattle.member_link.specs.Machine.Acting.{all_conform};
 ghost use Rattle.member_link.specs.Machine.Programs.{Program};
 ghost use Rattle.member_link.specs.Machine.Shapes.{reference_conforms, value_conforms};
 ghost use Rattle.member_link.specs.Machine.Worlds.{World};
-ghost use Rattle.machine_step.specs.Inner.Narrowings.{narrowing_of};
-ghost use Rattle.machine_step.specs.Programs.{IsProgram};
+ghost use Rattle.machine_heap.specs.Narrowings.{narrowing_of};
+ghost use Rattle.member_link.specs.TreePrograms.{IsProgram};
 
 use crate::questions::shapes::shape_conforms;
-use crate::values::{Narrowing, has_kind};
 use class_model::{Kind, Text};
 use class_tree::Tree;
-use machine_heap::Heap;
+use machine_heap::{Heap, Narrowing, has_kind};
 use machine_values::{Ref, Value};
 use member_link::{after_first, after_type, begins_type, first_type, kind_at, named_type};
 

@@ -6,14 +6,13 @@ ghost use Rattle.std.specs.Option.{option_copied};
 ghost use Rattle.member_link.specs.Machine.Programs.{Program, name_of_class};
 ghost use Rattle.member_link.specs.Machine.Shapes.{both_conform, class_conforms, class_of_shape, component_named, components_conform, is_instance, shape_conforms};
 ghost use Rattle.machine_step.specs.Inner.QuestionWords.{behind_bracket};
-ghost use Rattle.machine_step.specs.Programs.{IsProgram};
+ghost use Rattle.member_link.specs.TreePrograms.{IsProgram};
 
-use crate::questions::classes::{class_name, is_interface_named};
 use class_model::Text;
-use class_tree::{OBJECT, Tree, is_subtype};
+use class_tree::{OBJECT, Tree};
 use machine_heap::component_text;
 use machine_values::Shape;
-use member_link::without_last;
+use member_link::{class_name, is_interface_named, is_type_below, without_last};
 
 /// Whether an object of a shape is an instance of a class or array type. It does not allocate.
 pub fn is_instance(tree: &Tree, shape: &Shape, name: &[u8]) -> bool
@@ -141,14 +140,4 @@ fn behind_bracket(bytes: &[u8]) -> Option<&[u8]>
         return None;
     };
     if *first == b'[' { Some(rest) } else { None }
-}
-
-// ---- subtypes
-
-/// Whether a class or array is below another or is the same. It does not allocate.
-pub(crate) fn is_type_below(tree: &Tree, low: &[u8], high: &[u8]) -> bool
-    ensures { (P : Program) → IsProgram tree.now P
-        → result ≡ P.links.below low.now high.now }
-{
-    is_subtype(tree, low, high)
 }

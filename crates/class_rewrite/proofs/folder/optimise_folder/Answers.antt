@@ -3,7 +3,7 @@ use Rattle.class_model.specs.declared.class_file.ClassFile.{ClassFile}
 use Rattle.class_rewrite.specs.Written.{IsWrittenFolder}
 use Rattle.class_rewrite.proofs.WrittenKept.{reported_is_written}
 use Rattle.class_rewrite.proofs.folder.optimise_folder.Goals as goal
-use Rattle.machine_step.specs.Programs.{IsProgram}
+use Rattle.member_link.specs.TreePrograms.{IsProgram}
 use Rattle.member_link.specs.Machine.Classes.{program_of}
 
 pub returns : goal.returns

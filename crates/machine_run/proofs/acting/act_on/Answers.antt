@@ -4,7 +4,7 @@ use Rattle.member_link.specs.Machine.Acting.{act, acted, is_fault}
 use Rattle.member_link.specs.Machine.Programs.{Program}
 use Rattle.member_link.specs.Machine.Worlds.{World}
 use Rattle.machine_step.specs.Bounded.{IsBoundedWorld}
-use Rattle.machine_step.specs.Programs.{IsProgram}
+use Rattle.member_link.specs.TreePrograms.{IsProgram}
 use Rattle.machine_step.specs.declared.world.Acted.{Acted}
 use Rattle.machine_step.specs.declared.world.Acted.TheVariants as answers
 use Rattle.machine_run.specs.Outcomes.{ended, halt_behind}

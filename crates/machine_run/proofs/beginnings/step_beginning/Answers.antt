@@ -3,7 +3,7 @@ use Rattle.std.proofs.lemmas.Option.{same_Some}
 use Rattle.machine_values.specs.declared.frame.RunFrame.TheVariants.{Beginning}
 use Rattle.member_link.specs.Machine.Beginnings.{beginning_step, begun_on, initialiser_of}
 use Rattle.member_link.specs.Machine.Worlds.{World, going}
-use Rattle.machine_step.specs.Programs.{IsProgram}
+use Rattle.member_link.specs.TreePrograms.{IsProgram}
 use Rattle.machine_run.specs.Inner.CallWords.{beginning_on_top}
 use Rattle.machine_run.specs.Outcomes.{ended}
 use Rattle.machine_run.proofs.BegunSteps.{beginning_is, goes_on, past_goes_on}

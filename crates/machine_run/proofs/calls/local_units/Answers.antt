@@ -1,6 +1,6 @@
 use Rattle.std.proofs.Common.{ap, subst, ◌∙◌}
-use Rattle.machine_step.specs.Prepared.{IsPreparedIf}
-use Rattle.machine_step.specs.Programs.{IsProgram}
+use Rattle.machine_code.specs.Prepared.{IsPreparedIf}
+use Rattle.member_link.specs.TreePrograms.{IsProgram}
 use Rattle.machine_run.proofs.CalledMethods.{no_units, units_prepared}
 use Rattle.machine_run.proofs.calls.local_units.Goals as goal
 

@@ -1,7 +1,7 @@
 use Rattle.std.proofs.Common.{◌∙◌}
 use Rattle.std.proofs.lemmas.Result.{IfOk-weaker}
 use Rattle.member_link.specs.Machine.Programs.{name_of_class}
-use Rattle.machine_step.specs.declared.prepared_method.Locks.TheVariants as locks
+use Rattle.machine_code.specs.declared.prepared_method.Locks.TheVariants as locks
 use Rattle.machine_run.proofs.CalledMethods.{locked_by_traits}
 use Rattle.machine_run.proofs.calls.lock.Goals as goal
 

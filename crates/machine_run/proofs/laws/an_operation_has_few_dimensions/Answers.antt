@@ -2,8 +2,8 @@ use Rattle.std.proofs.Common.{◌≡◌, ℕ, arith}
 use Rattle.member_link.specs.Machine.Bounds.{HasFewDimensions}
 use Rattle.member_link.specs.Machine.Work.{arity}
 use Rattle.machine_step.specs.FewOperands.{HasFewOperands}
-use Rattle.machine_step.specs.RunOps.{op_of}
-use Rattle.machine_step.specs.declared.run_op.RunOp.{RunOp}
+use Rattle.member_link.specs.RunOps.{op_of}
+use Rattle.member_link.specs.declared.run_op.RunOp.{RunOp}
 use Rattle.machine_run.proofs.laws.an_operation_has_few_dimensions.Goals as goal
 
 -- an operation that takes few operands has few dimensions

@@ -6,7 +6,7 @@ use Rattle.machine_values.specs.declared.frame.RunFrame.TheVariants.{Method}
 use Rattle.machine_values.specs.declared.value.Value.{Value}
 use Rattle.member_link.specs.Machine.Performing.{called}
 use Rattle.member_link.specs.Machine.Worlds.{World, going}
-use Rattle.machine_step.specs.Programs.{IsProgram}
+use Rattle.member_link.specs.TreePrograms.{IsProgram}
 use Rattle.machine_run.specs.Inner.CallWords.{AreArguments}
 use Rattle.machine_run.specs.Inner.Performed.{operands_in, without_operands}
 use Rattle.machine_run.proofs.performing.call.Goals as goal

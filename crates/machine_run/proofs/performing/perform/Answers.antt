@@ -7,8 +7,8 @@ use Rattle.member_link.specs.Machine.Performing.{called, raised, thrown}
 use Rattle.member_link.specs.Machine.Showing.{shows_asked}
 use Rattle.member_link.specs.Machine.Worlds.{Halt, World, going}
 use Rattle.machine_step.specs.Completing.{asked_of}
-use Rattle.machine_step.specs.Programs.{IsProgram}
-use Rattle.machine_step.specs.RunOps.{throwable_name}
+use Rattle.member_link.specs.TreePrograms.{IsProgram}
+use Rattle.member_link.specs.RunOps.{throwable_name}
 use Rattle.machine_run.specs.Inner.Performed.{operands_in, performed, without_operands}
 use Rattle.machine_run.specs.Outcomes.{ended}
 use Rattle.machine_run.proofs.StackUnseen.{raised_same, thrown_same}

@@ -6,7 +6,7 @@ use Rattle.machine_values.specs.declared.object.Object.{Object}
 use Rattle.machine_values.specs.declared.object.Shape.{Shape}
 use Rattle.machine_values.specs.declared.object.Shape.TheVariants.{External}
 use Rattle.member_link.specs.Machine.Worlds.{World, with_heap}
-use Rattle.machine_step.specs.RunOps.{throwable_name}
+use Rattle.member_link.specs.RunOps.{throwable_name}
 use Rattle.machine_run.specs.Inner.ThrowTargets.{shape_at, target_in}
 use Rattle.machine_run.proofs.Throws.{landed_nowhere}
 use Rattle.machine_run.proofs.raising.raise.Goals as goal

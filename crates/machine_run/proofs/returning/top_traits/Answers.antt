@@ -3,7 +3,7 @@ use Rattle.class_model.specs.declared.class_file.MethodAt.{MethodAt}
 use Rattle.machine_values.specs.Frames.{MethodState}
 use Rattle.machine_values.specs.declared.frame.RunFrame.{RunFrame as Frame}
 use Rattle.machine_values.specs.declared.frame.RunFrame.TheVariants.{Method}
-use Rattle.machine_step.specs.Prepared.{IsTraitsOf}
+use Rattle.machine_code.specs.Prepared.{IsTraitsOf}
 use Rattle.machine_run.proofs.Tops.{top_got}
 use Rattle.machine_run.proofs.returning.top_traits.Goals as goal
 

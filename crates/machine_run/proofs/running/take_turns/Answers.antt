@@ -2,7 +2,7 @@ use Rattle.std.proofs.Common.{◌≤◌, ◌+◌, Option, Some, None, refl, sym,
 use Rattle.class_tree.specs.Headers.{Classes}
 use Rattle.machine_values.specs.declared.event.End.{End}
 use Rattle.member_link.specs.Machine.Runs.{Run, begins_with, turns}
-use Rattle.machine_step.specs.Programs.{IsProgram}
+use Rattle.member_link.specs.TreePrograms.{IsProgram}
 use Rattle.machine_run.specs.Inner.RunWords.{IsTurned}
 use Rattle.machine_run.proofs.RunTurns.{ended_run, turns_left}
 use Rattle.machine_run.proofs.running.take_turns.Goals as goal

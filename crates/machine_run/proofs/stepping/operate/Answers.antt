@@ -9,7 +9,7 @@ use Rattle.machine_values.specs.declared.frame.RunFrame.TheVariants.{Library, Me
 use Rattle.member_link.specs.Machine.Programs.{Program}
 use Rattle.member_link.specs.Machine.Worlds.{Memory, World}
 use Rattle.machine_step.specs.Bounded.{CanGoOn}
-use Rattle.machine_step.specs.Programs.{IsProgram}
+use Rattle.member_link.specs.TreePrograms.{IsProgram}
 use Rattle.machine_run.specs.Inner.Performed.{CanFinish, CanFinishFrame, world_operated}
 use Rattle.machine_run.specs.Inner.StepWords.{HasOperated, Leads, Runs, behind}
 use Rattle.machine_run.specs.declared.stepping.Operations.{Operations}

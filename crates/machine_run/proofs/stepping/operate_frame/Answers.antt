@@ -2,7 +2,7 @@ use Rattle.std.proofs.Common.{length, refl, sym, ap, ◌∙◌, arith}
 use Rattle.std.proofs.lemmas.Result.{IfOk-weaker}
 use Rattle.machine_values.specs.Frames.{MethodState}
 use Rattle.member_link.specs.Machine.Stepping.{op_step, point_step}
-use Rattle.machine_step.specs.declared.run_op.RunOp.{RunOp}
+use Rattle.member_link.specs.declared.run_op.RunOp.{RunOp}
 use Rattle.machine_run.proofs.PreparedPoints.{bounded_with, op_read, op_resolved, point_with, with_op}
 use Rattle.machine_run.proofs.stepping.operate_frame.Goals as goal
 

@@ -1,8 +1,8 @@
 use Rattle.std.proofs.Common.{◌≡◌, ◌+◌, sym, subst, arith, ◌∙◌}
 use Rattle.class_model.specs.declared.class_file.MethodAt.{MethodAt}
 use Rattle.member_link.specs.Machine.Programs.{Program}
-use Rattle.machine_step.specs.Prepared.{IsPrepared}
-use Rattle.machine_step.specs.Programs.{IsProgram}
+use Rattle.machine_code.specs.Prepared.{IsPrepared}
+use Rattle.member_link.specs.TreePrograms.{IsProgram}
 use Rattle.machine_run.specs.Inner.Performed.{IsKept, world_operated}
 use Rattle.machine_run.specs.Inner.StepWords.{Leads, behind}
 use Rattle.machine_run.specs.declared.stepping.Operated.{Operated}

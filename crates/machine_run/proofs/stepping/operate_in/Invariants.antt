@@ -3,8 +3,8 @@ use Rattle.std.proofs.Common.{◌≡◌, ◌≤◌, ◌-◌, List}
 use Rattle.machine_values.specs.declared.frame.RunFrame.{RunFrame}
 use Rattle.member_link.specs.Machine.Programs.{Program}
 use Rattle.member_link.specs.Machine.Worlds.{World}
-use Rattle.machine_step.specs.Prepared.{IsPrepared}
-use Rattle.machine_step.specs.Programs.{IsProgram}
+use Rattle.machine_code.specs.Prepared.{IsPrepared}
+use Rattle.member_link.specs.TreePrograms.{IsProgram}
 use Rattle.machine_run.specs.Inner.StepWords.{Leads, Runs, behind}
 use Rattle.machine_run.proofs.stepping.operate_in.Given as goal
 

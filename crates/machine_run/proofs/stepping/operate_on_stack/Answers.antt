@@ -7,7 +7,7 @@ use Rattle.member_link.specs.Machine.Work.{work}
 use Rattle.member_link.specs.Machine.Worlds.{Memory}
 use Rattle.machine_step.specs.Completing.{Completes}
 use Rattle.machine_step.specs.FewOperands.{HasFewOperands}
-use Rattle.machine_step.specs.RunOps.{op_of}
+use Rattle.member_link.specs.RunOps.{op_of}
 use Rattle.machine_run.specs.Inner.Performed.{operands_in}
 use Rattle.machine_run.proofs.WorkSteps.{can_perform, few_stuck, topmost_length, worked}
 use Rattle.machine_run.proofs.stepping.operate_on_stack.Goals as goal

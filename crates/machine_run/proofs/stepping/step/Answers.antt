@@ -1,7 +1,7 @@
 use Rattle.std.proofs.Common.{rules, ◌≡◌, false, sym, subst}
 use Rattle.class_tree.specs.Headers.{Classes}
 use Rattle.member_link.specs.Machine.Stepping.{is_library_turn}
-use Rattle.machine_step.specs.Programs.{IsProgram}
+use Rattle.member_link.specs.TreePrograms.{IsProgram}
 use Rattle.machine_run.specs.Outcomes.{ended, halt_of}
 use Rattle.machine_run.proofs.LedSteps.{step_of_led}
 use Rattle.machine_run.proofs.stepping.step.Goals as goal

@@ -2,8 +2,8 @@ use Rattle.std.proofs.Common.{◌≡◌, None, sym, ap, subst, ◌∙◌}
 use Rattle.std.proofs.lemmas.Result.{IfOk-weaker}
 use Rattle.class_tree.specs.Headers.{Classes}
 use Rattle.member_link.specs.Machine.Programs.{code_at}
-use Rattle.machine_step.specs.Prepared.{IsPreparedIf}
-use Rattle.machine_step.specs.Programs.{IsProgram}
+use Rattle.machine_code.specs.Prepared.{IsPreparedIf}
+use Rattle.member_link.specs.TreePrograms.{IsProgram}
 use Rattle.machine_run.specs.Inner.Performed.{HasNoPoint}
 use Rattle.machine_run.proofs.StepParts.{no_code}
 use Rattle.machine_run.proofs.stepping.step_method.Goals as goal

@@ -2,7 +2,7 @@ use Rattle.std.proofs.Common.{◌+◌, List, sym, ap, subst, ◌∙◌}
 use Rattle.class_tree.specs.Headers.{Classes}
 use Rattle.machine_values.specs.declared.frame.RunFrame.{RunFrame as Frame}
 use Rattle.member_link.specs.Machine.Worlds.{World}
-use Rattle.machine_step.specs.Programs.{IsProgram}
+use Rattle.member_link.specs.TreePrograms.{IsProgram}
 use Rattle.machine_run.specs.Inner.Performed.{world_operated}
 use Rattle.machine_run.specs.Inner.StepWords.{Leads, Runs}
 use Rattle.machine_run.proofs.stepping.step_prepared.Goals as goal

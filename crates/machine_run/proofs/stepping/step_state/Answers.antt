@@ -1,7 +1,7 @@
 use Rattle.std.proofs.Common.{subst}
 use Rattle.class_tree.specs.Headers.{Classes}
 use Rattle.member_link.specs.Machine.Programs.{Program}
-use Rattle.machine_step.specs.Programs.{IsProgram}
+use Rattle.member_link.specs.TreePrograms.{IsProgram}
 use Rattle.machine_run.specs.Outcomes.{halt_of}
 use Rattle.machine_run.proofs.LedSteps.{led_bounded}
 use Rattle.machine_run.proofs.StepParts.{ok_gives}

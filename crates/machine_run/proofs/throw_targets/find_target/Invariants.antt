@@ -1,7 +1,7 @@
 use Rattle.std.proofs.Common.{◌≡◌, length, reverse}
 use Rattle.std.specs.Option.{option_copied}
 use Rattle.member_link.specs.Machine.Programs.{Program}
-use Rattle.machine_step.specs.Programs.{IsProgram}
+use Rattle.member_link.specs.TreePrograms.{IsProgram}
 use Rattle.machine_run.specs.Inner.ThrowTargets.{target_in}
 use Rattle.machine_run.proofs.throw_targets.find_target.Given as goal
 

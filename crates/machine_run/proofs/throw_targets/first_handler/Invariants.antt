@@ -1,8 +1,8 @@
 use Rattle.std.proofs.Common.{◌≡◌, length}
 use Rattle.std.specs.Option.{option_copied}
 use Rattle.member_link.specs.Machine.Programs.{Program}
-use Rattle.machine_step.specs.Prepared.{catches_around}
-use Rattle.machine_step.specs.Programs.{IsProgram}
+use Rattle.machine_code.specs.Prepared.{catches_around}
+use Rattle.member_link.specs.TreePrograms.{IsProgram}
 use Rattle.machine_run.specs.Inner.ThrowTargets.{first_handler}
 use Rattle.machine_run.proofs.throw_targets.first_handler.Given as goal
 

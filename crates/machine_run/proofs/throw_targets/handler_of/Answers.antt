@@ -1,8 +1,8 @@
 use Rattle.std.proofs.Common.{◌≡◌, List, ℕ, Option, Some, None, length, slice_get, option_map, refl, ap, sym, ◌∙◌}
 use Rattle.std.proofs.lemmas.Option.{slice_get_past, slice_get_read}
 use Rattle.std.specs.Option.{option_copied}
-use Rattle.machine_step.specs.Prepared.{catches_around}
-use Rattle.machine_step.specs.declared.prepared_method.PreparedHandler.{PreparedHandler}
+use Rattle.machine_code.specs.Prepared.{catches_around}
+use Rattle.machine_code.specs.declared.prepared_method.PreparedHandler.{PreparedHandler}
 use Rattle.machine_run.specs.Inner.ThrowTargets.{first_handler}
 use Rattle.machine_run.proofs.Places.{by_catches, handler_by_offset}
 use Rattle.machine_run.proofs.throw_targets.handler_of.Goals as goal

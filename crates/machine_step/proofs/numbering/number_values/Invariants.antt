@@ -1,7 +1,7 @@
 use Rattle.std.proofs.Common.{drop}
 use Rattle.member_link.specs.Machine.Programs.{Program}
 use Rattle.machine_step.specs.Inner.Numbering.{NumbersOn}
-use Rattle.machine_step.specs.Programs.{IsProgram}
+use Rattle.member_link.specs.TreePrograms.{IsProgram}
 use Rattle.machine_step.proofs.numbering.number_values.Given as goal
 
 abbrev pub invariant-loop-value : goal.invariant-loop-value

@@ -1,7 +1,7 @@
 use Rattle.std.proofs.Common.{sym, subst, ◌∙◌}
 use Rattle.std.proofs.lemmas.Result.{IfOk-weaker}
 use Rattle.machine_step.specs.Completing.{Completes}
-use Rattle.machine_step.specs.RunOps.{RunsSpecial}
+use Rattle.member_link.specs.RunOps.{RunsSpecial}
 use Rattle.machine_step.proofs.ReceiverCalls.{conforming}
 use Rattle.machine_step.proofs.receivers.special_on.Goals as goal
 

@@ -3,12 +3,12 @@ use Rattle.member_link.specs.Machine.ObjectSteps.{new_object_work}
 use Rattle.member_link.specs.Machine.Work.{work}
 use Rattle.member_link.specs.declared.selection.CallForm.TheVariants as CallForm
 use Rattle.machine_step.proofs.ReceiverCalls.{called_by, interface_is, virtual_is}
-use Rattle.machine_step.specs.declared.run_op.CallOp.{CallOp}
+use Rattle.member_link.specs.declared.run_op.CallOp.{CallOp}
 use Rattle.machine_step.proofs.Oks.{ok_weaker}
 use Rattle.machine_step.specs.Completing.{Completes}
-use Rattle.machine_step.specs.RunOps.{IsNewOp, IsResolved, op_of}
-use Rattle.machine_step.specs.declared.run_op.NewOp.{NewOp}
-use Rattle.machine_step.specs.declared.run_op.RunOp.{RunOp}
+use Rattle.member_link.specs.RunOps.{IsNewOp, IsResolved, op_of}
+use Rattle.member_link.specs.declared.run_op.NewOp.{NewOp}
+use Rattle.member_link.specs.declared.run_op.RunOp.{RunOp}
 use Rattle.machine_step.proofs.working.work.Goals as goal
 
 pub returns-in-PushConstant-clause-completed : goal.returns-in-PushConstant-clause-completed

@@ -1,6 +1,6 @@
 use Rattle.std.proofs.Common.{◌≡◌, List, length, slice_get, Option, Some, None, refl, sym, ap, ◌∙◌}
 use Rattle.std.proofs.lemmas.Option.{slice_get_past, slice_get_read}
-use Rattle.machine_step.specs.declared.run_op.RunOp.{RunOp}
+use Rattle.member_link.specs.declared.run_op.RunOp.{RunOp}
 use Rattle.member_link.specs.Machine.Acting.{Pending}
 use Rattle.machine_run.specs.Inner.ActingWords.{answer_for}
 use Rattle.machine_run.proofs.Waiting.{awaited_by_place, awaited_of}

@@ -1,7 +1,7 @@
 use Rattle.std.proofs.Common.{◌≡◌, true, Option, sym, ap, ◌∙◌, rules}
 use Rattle.class_model.specs.declared.descriptor.FieldType.{FieldType}
 use Rattle.member_link.specs.Machine.Acting.{given_value, pending_of}
-use Rattle.machine_step.specs.RunOps.{op_of}
+use Rattle.member_link.specs.RunOps.{op_of}
 use Rattle.machine_run.specs.Inner.ActingWords.{answer_for, value_for}
 use Rattle.machine_run.proofs.Waiting.{for_value}
 use Rattle.machine_run.proofs.acting.answers.answer_of.Goals as goal

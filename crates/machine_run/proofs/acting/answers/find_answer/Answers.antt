@@ -5,8 +5,8 @@ use Rattle.machine_values.specs.Frames.{MethodState}
 use Rattle.member_link.specs.Machine.Acting.{Pending}
 use Rattle.member_link.specs.Machine.Programs.{code_at}
 use Rattle.member_link.specs.Machine.Worlds.{World}
-use Rattle.machine_step.specs.Prepared.{IsPrepared, IsPreparedIf}
-use Rattle.machine_step.specs.Programs.{IsProgram}
+use Rattle.machine_code.specs.Prepared.{IsPrepared, IsPreparedIf}
+use Rattle.member_link.specs.TreePrograms.{IsProgram}
 use Rattle.machine_run.specs.Inner.ActingWords.{answer_for, awaited_at, awaited_below, waiting_frame, with_answer}
 use Rattle.machine_run.proofs.Waiting.{has_waiting, none_awaited, of_any, returned_to_waiting}
 use Rattle.machine_run.proofs.acting.answers.find_answer.Goals as goal

@@ -2,7 +2,7 @@ use Rattle.std.proofs.Common.{◌≡◌, ◌&&◌, Bool, true, Some, None, slice
 use Rattle.class_tree.specs.Headers.{Classes}
 use Rattle.member_link.specs.Machine.Acting.{act_throw, is_throwable, waiting_in}
 use Rattle.member_link.specs.Machine.Worlds.{World}
-use Rattle.machine_step.specs.Programs.{IsProgram}
+use Rattle.member_link.specs.TreePrograms.{IsProgram}
 use Rattle.machine_run.specs.Inner.ActingWords.{awaited_below, may_throw, thrown_below}
 use Rattle.machine_run.proofs.Waiting.{threw_at_waiting}
 use Rattle.machine_run.proofs.acting.answers.find_thrown.Goals as goal

@@ -3,8 +3,8 @@ use Rattle.class_model.specs.declared.class_file.MethodAt.{MethodAt}
 use Rattle.class_tree.specs.Headers.{Classes}
 use Rattle.machine_values.specs.Frames.{MethodState}
 use Rattle.member_link.specs.Machine.Programs.{code_at}
-use Rattle.machine_step.specs.Prepared.{IsPrepared, IsPreparedIf}
-use Rattle.machine_step.specs.Programs.{IsProgram}
+use Rattle.machine_code.specs.Prepared.{IsPrepared, IsPreparedIf}
+use Rattle.member_link.specs.TreePrograms.{IsProgram}
 use Rattle.machine_run.specs.Inner.ActingWords.{awaited_at, may_throw}
 use Rattle.machine_run.proofs.Waiting.{none_awaited}
 use Rattle.machine_run.proofs.acting.answers.may_throw_below.Goals as goal

@@ -3,7 +3,7 @@ use Rattle.std.proofs.lemmas.Result.{on_ok_weaker}
 use Rattle.class_tree.specs.Headers.{Classes}
 use Rattle.member_link.specs.Machine.Programs.{folder_number}
 use Rattle.member_link.specs.Machine.Worlds.{World, is_begun}
-use Rattle.machine_step.specs.Programs.{IsProgram}
+use Rattle.member_link.specs.TreePrograms.{IsProgram}
 use Rattle.machine_run.proofs.BegunIf.{begins, stays}
 use Rattle.machine_run.proofs.acting.calls.begin_if.Goals as goal
 

@@ -1,6 +1,6 @@
 use Rattle.std.proofs.Common.{◌≡◌, length}
 use Rattle.member_link.specs.Machine.Programs.{Program}
-use Rattle.machine_step.specs.Programs.{IsProgram}
+use Rattle.member_link.specs.TreePrograms.{IsProgram}
 use Rattle.machine_run.proofs.Interfaces.{has_other}
 use Rattle.machine_run.proofs.acting.objects.are_interfaces.Given as goal
 

@@ -2,8 +2,8 @@ use Rattle.std.proofs.Common.{is_some, sym, ap, ◌∙◌}
 use Rattle.machine_values.specs.declared.value.Value.{Value}
 use Rattle.member_link.specs.Machine.FieldSteps.{put_field_in}
 use Rattle.machine_step.specs.Inner.FieldWords.{put_conforming}
-use Rattle.machine_step.specs.RunOps.{home_class}
-use Rattle.machine_step.specs.declared.run_op.FieldHome.{FieldHome}
+use Rattle.member_link.specs.RunOps.{home_class}
+use Rattle.member_link.specs.declared.run_op.FieldHome.{FieldHome}
 use Rattle.machine_step.proofs.FieldWork.{completes_as}
 use Rattle.machine_step.proofs.fields.objects.put_in.Goals as goal
 

@@ -3,7 +3,7 @@ use Rattle.machine_values.specs.Heaps.{Heap, object_at}
 use Rattle.member_link.specs.Machine.Completions.{gives}
 use Rattle.member_link.specs.Machine.Worlds.{Memory}
 use Rattle.machine_step.specs.Inner.FieldWords.{slot_at, stored_at}
-use Rattle.machine_step.specs.RunOps.{home_class}
+use Rattle.member_link.specs.RunOps.{home_class}
 use Rattle.machine_step.proofs.FieldWork.{class_there, own_put, put_anyway}
 use Rattle.machine_step.proofs.fields.objects.put_own.Goals as goal
 

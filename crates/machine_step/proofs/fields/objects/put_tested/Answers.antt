@@ -6,7 +6,7 @@ use Rattle.member_link.specs.Machine.Programs.{Program}
 use Rattle.machine_step.specs.Completing.{Completes}
 use Rattle.machine_step.specs.Inner.FieldWords.{IsTargetHere}
 use Rattle.machine_step.specs.declared.completed.Completed.{Completed}
-use Rattle.machine_step.specs.declared.run_op.FieldOp.{FieldOp}
+use Rattle.member_link.specs.declared.run_op.FieldOp.{FieldOp}
 use Rattle.machine_step.proofs.FieldWork.{completes_as, put_allowed, two_items}
 use Rattle.machine_step.proofs.fields.objects.put_tested.Goals as goal
 

@@ -5,9 +5,9 @@ use Rattle.member_link.specs.Machine.FieldSteps.{begun_first, put_static_begun, 
 use Rattle.member_link.specs.Machine.Programs.{Program, folder_number}
 use Rattle.machine_step.specs.Completing.{Completes}
 use Rattle.machine_step.specs.Inner.Works.{or_begins}
-use Rattle.machine_step.specs.RunOps.{IsFieldTarget}
+use Rattle.member_link.specs.RunOps.{IsFieldTarget}
 use Rattle.machine_step.specs.declared.completed.Completed.{Completed}
-use Rattle.machine_step.specs.declared.run_op.FieldOp.{FieldOp}
+use Rattle.member_link.specs.declared.run_op.FieldOp.{FieldOp}
 use Rattle.machine_step.proofs.FieldWork.{completes_as, put_unbarred}
 use Rattle.machine_step.proofs.fields.statics.put_begun.Goals as goal
 

@@ -4,9 +4,9 @@ use Rattle.machine_values.specs.declared.value.Value.{Value}
 use Rattle.member_link.specs.Machine.FieldSteps.{begun_first, put_static_begun, put_static_work}
 use Rattle.member_link.specs.Machine.Programs.{Program}
 use Rattle.machine_step.specs.Completing.{Completes}
-use Rattle.machine_step.specs.RunOps.{IsFieldTarget}
+use Rattle.member_link.specs.RunOps.{IsFieldTarget}
 use Rattle.machine_step.specs.declared.completed.Completed.{Completed}
-use Rattle.machine_step.specs.declared.run_op.FieldOp.{FieldOp}
+use Rattle.member_link.specs.declared.run_op.FieldOp.{FieldOp}
 use Rattle.machine_step.proofs.FieldWork.{completes_as, one_item, put_fits}
 use Rattle.machine_step.proofs.fields.statics.put_operand.Goals as goal
 

@@ -7,7 +7,7 @@ use Rattle.member_link.specs.Machine.Programs.{Program}
 use Rattle.member_link.specs.Machine.Shapes.{value_conforms}
 use Rattle.member_link.specs.Machine.Worlds.{World}
 use Rattle.member_link.specs.Signatures.{begins_type}
-use Rattle.machine_step.specs.Programs.{IsProgram}
+use Rattle.member_link.specs.TreePrograms.{IsProgram}
 use Rattle.machine_step.proofs.Arguments.{Left, all_left, none_left, not_one, one_more, too_few}
 use Rattle.machine_step.proofs.questions.conforming.arguments_conform.Goals as goal
 

@@ -4,7 +4,7 @@ use Rattle.class_tree.specs.Laws.Headers.{place_there}
 use Rattle.class_tree.specs.Order.{header_at}
 use Rattle.class_tree.specs.declared.place.Place.{Place}
 use Rattle.member_link.specs.Machine.Layouts.{capped, slot_number, slot_number_in}
-use Rattle.machine_step.specs.Laws.ProgramHeaders.{headers_are, no_name}
+use Rattle.member_link.specs.Laws.ProgramHeaders.{headers_are, no_name}
 use Rattle.machine_step.proofs.questions.fields.slot_in_class.Goals as goal
 
 pub slot_number-requires : goal.slot_number-requires

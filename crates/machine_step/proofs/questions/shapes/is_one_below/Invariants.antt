@@ -1,7 +1,7 @@
 use Rattle.std.proofs.Common.{◌≡◌, List, ℕ, length}
 use Rattle.std.specs.List.{list_any}
 use Rattle.member_link.specs.Machine.Programs.{Program}
-use Rattle.machine_step.specs.Programs.{IsProgram}
+use Rattle.member_link.specs.TreePrograms.{IsProgram}
 use Rattle.machine_step.proofs.questions.shapes.is_one_below.Given as goal
 
 abbrev pub invariant-loop-class : goal.invariant-loop-class

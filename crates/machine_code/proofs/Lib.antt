@@ -1,0 +1,10 @@
+pub mod ArrayTexts
+pub mod CallTargets
+pub mod FieldTargets
+pub mod NewObjects
+pub mod OffsetNumbers
+pub mod PreparedCodes
+pub mod RunCodes
+pub mod Stacks
+pub mod Switches
+pub mod WidthMoves

@@ -1,6 +1,0 @@
-use Rattle.std.proofs.Common.{◌≡◌, map, take}
-use Rattle.machine_step.specs.Inner.Translating.{numbered, number_of}
-use Rattle.machine_step.proofs.translating.switches.numbered_pairs.Given as goal
-
-abbrev pub invariant-loop-pair : goal.invariant-loop-pair
-invariant-loop-pair l = l.list ≡ map (numbered (number_of l.numbers)) (take l.pair-index l.pairs)

@@ -1,7 +1,0 @@
-use Rattle.std.proofs.Common.{◌≡◌, drop}
-use Rattle.machine_step.specs.Inner.Kinds.{are_of_kinds}
-use Rattle.machine_step.proofs.values.have_kinds.Given as goal
-
-abbrev pub invariant-loop-at : goal.invariant-loop-at
-invariant-loop-at l =
-    are_of_kinds (drop l.at l.kinds) (drop l.at l.values) ≡ are_of_kinds l.kinds l.values
