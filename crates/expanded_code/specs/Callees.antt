@@ -40,7 +40,7 @@ use Rattle.member_link.specs.Machine.Performing.{SYNCHRONIZED}
 use Rattle.member_link.specs.Methods.{FindsMethod, IsPolymorphic}
 use Rattle.member_link.specs.Overriding.{Overrides, package_of}
 use Rattle.member_link.specs.References.{NamesElementClass, Reference}
-use Rattle.member_link.specs.Rows.MemberRows.{receiver}
+use Rattle.member_link.specs.Rows.MemberRows.{NoUninitThis, receiver}
 use Rattle.member_link.specs.Rows.Operands.{lowest_of}
 use Rattle.member_link.specs.Scope.{Scope, instructions, is_init, own_descriptor, scope_at}
 use Rattle.member_link.specs.Selection.{Selects, chosen_method}
@@ -154,6 +154,10 @@ LeavesResult (Return None) frame = frame.stack ≡ []
 LeavesResult (Return (Some kind)) frame = length frame.stack ≡ 1
 LeavesResult other frame = Unit {0}
 
+-- no entry of a frame is an uninitialised this
+abbrev pub IsWithoutThis : Frame → Type 0
+IsWithoutThis frame = NoUninitThis frame.locals × NoUninitThis frame.stack
+
 -- ---- types of arguments and results
 
 -- A frame says of a value no more than its declared type, or a class: what is assignable to the declared type is assignable to that.
@@ -177,9 +181,13 @@ ResultSaysAtMost headers (Some type) frame = SaysAtMost headers type (lowest_of 
 
 -- ---- access from the host's class
 
--- It is public, or of package access or protected in the same package; the clone of an array counts as public.
+-- It is public and not protected, or of package access or protected in the same package; the clone of an array counts as public. (The flags
+-- of a library's member are not checked: it may be public and protected. In another package the check of protected members would refuse an
+-- instruction of the host that names it.)
 pub data IsOpenMethod (host named : Name) (method : Declared) : Type 0 where
-  public_method : IsTrue (has method.member.flags PUBLIC) → IsOpenMethod host named method
+  public_method : IsTrue (has method.member.flags PUBLIC)
+      → IsFalse (has method.member.flags PROTECTED)
+      → IsOpenMethod host named method
   package_method : IsTrue (is_package_access method.member || has method.member.flags PROTECTED)
       → package_of host ≡ package_of method.class
       → IsOpenMethod host named method
@@ -189,7 +197,9 @@ pub data IsOpenMethod (host named : Name) (method : Declared) : Type 0 where
 
 -- The same; and a private instance field of a class of the folder in the same package will be opened.
 pub data IsOpenField (headers : Headers) (host : Name) (field : Declared) : Type 0 where
-  public_field : IsTrue (has field.member.flags PUBLIC) → IsOpenField headers host field
+  public_field : IsTrue (has field.member.flags PUBLIC)
+      → IsFalse (has field.member.flags PROTECTED)
+      → IsOpenField headers host field
   package_field : IsTrue (is_package_access field.member || has field.member.flags PROTECTED)
       → package_of host ≡ package_of field.class
       → IsOpenField headers host field
@@ -275,6 +285,9 @@ pub record MayStandIn (classes : Classes) (host : ClassFile) (scope : Scope) (fr
       → SayAtMost (headers_of classes) (parameters_of (own_descriptor scope))
       (drop (this_units scope.method.flags) first.locals)
   pub special : AllByRecursion (λ placed. NamesInitialiser scope placed.instr) (instructions scope)
+  -- Outside instance initialisers only code that nothing reaches may state an uninitialised this. In the host's code it would be taken for
+  -- what the caller has.
+  pub without_this : IsFalse (is_init scope) → AllByRecursion IsWithoutThis frames
   pub access : AllByRecursion
       (λ placed. NamesOpen scope (header_of host).name placed.instr)
       (instructions scope)
@@ -291,7 +304,7 @@ pub record InitialisesAt (s : Scope) (frames : List Frame) (at : ℕ) (object : 
 
 -- The call at an offset of a method may be replaced by the callee's code, in a host of the class of this number. If the callee is an
 -- instance initialiser, its calls of initialisers on its own uninitialised object may be replaced too, or are of java/lang/Object. It is
--- the least such relation. (Of another method only code that nothing reaches may state such an object: nothing is asked of its calls.)
+-- the least such relation. (No frame of another method has such an object: nothing is asked of its calls.)
 pub data IsCallee (classes : Classes) (typed : FolderFrames) (host : ℕ) : MethodAt → ℕ → MethodAt
     → Type 0 where
   is_callee : (from : MethodAt) (at : ℕ) (callee : MethodAt)

@@ -2,7 +2,7 @@
 use Rattle.std.proofs.Common.{◌≡◌, ◌↔◌, ◌⊎◌, ◌||◌, ℕ, Bool, Option, Some, None, IsSome, IsTrue, IsFalse, is_some, codes, refl, sym, ap, subst, ◌∙◌, inl, inr}
 use Rattle.std.proofs.lemmas.Bool.{false≢true}
 use Rattle.std.proofs.lemmas.Option.{same_Some}
-use Rattle.class_model.specs.Members.{has, PRIVATE, PROTECTED, PUBLIC, STATIC}
+use Rattle.class_model.specs.Members.{has, PRIVATE, PROTECTED, STATIC}
 use Rattle.class_model.specs.Pool.{Constants, constant_at}
 use Rattle.class_model.specs.declared.instr.Instr.{Instr}
 use Rattle.class_model.specs.declared.instr.Instr.TheVariants.{GetField, GetStatic, PutField, PutStatic}
@@ -15,7 +15,7 @@ use Rattle.class_tree.specs.declared.place.Place.TheVariants.{Folder, Library}
 use Rattle.expanded_code.specs.Callees.{IsOpenField, IsOpenFieldAt, IsOpenMethod, NamesOpen, clone_of_array, opened_field, package_field, package_method, public_field, public_method}
 use Rattle.expanded_code.specs.Quiet.{IsOfFolder}
 use Rattle.inline_expand.specs.Inner.Found.{IsFolderPlace}
-use Rattle.inline_expand.specs.Inner.Open.{WillBeOpened}
+use Rattle.inline_expand.specs.Inner.Open.{IsOpenToAll, WillBeOpened}
 use Rattle.member_link.specs.DeclaredMembers.{Declared, is_package_access}
 use Rattle.member_link.specs.Found.{IsFieldFound}
 use Rattle.member_link.specs.Laws.FolderClasses.{folder_index, found_in_folder}
@@ -52,17 +52,17 @@ folder_decides headers hierarchy found field is = (to found.place refl, from)
 
 -- ---- fields
 
--- one that is neither public nor open in its package is open where it will be opened
+-- one that is neither open to all nor open in its package is open where it will be opened
 pub opened_decides :
     (headers : Headers)
     → IsHierarchy headers
     → (host : Name) (found : Found) (field : Declared)
     → IsFieldFound headers found field
-    → IsFalse (has field.member.flags PUBLIC)
+    → ¬ IsOpenToAll field.member.flags
     → package_of host ≡ package_of field.class
     → IsFalse (is_package_access field.member || has field.member.flags PROTECTED)
     → WillBeOpened found ↔ IsOpenField headers host field
-opened_decides headers hierarchy host found field is no_public same no_package = (to, from)
+opened_decides headers hierarchy host found field is not_all same no_package = (to, from)
   where
     folder : IsFolderPlace found.place ↔ IsOfFolder headers field.class
     folder = folder_decides headers hierarchy found field is
@@ -71,7 +71,7 @@ opened_decides headers hierarchy host found field is no_public same no_package =
     to opened = opened_field (ap (λ (flags : ℕ). has flags PRIVATE) (sym is.same_flags) ∙ opened.is_private) (ap (λ (flags : ℕ). has flags STATIC) (sym is.same_flags) ∙ opened.of_instance) (folder.0 opened.of_folder) same
 
     from : IsOpenField headers host field → WillBeOpened found
-    from (public_field is_public) = absurd (false≢true (sym no_public ∙ is_public))
+    from (public_field is_public unprotected) = absurd (not_all (record { is_public = is_public; unprotected = unprotected }))
     from (package_field open_ same_package) = absurd (false≢true (sym no_package ∙ open_))
     from (opened_field is_private of_instance of_folder same_package) = record {
       is_private = ap (λ (flags : ℕ). has flags PRIVATE) is.same_flags ∙ is_private;
@@ -81,17 +81,17 @@ opened_decides headers hierarchy host found field is no_public same no_package =
 
 -- ---- methods
 
--- one that is neither public nor open in its package is open where it is the clone of an array
+-- one that is neither open to all nor open in its package is open where it is the clone of an array
 pub clone_decides :
     (host class : Name) (method : Declared)
-    → IsFalse (has method.member.flags PUBLIC)
+    → ¬ IsOpenToAll method.member.flags
     → (IsTrue (is_package_access method.member || has method.member.flags PROTECTED) → package_of host ≡ package_of method.class → ⊥)
     → IsArray class
     → IsOpenMethod host class method ↔ (method.member.name ≡ codes "clone")
-clone_decides host class method no_public no_package deep = (to, λ clone. clone_of_array deep clone)
+clone_decides host class method not_all no_package deep = (to, λ clone. clone_of_array deep clone)
   where
     to : IsOpenMethod host class method → method.member.name ≡ codes "clone"
-    to (public_method is_public) = absurd (false≢true (sym no_public ∙ is_public))
+    to (public_method is_public unprotected) = absurd (not_all (record { is_public = is_public; unprotected = unprotected }))
     to (package_method open_ same) = absurd (no_package open_ same)
     to (clone_of_array deep clone) = clone
 

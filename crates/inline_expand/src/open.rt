@@ -7,7 +7,7 @@ ghost use Rattle.class_model.specs.declared.header.Member.{Member};
 ghost use Rattle.class_tree.specs.Headers.{headers_of};
 ghost use Rattle.class_tree.specs.Order.{header_at};
 ghost use Rattle.expanded_code.specs.Callees.{IsOpenClassAt, IsOpenConstant, IsOpenField, IsOpenFieldAt, IsOpenFieldReference, IsOpenMethod, IsOpenMethodAt, IsOpenMethodReference, NamesOpen};
-ghost use Rattle.inline_expand.specs.Inner.Open.{WillBeOpened};
+ghost use Rattle.inline_expand.specs.Inner.Open.{IsOpenToAll, WillBeOpened};
 ghost use Rattle.member_link.specs.DeclaredMembers as declared;
 ghost use Rattle.member_link.specs.DeclaredMembers.{Declared};
 ghost use Rattle.member_link.specs.Found.{IsFieldFound, IsMethodFound};
@@ -125,7 +125,7 @@ fn is_open_field(tree: &Tree, host: &Text, found: Found) -> bool
         → IsTrue result ↔ IsOpenField (headers_of tree.now) host.now field }
 {
     a_tree_is_a_hierarchy(tree);
-    if has(found.flags, ACC_PUBLIC) {
+    if is_open_to_all(found.flags) {
         return true;
     }
     if !is_of_package(tree, host, found.place) {
@@ -140,7 +140,7 @@ fn is_open_method(tree: &Tree, host: &Text, named: &Text, found: Found) -> bool
         → IsMethodFound (headers_of tree.now) found method
         → IsTrue result ↔ IsOpenMethod host.now named.now method }
 {
-    if has(found.flags, ACC_PUBLIC) {
+    if is_open_to_all(found.flags) {
         return true;
     }
     if is_open_in_package(found.flags) && is_of_package(tree, host, found.place) {
@@ -159,6 +159,13 @@ fn is_of_package(tree: &Tree, host: &Text, place: Place) -> bool
         Some(header) => is_same_package(host.bytes(), header.name.bytes()),
         None => false,
     }
+}
+
+// Whether a member is public and not protected. The flags of a library's member may say both.
+fn is_open_to_all(flags: u16) -> bool
+    ensures { IsTrue result ↔ IsOpenToAll flags }
+{
+    has(flags, ACC_PUBLIC) && !has(flags, ACC_PROTECTED)
 }
 
 // Whether a member is of package access or protected.
