@@ -12,7 +12,6 @@ ghost use Rattle.class_tree.specs.Hierarchy.{IsHierarchy};
 ghost use Rattle.class_tree.specs.Trees.{IsTree};
 ghost use Rattle.expanded_code.specs.ExpandAnswers.{IsExpanded, IsNoHost};
 ghost use Rattle.expanded_runs.specs.ExpandedPrograms.{AreExpanded};
-ghost use Rattle.expanded_runs.specs.ReadTypes.{NoThisOutside};
 ghost use Rattle.flow_code.specs.FlatCode.{FlatCode};
 ghost use Rattle.flow_code.specs.TypedFrames.{FolderFrames};
 ghost use Rattle.flow_code.specs.declared.reason.Reason.{Reason};
@@ -77,8 +76,7 @@ pub fn expanded_flat_codes_of_a_verified_folder_run_equally()
     programs_that_are_equal_run_equally();
 }
 
-/// The typed points of the expanded flat code of a host of a verified folder type it (`TypesFlat`). Access is not asked. None of the callees that
-/// stand in the flat code, unless it is an instance initialiser, has a frame with an uninitialised this (`NoThisOutside`).
+/// The typed points of the expanded flat code of a host of a verified folder type it (`TypesFlat`). Access is not asked.
 pub fn an_expanded_flat_code_of_a_verified_folder_is_typed()
     ensures { (classes : Classes) (typed : FolderFrames) (links : Links) (at : MethodAt)
         (flat : FlatCode) (s : Scope)
@@ -86,9 +84,8 @@ pub fn an_expanded_flat_code_of_a_verified_folder_is_typed()
         → IsLinked classes
         → TypesFolder classes typed
         → AreLinksOf (headers_of classes) links
-        → (is : IsExpanded classes typed at flat)
+        → IsExpanded classes typed at flat
         → ¬ IsNoHost classes at
-        → NoThisOutside is
         → scope_at classes at ≡ Some s
         → TypesFlat classes s flat }
 {

@@ -1,3 +1,2 @@
 pub mod AlonePrograms
 pub mod ExpandedPrograms
-pub mod ReadTypes

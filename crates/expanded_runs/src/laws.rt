@@ -9,7 +9,6 @@ ghost use Rattle.expanded_code.specs.AloneAnswers.{IsFlatAlone};
 ghost use Rattle.expanded_code.specs.ExpandAnswers.{IsExpanded, IsNoHost};
 ghost use Rattle.expanded_runs.specs.AlonePrograms.{AreAlone};
 ghost use Rattle.expanded_runs.specs.ExpandedPrograms.{AreExpanded};
-ghost use Rattle.expanded_runs.specs.ReadTypes.{NoThisOutside};
 ghost use Rattle.flow_code.specs.FlatCode.{FlatCode};
 ghost use Rattle.flow_code.specs.TypedFrames.{FolderFrames};
 ghost use Rattle.member_link.specs.Linked.{IsLinked};
@@ -101,8 +100,7 @@ pub fn expanded_flat_codes_run_equally()
 
 /// The typed points of the expanded flat code of a host type it, as the typing of code asks, where the object of a candidate site is read as one
 /// of its class: its `new` makes such an object, and a call of java/lang/Object.<init> takes it away (`TypesFlat`). Access is not asked. The
-/// folder is verified: it is linked, frames type it, and its program is typed by them. None of the callees that stand in the flat code, unless it
-/// is an instance initialiser, has a frame with an uninitialised this, as code that nothing reaches may state (`NoThisOutside`).
+/// folder is verified: it is linked, frames type it, and its program is typed by them.
 pub fn an_expanded_flat_code_is_typed()
     ensures { (classes : Classes) (typed : FolderFrames) (links : Links) (typings : Typings)
         (at : MethodAt) (flat : FlatCode) (s : Scope)
@@ -112,9 +110,8 @@ pub fn an_expanded_flat_code_is_typed()
         → AreLinksOf (headers_of classes) links
         → IsTypedProgram (program_of classes links) typings
         → HasTypings typed typings
-        → (is : IsExpanded classes typed at flat)
+        → IsExpanded classes typed at flat
         → ¬ IsNoHost classes at
-        → NoThisOutside is
         → scope_at classes at ≡ Some s
         → TypesFlat classes s flat }
 {

@@ -26,6 +26,7 @@ mod HostParts
 mod Initialisations
 mod JudgedChains
 mod JudgedClasses
+mod KnownMethods
 mod LayoutParts
 mod Marks
 mod MethodBuckets
@@ -56,6 +57,7 @@ mod SiteParts
 mod SoundClasses
 mod StandingParts
 mod StoredClasses
+mod ThisLocals
 mod TypedMethods
 mod Walking
 mod WholeParts

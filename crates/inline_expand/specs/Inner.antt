@@ -14,6 +14,7 @@ pub mod Frames
 pub mod Growths
 pub mod Hosts
 pub mod Initialised
+pub mod KnownFrames
 pub mod Layouts
 pub mod Measures
 pub mod MethodSets

@@ -10,6 +10,7 @@ use crate::called_methods::find_callee;
 use crate::calls::a_call_runs_one_method;
 use crate::coded::CodedMethod;
 use crate::folder_methods::FolderMethods;
+use crate::known_frames::KnownFrames;
 use crate::ready::{HostClass, is_ready};
 use crate::verdicts::Verdicts;
 use class_model::{MethodAt, NoMemory};
@@ -38,26 +39,46 @@ pub fn callee(
     let Some(class) = tree.folder().get(host) else {
         return Ok(None);
     };
-    let Some(caller) = CodedMethod::at(alloc, tree, typed, from)? else {
-        return Ok(None);
-    };
-    let methods = match FolderMethods::of(alloc, tree) {
-        Ok(methods) => methods,
+    let methods = FolderMethods::of(alloc, tree)?;
+    let known = match KnownFrames::new(alloc, tree, typed) {
+        Ok(known) => known,
         // let go by a call, so that its drop is proved once
         Err(fault) => {
-            drop(caller);
+            drop(methods);
             return Err(fault);
         }
     };
     let host = HostClass {
         tree,
         methods: &methods,
-        typed,
+        typed: &known,
         number: host,
         class,
     };
-    let found = ready_at(alloc, host, &caller, at);
+    let found = callee_at(alloc, host, from, at);
+    drop(known);
     drop(methods);
+    found
+}
+
+// The callee of the call at an offset of a method.
+fn callee_at(
+    alloc: Global,
+    host: HostClass<'_>,
+    from: MethodAt,
+    at: u32,
+) -> Result<Option<MethodAt>, NoMemory>
+    requires { IsHostClass host }
+    ensures some { IfOk result (λ found. IfSome found
+        (IsCallee host.entry.tree.now host.entry.typed.now host.entry.number from at)) }
+    ensures none { IfOk result (λ found. IfNone found ((callee : Method)
+        → ¬ IsCallee host.entry.tree.now host.entry.typed.now host.entry.number from at callee)) }
+{
+    let Some(caller) = CodedMethod::at(alloc, host.tree, host.typed, from)? else {
+        return Ok(None);
+    };
+    let found = ready_at(alloc, host, &caller, at);
+    // let go by a call, so that its drop is proved once
     drop(caller);
     found
 }

@@ -6,10 +6,11 @@ ghost use Rattle.inline_expand.specs.Inner.Coded.{IsCoded, IsShortCoded};
 ghost use Rattle.member_link.specs.Scope.{scope_at};
 
 use crate::host::Host;
+use crate::known_frames::KnownFrames;
 use class_model::{Frame, MethodAt, NoMemory};
 use class_tree::Tree;
 use std::alloc::Global;
-use type_rules::{TypedFolder, code_of};
+use type_rules::code_of;
 
 /// The most bytes of a callee's code.
 pub(crate) const MOST_BYTES: usize = 64;
@@ -30,7 +31,7 @@ impl<'a> CodedMethod<'a> {
     pub(crate) fn at(
         alloc: Global,
         tree: &'a Tree,
-        typed: &'a TypedFolder,
+        typed: &'a KnownFrames<'a>,
         at: MethodAt,
     ) -> Result<Option<CodedMethod<'a>>, NoMemory>
         ensures { IfOk result (IsCoded tree.now typed.now at) }
@@ -55,7 +56,7 @@ impl<'a> CodedMethod<'a> {
     pub(crate) fn short_at(
         alloc: Global,
         tree: &'a Tree,
-        typed: &'a TypedFolder,
+        typed: &'a KnownFrames<'a>,
         at: MethodAt,
     ) -> Result<Option<CodedMethod<'a>>, NoMemory>
         ensures { IfOk result (IsShortCoded tree.now typed.now at) }

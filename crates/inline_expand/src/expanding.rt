@@ -14,6 +14,7 @@ use crate::expanded::flats::{MOST_POINTS, flat_of};
 use crate::expansions::expansion_of;
 use crate::folder_methods::FolderMethods;
 use crate::host::Host;
+use crate::known_frames::KnownFrames;
 use crate::typed_methods::each_method_is_typed;
 use crate::verdicts::Verdicts;
 use class_model::{CLINIT, INIT, Instr, MethodAt, NoMemory, Placed};
@@ -57,7 +58,7 @@ pub fn expand(
 #[derive(Drop)]
 pub struct Expander<'t> {
     tree: &'t Tree,
-    typed: &'t TypedFolder,
+    typed: KnownFrames<'t>,
     candidates: Candidates<'t>,
     methods: FolderMethods<'t>,
     // The number of the class of hosts that the verdicts are of.
@@ -73,13 +74,13 @@ impl<'t> Model for Expander<'t> {
 
     ghost Value = { TypedClasses };
 
-    ghost view = { λ e. record { classes = e.tree.now; typed = e.typed.now } };
+    ghost view = { λ e. record { classes = e.tree.now; typed = e.typed } };
 
     ghost invariant = { λ e.
-        TypesFolder e.tree.now e.typed.now
+        TypesFolder e.tree.now e.typed
         × (e.candidates ≡ e.tree.now)
         × (e.methods ≡ e.tree.now)
-        × AreRight e.tree.now e.typed.now e.host e.verdicts };
+        × AreRight e.tree.now e.typed e.host e.verdicts };
 }
 
 impl<'t> Expander<'t> {
@@ -92,6 +93,7 @@ impl<'t> Expander<'t> {
         ensures { IfOk result
             (λ expander. expander ≡ record { classes = tree.now; typed = typed.now }) }
     {
+        let typed = KnownFrames::new(alloc, tree, typed)?;
         Ok(Expander {
             tree,
             typed,
@@ -120,7 +122,7 @@ impl<'t> Expander<'t> {
             &mut self.verdicts,
             &self.methods,
             self.tree,
-            self.typed,
+            &self.typed,
             at,
         )
     }
@@ -133,7 +135,7 @@ fn expand_with<'t>(
     verdicts: &mut Verdicts,
     methods: &'t FolderMethods<'t>,
     tree: &'t Tree,
-    typed: &'t TypedFolder,
+    typed: &'t KnownFrames<'t>,
     at: MethodAt,
 ) -> Result<Flat, KeptFault>
     requires typed { TypesFolder tree.now typed.now }
@@ -165,7 +167,7 @@ fn expand_with<'t>(
 fn open_host<'t>(
     alloc: Global,
     tree: &'t Tree,
-    typed: &'t TypedFolder,
+    typed: &'t KnownFrames<'t>,
     at: MethodAt,
 ) -> Result<CodedMethod<'t>, KeptFault>
     requires { TypesFolder tree.now typed.now }

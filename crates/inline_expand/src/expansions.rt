@@ -13,6 +13,7 @@ use crate::candidates::Candidates;
 use crate::coded::CodedMethod;
 use crate::folder_methods::FolderMethods;
 use crate::host::Host;
+use crate::known_frames::KnownFrames;
 use crate::places::Place;
 use crate::ready::HostClass;
 use crate::replaced::replaced_at;
@@ -22,7 +23,6 @@ use class_model::{Frame, ListOf, MethodAt, NoMemory, Placed, Text};
 use class_tree::{Tree, a_tree_is_a_hierarchy};
 use std::alloc::Global;
 use std::mem;
-use type_rules::TypedFolder;
 
 /// What becomes of an instruction.
 #[derive(Drop)]
@@ -71,7 +71,7 @@ pub(crate) fn expansion_of<'t>(
     verdicts: &mut Verdicts,
     methods: &'t FolderMethods<'t>,
     tree: &'t Tree,
-    typed: &'t TypedFolder,
+    typed: &'t KnownFrames<'t>,
     host: CodedMethod<'t>,
     most: usize,
 ) -> Result<Option<HostBodies<'t>>, NoMemory>

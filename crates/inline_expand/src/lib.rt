@@ -19,6 +19,7 @@ mod handlers;
 mod handles;
 mod host;
 mod initialised;
+mod known_frames;
 mod laws;
 mod method_set;
 mod numbered;
@@ -37,6 +38,7 @@ mod standing;
 mod typed_methods;
 mod verdicts;
 mod visits;
+mod without_this;
 
 pub use alone::flat_alone;
 pub use callees::callee;

@@ -11,20 +11,20 @@ use crate::called_methods::find_callee;
 use crate::coded::CodedMethod;
 use crate::folder_methods::FolderMethods;
 use crate::initialised::calls_on_this;
+use crate::known_frames::KnownFrames;
 use crate::standing::{a_method_of_a_tree_was_read, may_stand_in};
 use crate::verdicts::Verdicts;
 use crate::visits::{Stack, Visit};
 use class_model::{ClassFile, MethodAt, NoMemory};
 use class_tree::Tree;
 use std::alloc::Global;
-use type_rules::TypedFolder;
 
 /// The class of a host, by its number in the folder, with the folder and its frames.
 #[derive(Clone, Copy)]
 pub(crate) struct HostClass<'a> {
     pub(crate) tree: &'a Tree,
     pub(crate) methods: &'a FolderMethods<'a>,
-    pub(crate) typed: &'a TypedFolder,
+    pub(crate) typed: &'a KnownFrames<'a>,
     pub(crate) number: usize,
     pub(crate) class: &'a ClassFile,
 }
@@ -79,8 +79,7 @@ fn next(verdicts: &mut Verdicts, stack: &mut Stack) -> Result<Option<MethodAt>, 
 }
 
 /// The methods that an initialiser calls on its own uninitialised object, if it may stand in a host's code; none where it may not,
-/// or one of these calls can't be replaced. Another method calls no such method: only code that nothing reaches may state such an
-/// object in it.
+/// or one of these calls can't be replaced. Another method calls no such method.
 ///
 /// # Errors
 /// `NoMemory`, where memory runs out.
@@ -98,7 +97,7 @@ pub(crate) fn needs(
     let Some(method) = CodedMethod::short_at(alloc, host.tree, host.typed, at)? else {
         return Ok(None);
     };
-    match may_stand_in(alloc, host.tree, host.class, &method.host, method.frames) {
+    match may_stand_in(alloc, host.tree, host.class, host.typed, &method) {
         Ok(true) => {}
         // let go by a call, so that its drop is proved once
         Ok(false) => {

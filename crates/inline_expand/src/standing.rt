@@ -8,13 +8,16 @@ ghost use Rattle.class_model.specs.declared.class_file.MethodAt.{MethodAt};
 ghost use Rattle.class_tree.specs.Headers.{headers_of};
 ghost use Rattle.code_bytes.specs.Codes.{IsReadMethod};
 ghost use Rattle.expanded_code.specs.Callees.{IsNoHandle, IsPlain, LeavesResult, MayStandIn, NamesInitialiser, ResultSaysAtMost, SayAtMost, SaysAtMost};
-ghost use Rattle.inline_expand.specs.Inner.Standing.{AreOpen, ArePlain, HasForm, HasPlainCode, IsInitialiserAt, IsQuietIfStatic, NameInitialisers, ReturnAlone, TakesDeclared};
+ghost use Rattle.flow_code.specs.TypedFrames.{typed_frames_at};
+ghost use Rattle.inline_expand.specs.Inner.Standing.{AreOpen, ArePlain, HasForm, HasOwnThis, HasPlainCode, IsInitialiserAt, IsQuietIfStatic, NameInitialisers, ReturnAlone, TakesDeclared};
 ghost use Rattle.member_link.specs.Rows.Operands.{lowest_of};
 ghost use Rattle.member_link.specs.Scope.{Scope, instructions, own_descriptor, scope_at};
 ghost use Rattle.member_link.specs.Signatures.{result_of};
 
 use crate::classes::{is_class, name_of};
+use crate::coded::CodedMethod;
 use crate::host::Host;
+use crate::known_frames::KnownFrames;
 use crate::open::names_open;
 use crate::quiet::is_quiet;
 use class_model::opcodes::INVOKESPECIAL;
@@ -34,7 +37,7 @@ const MOST_BYTES: usize = 64;
 const ACC_SYNCHRONIZED: u16 = 0x0020;
 
 /// Whether the code of a method, with the frames that type it, may stand in the code of a host of a class
-/// file. The method is one that was read.
+/// file. The method is one that was read, and its frames are among those that are known.
 ///
 /// # Errors
 /// `NoMemory`, where memory runs out.
@@ -42,14 +45,20 @@ pub(crate) fn may_stand_in(
     alloc: Global,
     tree: &Tree,
     host: &ClassFile,
-    callee: &Host<'_>,
-    frames: &[Frame],
+    known: &KnownFrames<'_>,
+    method: &CodedMethod<'_>,
 ) -> Result<bool, NoMemory>
-    requires { IsReadMethod callee.now.class.pool callee.now.method }
+    requires read { IsReadMethod method.now.host.class.pool method.now.host.method }
+    requires known { typed_frames_at known.now method.now.at ≡ Some method.now.frames.now }
     ensures { IfOk result (λ stands.
-        IsTrue stands ↔ MayStandIn tree.now host.now callee.now frames.now) }
+        IsTrue stands ↔ MayStandIn tree.now host.now method.now.host method.now.frames.now) }
 {
+    let callee = &method.host;
+    let frames = method.frames;
     if !has_form(host, callee) || !has_plain_code(callee, frames) {
+        return Ok(false);
+    }
+    if !has_own_this(known, method) {
         return Ok(false);
     }
     let own = name_of(alloc, host)?;
@@ -124,6 +133,17 @@ fn has_plain_code(callee: &Host<'_>, frames: &[Frame]) -> bool
 {
     let instrs = callee.instrs();
     are_plain(callee, instrs) && name_initialisers(callee, instrs) && return_alone(instrs, frames)
+}
+
+// Whether a method is an instance initialiser, or no frame of it has an uninitialised this.
+fn has_own_this(known: &KnownFrames<'_>, method: &CodedMethod<'_>) -> bool
+    requires { typed_frames_at known.now method.now.at ≡ Some method.now.frames.now }
+    ensures { IsTrue result ↔ HasOwnThis method.now.host method.now.frames.now }
+{
+    if method.host.is_initialiser() {
+        return true;
+    }
+    known.are_without_this(method.at, method.frames)
 }
 
 // Whether each instruction is plain.

@@ -1,14 +1,18 @@
 -- Of the callees that stand in flat code, none that is no instance initialiser has a frame with an uninitialised this.
-use Rattle.std.proofs.Common.{◌≡◌, ℕ, zero, suc, false, List, slice_get, Some, IsSome, subst}
+use Rattle.std.proofs.Common.{◌≡◌, ℕ, false, List, slice_get, Some, IsSome}
 use Rattle.class_model.specs.Laws.Lists.{at_index}
 use Rattle.class_model.specs.declared.class_file.MethodAt.{MethodAt}
 use Rattle.class_model.specs.declared.frame.Frame.{Frame}
-use Rattle.expanded_code.specs.Expansions.{Coded, Expansion, no_more, replaced, site, stays}
-use Rattle.expanded_runs.proofs.Runs.Positions.{Becomes, Standing, becomes, frames_of, is_replaced, scope_of}
-use Rattle.expanded_runs.proofs.Runs.Standings.{IsStanding, callee_stands, host_stands}
-use Rattle.expanded_runs.specs.ReadTypes.{NoThisIn, NoThisWithin}
+use Rattle.expanded_code.specs.Callees.{IsWithoutThis}
+use Rattle.expanded_code.specs.Expansions.{Coded, Expansion}
+use Rattle.expanded_runs.proofs.Runs.CalleeLaws.{replaced_callee}
+use Rattle.expanded_runs.proofs.Runs.Positions.{Standing, frames_of, scope_of}
+use Rattle.expanded_runs.proofs.Runs.Setup.{Setup}
+use Rattle.expanded_runs.proofs.Runs.Standings.{IsStanding, Stands, callee_stands, host_stands}
+use Rattle.expanded_runs.proofs.Types.OwnPoints.{TypingLaws}
+use Rattle.expanded_runs.proofs.Types.StandingPlaces.{callee_here}
 use Rattle.member_link.specs.Rows.MemberRows.{NoUninitThis}
-use Rattle.member_link.specs.Scope.{is_init}
+use Rattle.member_link.specs.Scope.{Scope, is_init, scope_at}
 
 -- said of each callee that stands in the flat code
 abbrev pub NoThisStanding : Coded → Expansion → Type 0
@@ -21,29 +25,13 @@ NoThisStanding host e =
     → slice_get (frames_of p) k ≡ Some frame
     → NoUninitThis frame.locals × NoUninitThis frame.stack
 
--- of what becomes of an instruction
-abbrev NoThisAs : Becomes → Type 0
-NoThisAs (is_replaced g inner) = NoThisIn g × NoThisWithin inner
-NoThisAs b = Unit {0}
-
-no_this_at : (e : Expansion) (k : ℕ) → NoThisWithin e → NoThisAs (becomes e k)
-no_this_at no_more k all = tt
-no_this_at (stays more) zero all = tt
-no_this_at (site class more) zero all = tt
-no_this_at (replaced g inner more) zero all = (all.0, all.1)
-no_this_at (stays more) (suc k) all = no_this_at more k all
-no_this_at (site class more) (suc k) all = no_this_at more k all
-no_this_at (replaced g inner more) (suc k) all = no_this_at more k all.2
-
-module _ (host : Coded) (e : Expansion) (all : NoThisWithin e) where
-  of_standing : {chain : List MethodAt} {p : Standing} → IsStanding host e chain p
-      → (IsSome p.setting.behind → NoThisIn p.setting.coded) × NoThisWithin p.expansion
-  of_standing host_stands = (λ some. absurd cc, all)
-  of_standing (callee_stands {p = p} k placed frame g inner below at) =
-      let found = subst NoThisAs at.becomes (no_this_at p.expansion k (of_standing below).1) in
-      (λ some. found.0, found.1)
-
-  -- Where it is said of the callees, it holds of each that stands.
-  pub no_this_standing : NoThisStanding host e
-  no_this_standing chain p standing callee none k frame has =
-      at_index (λ (f : Frame). NoUninitThis f.locals × NoUninitThis f.stack) (frames_of p) k frame ((of_standing standing).0 callee none) has
+-- A method that may stand in a host has none.
+pub no_this_standing : (u : Setup) (laws : TypingLaws) (host : Coded) (e : Expansion)
+    (stands : (chain : List MethodAt) (p : Standing) → IsStanding host e chain p → Stands u.classes u.typed host e chain p)
+    (s : Scope) (is_host : scope_at u.classes host.at ≡ Some s)
+    → NoThisStanding host e
+no_this_standing u laws host e stands s is_host chain p host_stands callee none k frame has = absurd cc
+no_this_standing u laws host e stands s is_host chain p (callee_stands at placed before g inner below is) callee none k frame has =
+    let known = callee_here laws host e stands s is_host below is in
+    let may = (replaced_callee u g known.callee known.replaced).may in
+    at_index IsWithoutThis g.frames k frame (may.without_this none) has

@@ -25,7 +25,6 @@ use Rattle.expanded_runs.proofs.Types.ReplacedRows.{RowSays}
 use Rattle.expanded_runs.proofs.Types.StandingRows.{host_no_init}
 use Rattle.expanded_runs.proofs.Types.ThisWithin.{NoThisStanding, no_this_standing}
 use Rattle.expanded_runs.proofs.Types.ThroughClass.{ArrayInterfaces}
-use Rattle.expanded_runs.specs.ReadTypes.{NoThisOutside}
 use Rattle.flow_code.specs.FlatCode.{FlatCode}
 use Rattle.member_link.specs.Linked.{IsLinked}
 use Rattle.member_link.specs.Scope.{Scope, instructions, scope_at}
@@ -42,8 +41,7 @@ module _ (u : Setup) (is_setup : IsSetup u) (linked : IsLinked u.classes) (name_
   arrays at s is = subst ArrayInterfaces (scope_headers u.classes at s is) (arrays_known is_setup.tree at s is)
 
   module _ (host : Coded) (e : Expansion) (has : HasFrames u.classes u.typed host.at host.scope host.frames)
-      (expands : Expands u.classes u.typed host.at [] host.at (instructions host.scope) e) (no_host : ¬ IsNoHost u.classes host.at)
-      (outside : NoThisStanding host e) where
+      (expands : Expands u.classes u.typed host.at [] host.at (instructions host.scope) e) (no_host : ¬ IsNoHost u.classes host.at) where
     stands : (chain : List MethodAt) (p : Standing) → IsStanding host e chain p → Stands u.classes u.typed host e chain p
     stands chain p standing = stands_so laws.types_each one u.classes u.typed is_setup.types host e has expands standing
 
@@ -64,6 +62,9 @@ module _ (u : Setup) (is_setup : IsSetup u) (linked : IsLinked u.classes) (name_
       passes = λ chain p standing k placed frame g inner here. (says standing k placed frame g inner here).passes;
     }
 
+    outside : NoThisStanding host e
+    outside = no_this_standing u laws host e stands host.scope has.is_scope
+
     -- and so of all instructions
     pub rows : MethodRows u.classes host.scope host e
     rows =
@@ -72,13 +73,11 @@ module _ (u : Setup) (is_setup : IsSetup u) (linked : IsLinked u.classes) (name_
 
   -- The typed points of the flat code of a host type it.
   pub types_expanded : (at : MethodAt) (flat : FlatCode) → (is : IsExpanded u.classes u.typed at flat) → ¬ IsNoHost u.classes at
-      → NoThisOutside is
       → (s : Scope) → scope_at u.classes at ≡ Some s
       → TypesFlat u.classes s flat
-  types_expanded at flat is no_host outside s scope =
+  types_expanded at flat is no_host s scope =
       expanded_types laws one is_setup.types is_setup.tree.folder known is_setup.hierarchy (arrays at s scope) at flat is s scope
       (rows is.host is.expansion
       (subst (λ (a : MethodAt). HasFrames u.classes u.typed a is.host.scope is.host.frames) (sym is.own) is.is_host)
       (subst (λ (a : MethodAt). Expands u.classes u.typed a [] a (instructions is.host.scope) is.expansion) (sym is.own) is.expands)
-      (subst (λ (a : MethodAt). ¬ IsNoHost u.classes a) (sym is.own) no_host)
-      (no_this_standing is.host is.expansion outside))
+      (subst (λ (a : MethodAt). ¬ IsNoHost u.classes a) (sym is.own) no_host))

@@ -12,9 +12,10 @@ use Rattle.class_model.specs.declared.instr.Placed.{Placed}
 use Rattle.class_tree.specs.Headers.{Name, Headers}
 use Rattle.expanded_code.specs.Callees.{IsPlain, LeavesResult, NamesInitialiser, NamesOpen, SayAtMost, own_name}
 use Rattle.expanded_code.specs.Quiet.{IsQuiet}
+use Rattle.inline_expand.specs.Inner.KnownFrames.{AreWithoutThis}
 use Rattle.member_link.specs.Machine.Performing.{SYNCHRONIZED}
 use Rattle.member_link.specs.References.{Reference}
-use Rattle.member_link.specs.Scope.{Scope, instructions, own_descriptor}
+use Rattle.member_link.specs.Scope.{Scope, instructions, is_init, own_descriptor}
 use Rattle.member_link.specs.Signatures.{reference_of}
 
 pub record HasForm (host : ClassFile) (s : Scope) : Type 0 where
@@ -40,6 +41,10 @@ pub record HasPlainCode (s : Scope) (frames : List Frame) : Type 0 where
   pub plain : ArePlain s (instructions s)
   pub special : NameInitialisers s (instructions s)
   pub returns : ReturnAlone (instructions s) frames
+
+-- no frame has an uninitialised this, if the method is no instance initialiser
+abbrev pub HasOwnThis : Scope → List Frame → Type 0
+HasOwnThis s frames = IsFalse (is_init s) → AreWithoutThis frames
 
 -- the member that a constant refers to is named as an instance initialiser
 abbrev pub IsInitialiserAt : Scope → ℕ → Type 0

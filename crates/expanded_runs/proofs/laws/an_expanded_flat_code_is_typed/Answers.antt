@@ -10,7 +10,7 @@ use Rattle.expanded_runs.proofs.laws.an_expanded_flat_code_is_typed.Goals as goa
 use Rattle.type_rules.specs.MethodBodies.{body_of}
 
 pub returns : goal.returns
-returns c = λ classes typed links typings at flat s tree linked types are_links program has is no_host outside there.
+returns c = λ classes typed links typings at flat s tree linked types are_links program has is no_host there.
     let names : NameLaws = record {
       descriptors = record { parameters = c.parameters_are_spelled.ensures; of_text = c.a_descriptor_of_a_text.ensures };
       by_place = λ classes linked. (c.a_linked_folder_passes_by_place.ensures classes).0 linked;
@@ -35,4 +35,4 @@ returns c = λ classes typed links typings at flat s tree linked types are_links
     } in
     types_expanded (own_setup classes typed links typings)
     (is_own_setup tree (subst IsHierarchy (headers_are classes links) program.hierarchy) types are_links program has)
-    linked names calls typing c.a_typed_method_types_each_instruction.ensures.count at flat is no_host outside s there
+    linked names calls typing c.a_typed_method_types_each_instruction.ensures.count at flat is no_host s there
