@@ -5,11 +5,17 @@ use std::hash::{FoldHasher, Hasher};
 
 /// The numbers of classes in a table by a hash of their names. What it answers is a guess, of which nothing is proved:
 /// whoever asks looks at the class of that number, and searches where it is another.
-#[derive(Drop)]
 pub(crate) struct NameGuesses {
     // how many of the slots a hash leads to
     homes: usize,
     slots: Vec<Slot>,
+}
+
+// Written out: a derived drop would be spelled out, field by field, in each function that drops one, and be proved there.
+impl Drop for NameGuesses {
+    fn drop(self) {
+        let NameGuesses { homes: _, slots: _ } = self;
+    }
 }
 
 // The number of a class and a part of the hash of its name, or FREE.

@@ -11,10 +11,16 @@ use std::alloc::Global;
 use std::marker::Model;
 
 /// A list of lists, the items of which stand in one vector. Contracts see the list of lists.
-#[derive(Drop)]
 pub(crate) struct Lists<T> {
     items: Vec<T>,
     parts: Vec<Part>,
+}
+
+// Written out: a derived drop would be spelled out, field by field, in each function that drops one, and be proved there.
+impl<T: Drop> Drop for Lists<T> {
+    fn drop(self) {
+        let Lists { items: _, parts: _ } = self;
+    }
 }
 
 /// Where a list stands among the items: from which on, and how many it has.

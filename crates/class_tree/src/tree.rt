@@ -24,7 +24,6 @@ pub type ClassFileList = ListOf<ClassFile>;
 pub type HeaderList = ListOf<Header>;
 
 /// The classes of a folder and of its library, which are a hierarchy. Contracts see both lists, in byte order of names.
-#[derive(Drop)]
 pub struct Tree {
     pub(crate) folder: ClassFileList,
     pub(crate) library: HeaderList,
@@ -32,6 +31,19 @@ pub struct Tree {
     pub(crate) headers: Vec<Header>,
     pub(crate) guesses: NameGuesses,
     pub(crate) links: Links,
+}
+
+// Written out: a derived drop would be spelled out, field by field, in each function that drops one, and be proved there.
+impl Drop for Tree {
+    fn drop(self) {
+        let Tree {
+            folder: _,
+            library: _,
+            headers: _,
+            guesses: _,
+            links: _,
+        } = self;
+    }
 }
 
 impl Model for Tree {

@@ -9,10 +9,20 @@ use std::rc::Rc;
 
 /// A handler of a point: the point that control goes to, and the class that it catches, by its name. One without a class
 /// catches everything.
-#[derive(Debug, Drop)]
+#[derive(Debug)]
 pub struct FlatHandler {
     pub to: usize,
     pub catch_class: Option<Text>,
+}
+
+// Written out: a derived drop would be spelled out, field by field, in each function that drops one, and be proved there.
+impl Drop for FlatHandler {
+    fn drop(self) {
+        let FlatHandler {
+            to: _,
+            catch_class: _,
+        } = self;
+    }
 }
 
 impl FlatHandler {
@@ -33,10 +43,19 @@ impl FlatHandler {
 
 /// The handlers of what a point throws, in their order. Contracts see the list. A copy shares the handlers, since all points
 /// of a range have the same.
-#[derive(Drop)]
 pub struct FlatHandlerList {
     alloc: Global,
     handlers: Option<Rc<Vec<FlatHandler>>>,
+}
+
+// Written out: a derived drop would be spelled out, field by field, in each function that drops one, and be proved there.
+impl Drop for FlatHandlerList {
+    fn drop(self) {
+        let FlatHandlerList {
+            alloc: _,
+            handlers: _,
+        } = self;
+    }
 }
 
 impl Model for FlatHandlerList {

@@ -1,7 +1,9 @@
 //! Constant pools that grow at their end.
-ghost use Rattle.std.specs.Prelude.{◌≡◌, ◌≢◌, ◌+◌, ◌<◌, ◌≤◌, [], length, slice_get, Some, None, IfOk, OnOk, OnErr};
+ghost use Rattle.std.specs.Prelude.{◌≡◌, ◌≢◌, ◌+◌, ◌++◌, ◌<◌, ◌≤◌, [], length, slice_get, Some, None, IfOk, OnOk, OnErr};
 ghost use Rattle.std.specs.Result.{IsErrOf};
-ghost use Rattle.class_model.specs.Pool.{IsPool};
+ghost use Rattle.std.specs.List.{flat_map};
+ghost use Rattle.std.specs.Map.{keys_of};
+ghost use Rattle.class_model.specs.Pool.{IsPool, entries_of};
 ghost use Rattle.pool_edit.specs.Edits.{Adds, AreNew, IsBoundary, IsFirstIndex, IsPast, TakesBack, added_entries, grown};
 ghost use Rattle.pool_edit.specs.Inner.Known.{Says};
 
@@ -36,7 +38,6 @@ impl<T: Drop> From<AllocFailed<T>> for AddFault {
 /// A constant pool (JVM Specification SE 8, 4.4) that grows at its end: what it was when the edit began is a prefix of what it
 /// is. Contracts see that pool, the greatest count that it may have, and the constants that were appended and not taken away.
 /// A constant is found, appended and taken away in constant time.
-#[derive(Drop)]
 pub struct PoolEdit {
     base: Pool,
     limit: u16,
@@ -44,6 +45,19 @@ pub struct PoolEdit {
     // the smallest indices of the constants of the old pool
     known: HashMap<Const, u16>,
     added: IndexMap<Const, u16>,
+}
+
+// Written out: a derived drop would be spelled out, field by field, in each function that drops one, and be proved there.
+impl Drop for PoolEdit {
+    fn drop(self) {
+        let PoolEdit {
+            base: _,
+            limit: _,
+            count: _,
+            known: _,
+            added: _,
+        } = self;
+    }
 }
 
 impl Model for PoolEdit {
@@ -150,13 +164,29 @@ impl PoolEdit {
     pub fn finish(self) -> Result<Pool, NoMemory>
         ensures { IfOk result (λ pool. pool ≡ grown self) }
     {
-        let mut pool = self.base;
-        for at in 0..self.added.len() {
-            let Some((constant, _)) = self.added.get_index(at) else {
-                unreachable!()
-            };
-            pool.push(constant.copy()?)?;
-        }
-        Ok(pool)
+        let PoolEdit {
+            base,
+            limit: _,
+            count: _,
+            known: _,
+            added,
+        } = self;
+        with_added(base, &added)
     }
+}
+
+// A pool, and these constants behind its entries.
+fn with_added(pool: Pool, added: &IndexMap<Const, u16>) -> Result<Pool, NoMemory>
+    requires { length (pool ++ flat_map entries_of (keys_of added.now.entries)) ≤ 65535 }
+    ensures { IfOk result
+        (λ all. all ≡ pool ++ flat_map entries_of (keys_of added.now.entries)) }
+{
+    let mut all = pool;
+    for at in 0..added.len() {
+        let Some((constant, _)) = added.get_index(at) else {
+            unreachable!()
+        };
+        all.push(constant.copy()?)?;
+    }
+    Ok(all)
 }

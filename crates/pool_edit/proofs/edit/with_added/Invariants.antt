@@ -2,7 +2,7 @@ use Rattle.std.proofs.Common.{◌≡◌, ◌++◌, take}
 use Rattle.std.specs.List.{flat_map}
 use Rattle.std.specs.Map.{keys_of}
 use Rattle.class_model.specs.Pool.{entries_of}
-use Rattle.pool_edit.proofs.edit.PoolEdit.finish.Given as goal
+use Rattle.pool_edit.proofs.edit.with_added.Given as goal
 
 abbrev pub invariant-loop-at : goal.invariant-loop-at
-invariant-loop-at l = l.pool ≡ l.initial.pool ++ flat_map entries_of (take l.at (keys_of l.self-inside.added.entries))
+invariant-loop-at l = l.all ≡ l.fn.pool ++ flat_map entries_of (take l.at (keys_of l.added.entries))
