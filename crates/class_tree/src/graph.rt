@@ -86,17 +86,11 @@ pub(crate) fn reaches(
 }
 
 /// Nodes of a graph in the order in which they were added, each once. Whether one is there is told in constant time.
+#[derive(Drop)]
 pub(crate) struct NodeSet {
     nodes: ListOf<usize>,
     // For each node of the graph, whether it is there.
     marks: Vec<bool>,
-}
-
-// Written out: a derived drop would be spelled out, field by field, in each function that drops one, and be proved there.
-impl Drop for NodeSet {
-    fn drop(self) {
-        let NodeSet { nodes: _, marks: _ } = self;
-    }
 }
 
 impl Model for NodeSet {

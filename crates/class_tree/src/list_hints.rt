@@ -6,19 +6,10 @@ use class_model::NoMemory;
 use std::alloc::Global;
 
 /// Items, and for each class where among them its superinterfaces may stand: from this place on.
+#[derive(Drop)]
 pub(crate) struct ListHints {
     pub items: Vec<usize>,
     pub starts: Vec<usize>,
-}
-
-// Written out: a derived drop would be spelled out, field by field, in each function that drops one, and be proved there.
-impl Drop for ListHints {
-    fn drop(self) {
-        let ListHints {
-            items: _,
-            starts: _,
-        } = self;
-    }
 }
 
 // No place.
@@ -157,23 +148,13 @@ impl Open {
 }
 
 // A depth-first search upwards.
+#[derive(Drop)]
 struct Search {
     stack: Vec<Open>,
     // where each class stands among the items that were listed last with it
     places: Vec<usize>,
     // by the first interface that it names, the last class whose list has a place
     alike: Vec<usize>,
-}
-
-// Written out: a derived drop would be spelled out, field by field, in each function that drops one, and be proved there.
-impl Drop for Search {
-    fn drop(self) {
-        let Search {
-            stack: _,
-            places: _,
-            alike: _,
-        } = self;
-    }
 }
 
 impl Search {

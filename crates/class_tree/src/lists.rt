@@ -164,10 +164,8 @@ impl Lists<usize> {
         ensures { IfOk result (λ lists. lists ≡ map (map (place_at headers.now)) self) }
     {
         let items = places(alloc, headers, self.items.as_slice())?.into_vec();
-        Ok(Lists {
-            items,
-            parts: self.parts,
-        })
+        let Lists { items: _, parts } = self;
+        Ok(Lists { items, parts })
     }
 }
 

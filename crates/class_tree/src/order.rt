@@ -109,17 +109,11 @@ fn release(sources: &[usize], waits: &mut [usize], order: &mut Vec<usize>) -> Re
 }
 
 // For each node those of which it is a target, one node's behind another's.
+#[derive(Drop)]
 struct Sources {
     // where the sources of each node end
     ends: Vec<usize>,
     nodes: Vec<usize>,
-}
-
-// Written out: a derived drop would be spelled out, field by field, in each function that drops one, and be proved there.
-impl Drop for Sources {
-    fn drop(self) {
-        let Sources { ends: _, nodes: _ } = self;
-    }
 }
 
 impl Sources {
