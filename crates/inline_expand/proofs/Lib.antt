@@ -5,7 +5,6 @@ mod AlonePoints
 mod CallUnits
 mod CalledMethods
 mod CalleeParts
-mod ConstructorLaws
 mod DecidedRuns
 mod DescriptorTexts
 mod ExpandedFlat
@@ -18,9 +17,7 @@ mod FoundCallees
 mod FoundMethods
 mod Founding
 mod FrameParts
-mod FreeConstructors
 mod GrownSteps
-mod HandledLists
 mod HostCodes
 mod HostParts
 mod Initialisations

@@ -5,7 +5,6 @@ pub mod Calls
 pub mod CandidateWords
 pub mod Chains
 pub mod Coded
-pub mod ConstructorWords
 pub mod FieldTypes
 pub mod FolderMethods
 pub mod Found

@@ -11,15 +11,14 @@ ghost use Rattle.class_tree.specs.declared.place.Place.TheVariants.{Folder};
 ghost use Rattle.expanded_code.specs.Candidates.{IsCandidate, declares_finalizer};
 ghost use Rattle.inline_expand.specs.Inner.CandidateWords.{IsFileOf, IsFitAt, IsJudged, IsKept, IsKnown, IsLeft, own_descs, units_of_all};
 
-use crate::field_constructors::has_free_constructor;
 use crate::final_stores::stored_finals;
-use crate::handles::handled_initialisers;
-use crate::quiet::{folder_class, folder_number, is_quiet_itself};
+use crate::quiet::{folder_class, is_quiet_itself};
 use class_model::{
     ACC_ABSTRACT, ACC_INTERFACE, ACC_STATIC, ClassFile, Header, ListOf, NoMemory, Text, TextList,
     has,
 };
 use class_tree::{OBJECT, Place, Tree, a_tree_is_a_hierarchy};
+use materialise::{Constructors, folder_number};
 use std::alloc::Global;
 use std::marker::Model;
 
@@ -50,8 +49,7 @@ pub struct Candidates<'t> {
     // by the number of a class of the folder: whether a method that is none of its instance initialisers stores into a final
     // field of it
     stored: Vec<bool>,
-    // by the number of a class of the folder: the descriptors of those of its instance initialisers that method handles refer to
-    handles: Vec<TextList>,
+    constructors: Constructors<'t>,
     // by the number of a class of the folder
     judged: Vec<Judged>,
 }
@@ -81,7 +79,8 @@ impl<'t> Model for Candidates<'t> {
     ghost view = { λ candidates. candidates.tree.now };
 
     ghost invariant = { λ candidates.
-        AreFacts candidates.tree.now candidates.stored.items candidates.handles.items
+        (candidates.constructors ≡ candidates.tree.now)
+        × AreFacts candidates.tree.now candidates.stored.items
         × AreKept candidates.tree.now candidates.judged.items };
 }
 
@@ -91,12 +90,12 @@ impl<'t> Candidates<'t> {
         ensures { IfOk result (λ candidates. candidates ≡ tree.now) }
     {
         let stored = stored_finals(alloc, tree)?;
-        let handles = handled_initialisers(alloc, tree)?;
+        let constructors = Constructors::new(alloc, tree)?;
         let judged = unknown(alloc, tree.folder().len())?;
         Ok(Candidates {
             tree,
             stored,
-            handles,
+            constructors,
             judged,
         })
     }
@@ -274,8 +273,8 @@ impl<'t> Candidates<'t> {
         if !are_narrow(fields.as_slice()) {
             return Ok(None);
         }
-        let handles = self.handles[number].as_slice();
-        if !has_free_constructor(alloc, header, fields.as_slice(), handles)? {
+        let constructor = self.constructors.of_fields(alloc, number, fields.as_slice())?;
+        if constructor.is_none() {
             return Ok(None);
         }
         Ok(Some(fields))

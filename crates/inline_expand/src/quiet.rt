@@ -1,12 +1,10 @@
 //! Quiet classes.
-ghost use Rattle.std.specs.Prelude.{◌≡◌, ◌≢◌, ◌↔◌, ℕ, Some, IfOk, IsTrue};
+ghost use Rattle.std.specs.Prelude.{◌≡◌, ◌≢◌, ◌↔◌, IfOk, IsTrue};
 ghost use Rattle.std.specs.List.{AllByRecursion};
 ghost use Rattle.std.specs.Option.{option_copied};
 ghost use Rattle.class_model.specs.declared.header.Header.{Header};
 ghost use Rattle.class_tree.specs.Headers.{headers_of, named};
 ghost use Rattle.class_tree.specs.Names.{object};
-ghost use Rattle.class_tree.specs.Order.{place_of};
-ghost use Rattle.class_tree.specs.declared.place.Place.TheVariants.{Folder};
 ghost use Rattle.expanded_code.specs.Quiet.{IsQuiet, declares_initialiser};
 ghost use Rattle.inline_expand.specs.Inner.QuietWords.{IsQuietItself, IsSilent, IsSilentAt, IsInterfaceThere};
 
@@ -69,20 +67,6 @@ pub(crate) fn folder_class<'t>(tree: &'t Tree, class: &Text) -> Option<&'t Heade
     };
     match place {
         Place::Folder(_) => tree.header(place),
-        Place::Library(_) => None,
-    }
-}
-
-/// The number in the folder of the class of a name, if it is of the folder.
-pub(crate) fn folder_number(tree: &Tree, class: &Text) -> Option<usize>
-    ensures { (number : ℕ)
-        → (result ≡ Some number) ↔ (place_of (headers_of tree.now) class.now ≡ Some (Folder number)) }
-{
-    let Some(place) = tree.place(class) else {
-        return None;
-    };
-    match place {
-        Place::Folder(number) => Some(number),
         Place::Library(_) => None,
     }
 }

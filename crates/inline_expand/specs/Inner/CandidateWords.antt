@@ -15,7 +15,7 @@ use Rattle.class_tree.specs.Subtype.{IsChain}
 use Rattle.class_tree.specs.declared.place.Place.{Place}
 use Rattle.class_tree.specs.declared.place.Place.TheVariants.{Folder}
 use Rattle.expanded_code.specs.Candidates.{HasNoFinalizer, HasRoom, declares_finalizer}
-use Rattle.inline_expand.specs.Inner.ConstructorWords.{AreHandled, field_descs, handled_of}
+use Rattle.materialise.specs.Constructors.{field_descs}
 use Rattle.inline_expand.specs.Inner.QuietWords.{IsQuietItself}
 use Rattle.inline_expand.specs.Inner.StoreWords.{IsStored, StoredBefore}
 use Rattle.inline_expand.specs.declared.candidates.Judged.{Judged}
@@ -40,14 +40,12 @@ IsJudged classes name (Some fields) =
 IsJudged classes name None = ¬ IsSound classes name
 
 -- what is found once of all classes
-pub record AreFacts (classes : Classes) (marks : List Bool) (lists : List (List (List ℕ)))
-    : Type 0 where
+pub record AreFacts (classes : Classes) (marks : List Bool) : Type 0 where
   pub long : length marks ≡ length classes.folder
   pub stored : (number : ℕ)
       → number < length classes.folder
       → IsTrue (get_or marks number false)
       ↔ StoredBefore (headers_of classes) classes.folder (length classes.folder) number
-  pub handles : AreHandled (headers_of classes) lists (λ class. handled_of class classes.folder)
 
 -- the class file of a number by itself, but for its field constructor
 pub record IsFitAt (classes : Classes) (name : Name) (number : ℕ) (file : ClassFile) : Type 0 where

@@ -1,0 +1,4 @@
+mod ConstructorLaws
+mod ConstructorTexts
+mod FreeConstructors
+mod HandledLists
