@@ -33,22 +33,10 @@ use Rattle.expanded_code.specs.Candidates.{HasRoom, IsCandidate}
 use Rattle.expanded_code.specs.Laws.SuperChains.{chain_is, has_superclass}
 use Rattle.inline_expand.proofs.AloneFlat.{all-append}
 use Rattle.inline_expand.proofs.FolderNames.{of_folder}
-use Rattle.inline_expand.specs.Inner.ConstructorWords.{field_descs}
 use Rattle.inline_expand.specs.Inner.FieldTypes.{IsShortDescriptor}
+use Rattle.materialise.specs.Constructors.{field_descs}
+use Rattle.materialise.specs.Laws.JoinedTexts.{joined}
 use Rattle.member_link.specs.Laws.ResultTexts.{type_of_spelled}
-
--- ---- texts that stand one behind the other
-
-append-units : (bytes : List ℕ) (units others : List ℕ) → flat_map unit_bytes (units ++ others) ≡ flat_map unit_bytes units ++ flat_map unit_bytes others
-append-units bytes [] others = refl
-append-units bytes (unit ∷ units) others = ap (λ (rest : List ℕ). unit_bytes unit ++ rest) (append-units bytes units others) ∙ sym (append_assoc (unit_bytes unit) (flat_map unit_bytes units) (flat_map unit_bytes others))
-
-append-spelled : (one other : List ℕ) → IsModifiedUtf8 one → IsModifiedUtf8 other → IsModifiedUtf8 (one ++ other)
-append-spelled one other is also = record {
-  units = is.units ++ also.units;
-  each = all-append IsCodeUnit is.units also.units is.each also.each;
-  spelled = (λ i. is.spelled i ++ also.spelled i) ∙ sym (append-units [] is.units also.units);
-}
 
 -- ---- the type that a text spells
 
@@ -68,7 +56,7 @@ taking-text text is short =
     let open_ = (plain_text (40 ∷ []) refl).spelling in
     let close = (plain_text (41 ∷ 86 ∷ []) refl).spelling in
     record {
-      spelling = append-spelled ((40 ∷ []) ++ text) (41 ∷ 86 ∷ []) (append-spelled (40 ∷ []) text open_ is.spelling) close;
+      spelling = joined ((40 ∷ []) ++ text) (41 ∷ 86 ∷ []) (joined (40 ∷ []) text open_ is.spelling) close;
       len = omega (arith, short, length-append ((40 ∷ []) ++ text) (41 ∷ 86 ∷ []), length-append (40 ∷ []) text);
     }
 

@@ -16,10 +16,11 @@ use Rattle.class_tree.specs.declared.place.Place.{Place}
 use Rattle.class_tree.specs.declared.place.Place.TheVariants.{Folder}
 use Rattle.expanded_code.specs.Laws.SuperChains.{has_superclass}
 use Rattle.inline_expand.proofs.FolderNames.{in_folder_at, of_folder}
-use Rattle.inline_expand.proofs.SoundClasses.{sound_above, sound_fit, sound_free, sound_narrow, there_judged}
+use Rattle.inline_expand.proofs.SoundClasses.{fields_are, sound_above, sound_fit, sound_free, sound_narrow, there_judged}
 use Rattle.inline_expand.specs.Inner.CandidateWords.{AreKept, IsFileOf, IsFitAt, IsJudged, IsKept, IsSound, own_descs, units_of_all}
-use Rattle.inline_expand.specs.Inner.ConstructorWords.{HasFree, field_descs, handled_of}
 use Rattle.inline_expand.specs.declared.candidates.Judged.{Judged}
+use Rattle.materialise.specs.Constructors.{field_descs}
+use Rattle.member_link.specs.FieldConstructors.{HasFieldConstructor}
 
 -- the class of a name stands in the folder
 pub number_within : (classes : Classes) → IsHierarchy (headers_of classes) → (name : Name) (number : ℕ) → place_of (headers_of classes) name ≡ Some (Folder number) → number < length classes.folder
@@ -55,21 +56,24 @@ module _ (classes : Classes) (hierarchy : IsHierarchy (headers_of classes)) (out
   pub not_above : ((header : Header) (super : Name) → class_named (headers_of classes) name ≡ Some header → name ≢ object → header.super_name ≡ Some super → ¬ IsSound classes super) → ¬ IsSound classes name
   not_above no_super sound = no_super (header_of file) up.0 found differ up.1 (sound_above classes hierarchy outside name up.0 (header_of file) header_named up.1 sound)
 
-  module _ (above fields handles : List (List ℕ)) (judged : IsAboveSound classes name above) (are : fields ≡ above ++ own_descs (header_of file)) (handled : handles ≡ handled_of name classes.folder) where
+  module _ (above fields : List (List ℕ)) (judged : IsAboveSound classes name above) (are : fields ≡ above ++ own_descs (header_of file)) where
     super_judged : IsSound classes up.0 × (above ≡ field_descs (headers_of classes) up.0)
     super_judged = judged (header_of file) up.0 found differ up.1
 
+    pub all_fields : fields ≡ field_descs (headers_of classes) name
+    all_fields = fields_are classes hierarchy outside name up.0 (header_of file) header_named up.1 number file at above fields super_judged.1 are
+
     pub not_fit : ¬ IsFitAt classes name number file → ¬ IsSound classes name
-    not_fit never sound = never (sound_fit classes hierarchy outside name up.0 (header_of file) header_named up.1 number file at above fields handles super_judged.1 are handled sound)
+    not_fit never sound = never (sound_fit classes hierarchy outside name up.0 (header_of file) header_named up.1 number file at above fields super_judged.1 are sound)
 
     pub not_narrow : ¬ (units_of_all fields ≤ 64) → ¬ IsSound classes name
-    not_narrow never sound = never (sound_narrow classes hierarchy outside name up.0 (header_of file) header_named up.1 number file at above fields handles super_judged.1 are handled sound)
+    not_narrow never sound = never (sound_narrow classes hierarchy outside name up.0 (header_of file) header_named up.1 number file at above fields super_judged.1 are sound)
 
-    pub not_free : ¬ HasFree (header_of file) fields handles → ¬ IsSound classes name
-    not_free never sound = never (sound_free classes hierarchy outside name up.0 (header_of file) header_named up.1 number file at above fields handles super_judged.1 are handled sound)
+    pub not_free : ¬ HasFieldConstructor classes name → ¬ IsSound classes name
+    not_free never sound = never (sound_free classes hierarchy outside name up.0 (header_of file) header_named up.1 number file at above fields super_judged.1 are sound)
 
-    pub sound_there : IsFitAt classes name number file → units_of_all fields ≤ 64 → HasFree (header_of file) fields handles → IsJudged classes name (Some fields)
-    sound_there fit narrow free = there_judged classes hierarchy outside name up.0 (header_of file) header_named up.1 number file at above fields handles super_judged.1 are handled super_judged.0 fit narrow free
+    pub sound_there : IsFitAt classes name number file → units_of_all fields ≤ 64 → HasFieldConstructor classes name → IsJudged classes name (Some fields)
+    sound_there fit narrow free = there_judged classes hierarchy outside name up.0 (header_of file) header_named up.1 number file at above fields super_judged.1 are super_judged.0 fit narrow free
 
 -- a class file of the folder
 pub file_there : (files : List ClassFile) (number : ℕ) → number < length files → (file : ClassFile) × (slice_get files number ≡ Some file)

@@ -1,5 +1,5 @@
 -- Sound classes, class by class, and the candidates among them.
-use Rattle.member_link.specs.FieldConstructors.{field_types}
+use Rattle.member_link.specs.FieldConstructors.{HasFieldConstructor, field_types}
 use Rattle.std.proofs.Common.{◌≡◌, ◌≢◌, ◌↔◌, ◌≤◌, ◌++◌, not, ℕ, List, [], ◌∷◌, filter, length, map, reverse, slice_get, is_some, option_map, Option, Some, None, IsFalse, refl, sym, ap, subst, ◌∙◌, inl, inr, arith}
 use Rattle.std.specs.List.{AllByRecursion, flat_map}
 use Rattle.std.proofs.lemmas.Bool.{false≢true, or_left, or_right}
@@ -28,14 +28,13 @@ use Rattle.class_tree.specs.Order.{place_of}
 use Rattle.class_tree.specs.declared.place.Place.TheVariants.{Folder}
 use Rattle.expanded_code.specs.Candidates.{HasNoFinalizer, HasRoom, Initialises, IsCandidate, KeepsFinals, declares_finalizer}
 use Rattle.expanded_code.specs.Laws.SuperChains.{chain_is, chain_of_object, has_superclass, superclasses_is, superclasses_of_root}
-use Rattle.inline_expand.proofs.ConstructorLaws.{constructor_is}
 use Rattle.inline_expand.proofs.FolderNames.{folder_name, in_folder_at, of_folder}
 use Rattle.inline_expand.proofs.QuietLaws.{quiet_is}
 use Rattle.inline_expand.proofs.StoredClasses.{before_stored, stored_before}
 use Rattle.inline_expand.specs.Inner.CandidateWords.{IsFileOf, IsFit, IsFitAt, IsJudged, IsSound, own_descs, units_of_all}
-use Rattle.inline_expand.specs.Inner.ConstructorWords.{HasFree, field_descs, handled_of}
 use Rattle.inline_expand.specs.Inner.QuietWords.{IsQuietItself}
 use Rattle.inline_expand.specs.Inner.StoreWords.{IsStored}
+use Rattle.materialise.specs.Constructors.{field_descs}
 use Rattle.member_link.specs.Scope.{Scope, is_init}
 
 -- ---- lists
@@ -221,9 +220,8 @@ module _ (classes : Classes) (hierarchy : IsHierarchy (headers_of classes)) (out
           let same : other ≡ number = cc in
           same_Some one file (sym there ∙ ap (slice_get classes.folder) same ∙ at.there)
 
-      fit_is : IsFit classes name ↔ (IsFitAt classes name number file × HasFree header (field_descs (headers_of classes) name) (handled_of name classes.folder))
+      fit_is : IsFit classes name ↔ (IsFitAt classes name number file × HasFieldConstructor classes name)
       fit_is =
-          let constructor = constructor_is classes name header (of_folder (headers_of classes) name header is) in
           let own : (header_of file).name ≡ name = ap (λ (h : Header). h.name) header_is ∙ folder_name (headers_of classes) name header is in (
             λ fit. (
               record {
@@ -233,7 +231,7 @@ module _ (classes : Classes) (hierarchy : IsHierarchy (headers_of classes)) (out
                 methods = fit.room.methods file number at.there own;
                 finals = λ stored. fit.finals (before_stored classes hierarchy name number at.placed stored);
               },
-              constructor.0 fit.room.constructor,
+              fit.room.constructor,
             ),
             λ both. record {
               quiet = both.0.quiet;
@@ -241,22 +239,21 @@ module _ (classes : Classes) (hierarchy : IsHierarchy (headers_of classes)) (out
               room = record {
                 constants = λ one other there own. subst (λ (f : ClassFile). length f.pool ≤ 64535) (sym (file_is other one there own)) both.0.constants;
                 methods = λ one other there own. subst (λ (f : ClassFile). length f.methods ≤ 65534) (sym (file_is other one there own)) both.0.methods;
-                constructor = constructor.1 both.1;
+                constructor = both.1;
               };
               finals = λ stored. both.0.finals (stored_before classes hierarchy name number at.placed stored);
             },
           )
 
       -- by the fields of the class above
-      module _ (before fields handles : List (List ℕ)) (above_are : before ≡ field_descs (headers_of classes) above) (are : fields ≡ before ++ own_descs header) (handled : handles ≡ handled_of name classes.folder) where
-        fields_are : fields ≡ field_descs (headers_of classes) name
+      module _ (before fields : List (List ℕ)) (above_are : before ≡ field_descs (headers_of classes) above) (are : fields ≡ before ++ own_descs header) where
+        pub fields_are : fields ≡ field_descs (headers_of classes) name
         fields_are = are ∙ ap (λ (l : List (List ℕ)). l ++ own_descs header) above_are ∙ sym descs_at
 
-        pub there_judged : IsSound classes above → IsFitAt classes name number file → units_of_all fields ≤ 64 → HasFree header fields handles → IsJudged classes name (Some fields)
+        pub there_judged : IsSound classes above → IsFitAt classes name number file → units_of_all fields ≤ 64 → HasFieldConstructor classes name → IsJudged classes name (Some fields)
         there_judged sound fit narrow free = (
           record {
-            fit = subst (AllByRecursion (IsFit classes)) (sym chain_at)
-                (fit_is.1 (fit, subst (λ (l : List (List ℕ)). HasFree header l (handled_of name classes.folder)) fields_are (subst (HasFree header fields) handled free)), sound.fit);
+            fit = subst (AllByRecursion (IsFit classes)) (sym chain_at) (fit_is.1 (fit, free), sound.fit);
             narrow = let one = units_are name in let same = ap units_of_all fields_are in omega (arith, one, same, narrow);
           },
           fields_are,
@@ -268,5 +265,5 @@ module _ (classes : Classes) (hierarchy : IsHierarchy (headers_of classes)) (out
         pub sound_narrow : IsSound classes name → units_of_all fields ≤ 64
         sound_narrow sound = let one = units_are name in let same = ap units_of_all fields_are in omega (arith, one, same, sound.narrow)
 
-        pub sound_free : IsSound classes name → HasFree header fields handles
-        sound_free sound = subst (HasFree header fields) (sym handled) (subst (λ (l : List (List ℕ)). HasFree header l (handled_of name classes.folder)) (sym fields_are) (fit_is.0 (sound_parts sound).0).1)
+        pub sound_free : IsSound classes name → HasFieldConstructor classes name
+        sound_free sound = (fit_is.0 (sound_parts sound).0).1

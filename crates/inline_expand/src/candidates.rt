@@ -71,6 +71,7 @@ struct Climbed {
 }
 
 impl<'t> Model for Candidates<'t> {
+    ghost use Rattle.std.specs.Prelude.{◌≡◌};
     ghost use Rattle.class_tree.specs.Headers.{Classes};
     ghost use Rattle.inline_expand.specs.Inner.CandidateWords.{AreFacts, AreKept};
 
@@ -79,9 +80,9 @@ impl<'t> Model for Candidates<'t> {
     ghost view = { λ candidates. candidates.tree.now };
 
     ghost invariant = { λ candidates.
-        (candidates.constructors ≡ candidates.tree.now)
-        × AreFacts candidates.tree.now candidates.stored.items
-        × AreKept candidates.tree.now candidates.judged.items };
+        AreFacts candidates.tree.now candidates.stored.items
+        × AreKept candidates.tree.now candidates.judged.items
+        × (candidates.constructors ≡ candidates.tree.now) };
 }
 
 impl<'t> Candidates<'t> {
@@ -273,7 +274,9 @@ impl<'t> Candidates<'t> {
         if !are_narrow(fields.as_slice()) {
             return Ok(None);
         }
-        let constructor = self.constructors.of_fields(alloc, number, fields.as_slice())?;
+        let constructor = self
+            .constructors
+            .of_fields(alloc, number, fields.as_slice())?;
         if constructor.is_none() {
             return Ok(None);
         }

@@ -11,4 +11,5 @@ invariant_of-self c = (
   c.self.invariant.0,
   kept_more c.self.inside.tree.now c.self.inside.judged.items c.args.number c.args.judged (omega (arith, c.if-number-len.true, c.len.ensures, c.self.inside.judged.ok.0)) c.self.invariant.1
       (subst (λ (k : Classes). (name : Name) → place_of (headers_of k) name ≡ Some (Folder c.args.number) → IsKept k name c.args.judged) (sym c.self.view_is) c.requires),
+  c.self.invariant.2,
 )
