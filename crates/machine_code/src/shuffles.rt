@@ -39,7 +39,8 @@ enum Move {
 ///
 /// # Errors
 ///
-/// `NoMemory` where memory runs out; the stack may then lack entries.
+/// `NoMemory` where memory runs out. The entries below those that the opcode moves are then as they were; of those that it moves some may be
+/// missing, and the others may stand in their new order.
 pub fn shuffle(opcode: u8, stack: &mut ValueList) -> Result<bool, NoMemory>
     ensures shuffled { IfOk result (λ moved. shuffled opcode (reverse stack.old)
         ≡ written moved (reverse stack.new)) }

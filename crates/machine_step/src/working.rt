@@ -68,7 +68,8 @@ fn special_arity(op: &CallOp) -> usize
 ///
 /// # Errors
 ///
-/// `NoMemory` where memory runs out.
+/// `NoMemory` where memory runs out. The operation is then the same, and what it has resolved and remembered holds. The memory is as it was,
+/// but that its heap may have arrays of a `multianewarray` to which nothing refers, and which are not counted.
 pub fn work(
     alloc: Global,
     tree: &Tree,

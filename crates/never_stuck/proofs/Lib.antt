@@ -2,3 +2,4 @@ mod LibraryAlone
 mod Turns
 mod TypedRuns
 mod TypedSteps
+mod TypedByFrames

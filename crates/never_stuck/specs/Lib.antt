@@ -1,1 +1,2 @@
 pub mod PlainFolders
+pub mod FolderTypings

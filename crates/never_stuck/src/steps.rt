@@ -1,11 +1,14 @@
 //! Steps of a run, and actions of its library, that keep a typed world typed.
-ghost use Rattle.std.specs.Prelude.{◌≡◌, ◌≢◌, ◌↔◌, ◌<◌, ◌-◌, ◌^◌, true, false, IfOk, OnOk, OnErr};
+ghost use Rattle.std.specs.Prelude.{◌≡◌, ◌≢◌, ◌↔◌, ◌<◌, ◌-◌, ◌^◌, true, false, length, IfOk, OnOk, OnErr};
 ghost use Rattle.machine_run.specs.Outcomes.{ended, halt_behind, halt_of};
 ghost use Rattle.member_link.specs.TreePrograms.{IsProgram};
+ghost use Rattle.member_link.specs.Linked.{IsLinked};
 ghost use Rattle.member_link.specs.Machine.Acting.{act};
 ghost use Rattle.member_link.specs.Machine.Programs.{Program};
 ghost use Rattle.member_link.specs.Machine.Stepping.{is_library_turn, step};
 ghost use Rattle.member_link.specs.Machine.Worlds.{going};
+ghost use Rattle.never_stuck.specs.FolderTypings.{StaysTypedBy};
+ghost use Rattle.type_rules.specs.Verified.{TypesFolder};
 ghost use Rattle.typed_runs.specs.TypedPrograms.{Typings};
 ghost use Rattle.typed_runs.specs.TypedWorlds.{TypedWorld};
 
@@ -16,10 +19,11 @@ use machine_step::{Acted, Outcome, World, WorldState};
 use machine_values::Action;
 use std::alloc::Global;
 use type_rules::TypedFolder;
+use typed_programs::a_verified_folder_is_a_typed_program;
 use typed_runs::{a_step_stays_typed, an_action_stays_typed};
 
-/// One step of a run of a tree's folder, as `machine_run::step` makes it. A typed world stays typed, and from one the outcome is not
-/// `Stuck`.
+/// One step of a run of a tree's folder, as `machine_run::step` makes it. A typed world stays typed, by whatever typing of the program, and
+/// from one the outcome is not `Stuck`. Where the frames `typed` type the folder and it has a class, they are those of such a typing.
 ///
 /// # Errors
 ///
@@ -44,14 +48,23 @@ pub fn stays_typed(
     ensures not_stuck { IfOk result (λ outcome. (P : Program) (T : Typings) → IsProgram tree.now P
         → TypedWorld P T world.old.world
         → outcome ≢ Outcome.Stuck) }
+    ensures by_frames { OnOk result ((P : Program) → IsProgram tree.now P
+        → IsLinked tree.now
+        → TypesFolder tree.now _typed.now
+        → 0 < length tree.now.folder
+        → StaysTypedBy P _typed.now world.old.world world.new.world) }
 {
     a_world_goes_on(world);
     a_step_stays_typed();
+    a_verified_folder_is_a_typed_program();
+    // its classes are a hierarchy
+    let _ = tree.folder();
     step(alloc, tree, world)
 }
 
-/// Takes an action of the library, whose frame is on top, as `machine_run::act` does. A typed world stays typed, and from one the answer is
-/// not `Stuck`.
+/// Takes an action of the library, whose frame is on top, as `machine_run::act` does. A typed world stays typed, by whatever typing of the
+/// program, and from one the answer is not `Stuck`. Where the frames `typed` type the folder and it has a class, they are those of such a
+/// typing.
 ///
 /// # Errors
 ///
@@ -76,9 +89,17 @@ pub fn acts_typed(
     ensures not_stuck { IfOk result (λ acted. (P : Program) (T : Typings) → IsProgram tree.now P
         → TypedWorld P T world.old.world
         → acted ≢ Acted.Stuck) }
+    ensures by_frames { OnOk result ((P : Program) → IsProgram tree.now P
+        → IsLinked tree.now
+        → TypesFolder tree.now _typed.now
+        → 0 < length tree.now.folder
+        → StaysTypedBy P _typed.now world.old.world world.new.world) }
 {
     a_world_goes_on(world);
     an_action_stays_typed();
+    a_verified_folder_is_a_typed_program();
+    // its classes are a hierarchy
+    let _ = tree.folder();
     act(alloc, tree, world, action)
 }
 
