@@ -1,5 +1,7 @@
 //! Operations with what they name resolved, and with what they answered last. Contracts see through them what the operation is
 //! (`specs/RunOps.antt`).
+ghost use Rattle.std.specs.Prelude.{◌≡◌};
+
 use crate::reference::Reference;
 use class_model::{FieldType, Kind, MethodAt, PairList, TargetList, Text};
 use machine_values::{Constant, Value};
@@ -21,7 +23,6 @@ pub enum Throwable {
 
 /// What an operation does, at a point of a method's code. Jumps name numbers of points. The first number of an operation of
 /// arithmetic, of the stack, of elements or of a conditional jump is its opcode.
-#[derive(Drop)]
 pub enum RunOp {
     Nop,
     /// An instruction whose constant lacks what it needs, whose opcode is none of its form, or that returns another kind than the
@@ -67,23 +68,86 @@ pub enum RunOp {
     Leave,
 }
 
+// Written out: a derived drop would be spelled out, field by field, in each function that drops one, and be proved there.
+impl Drop for RunOp {
+    fn drop(self) {
+        match self {
+            RunOp::Nop => {}
+            RunOp::Meaningless => {}
+            RunOp::Push(_) => {}
+            RunOp::PushConstant(_) => {}
+            RunOp::Load(_, _) => {}
+            RunOp::Store(_, _) => {}
+            RunOp::Increment(_, _) => {}
+            RunOp::Shuffle(_) => {}
+            RunOp::Pure(_) => {}
+            RunOp::Divide(_) => {}
+            RunOp::Float(_) => {}
+            RunOp::JumpInt(_, _) => {}
+            RunOp::JumpInts(_, _) => {}
+            RunOp::JumpReferences(_, _) => {}
+            RunOp::JumpNull(_, _) => {}
+            RunOp::Jump(_) => {}
+            RunOp::Table(_) => {}
+            RunOp::Lookup(_) => {}
+            RunOp::ReturnNothing => {}
+            RunOp::ReturnValue(_) => {}
+            RunOp::Throw => {}
+            RunOp::GetStatic(_) => {}
+            RunOp::PutStatic(_) => {}
+            RunOp::GetField(_) => {}
+            RunOp::PutField(_) => {}
+            RunOp::CallStatic(_) => {}
+            RunOp::CallVirtual(_) => {}
+            RunOp::CallInterface(_) => {}
+            RunOp::CallSpecial(_) => {}
+            RunOp::CallDynamic(_) => {}
+            RunOp::New(_) => {}
+            RunOp::NewArray(_) => {}
+            RunOp::NewArrays(_, _) => {}
+            RunOp::LoadElement(_) => {}
+            RunOp::StoreElement(_) => {}
+            RunOp::Length => {}
+            RunOp::Cast(_) => {}
+            RunOp::InstanceOf(_) => {}
+            RunOp::Enter => {}
+            RunOp::Leave => {}
+        }
+    }
+}
+
 /// A `tableswitch`: the lowest key, the point for every other key, and a point for each key from the lowest on.
-#[derive(Drop)]
 pub struct TableOp {
     pub low: i32,
     pub other: u32,
     pub targets: TargetList,
 }
 
+// Written out: a derived drop would be spelled out, field by field, in each function that drops one, and be proved there.
+impl Drop for TableOp {
+    fn drop(self) {
+        let TableOp {
+            low: _,
+            other: _,
+            targets: _,
+        } = self;
+    }
+}
+
 /// A `lookupswitch`: the point for every other key, and keys with their points.
-#[derive(Drop)]
 pub struct LookupOp {
     pub other: u32,
     pub pairs: PairList,
 }
 
+// Written out: a derived drop would be spelled out, field by field, in each function that drops one, and be proved there.
+impl Drop for LookupOp {
+    fn drop(self) {
+        let LookupOp { other: _, pairs: _ } = self;
+    }
+}
+
 /// A read or a store of a field.
-#[derive(Drop)]
 pub struct FieldOp {
     pub named: Reference,
     /// Of a store: the class whose instance initialiser (for a static field class initialiser) the code is.
@@ -92,8 +156,18 @@ pub struct FieldOp {
     pub found: Option<FieldTarget>,
 }
 
+// Written out: a derived drop would be spelled out, field by field, in each function that drops one, and be proved there.
+impl Drop for FieldOp {
+    fn drop(self) {
+        let FieldOp {
+            named: _,
+            initialises: _,
+            found: _,
+        } = self;
+    }
+}
+
 /// A field that is found.
-#[derive(Drop)]
 pub struct FieldTarget {
     /// By the class that declares it.
     pub field: Reference,
@@ -104,6 +178,20 @@ pub struct FieldTarget {
     pub home: FieldHome,
     /// The last receiver's class, which conforms to the named class, and the field's number in its objects.
     pub seen: Option<SeenSlot>,
+}
+
+// Written out: a derived drop would be spelled out, field by field, in each function that drops one, and be proved there.
+impl Drop for FieldTarget {
+    fn drop(self) {
+        let FieldTarget {
+            field: _,
+            is_static: _,
+            is_barred: _,
+            desc: _,
+            home: _,
+            seen: _,
+        } = self;
+    }
 }
 
 /// Where a field is declared: in the library, or in a class of the folder by its number, as the field of a number there.
@@ -121,7 +209,6 @@ pub struct SeenSlot {
 }
 
 /// A call of a method.
-#[derive(Drop)]
 pub struct CallOp {
     pub named: Reference,
     /// Of a special call: the class at which its selection starts.
@@ -132,8 +219,19 @@ pub struct CallOp {
     pub found: Option<CallTarget>,
 }
 
+// Written out: a derived drop would be spelled out, field by field, in each function that drops one, and be proved there.
+impl Drop for CallOp {
+    fn drop(self) {
+        let CallOp {
+            named: _,
+            from: _,
+            parameters: _,
+            found: _,
+        } = self;
+    }
+}
+
 /// A method that is found.
-#[derive(Drop)]
 pub struct CallTarget {
     /// By the class that declares it.
     pub method: Reference,
@@ -149,8 +247,22 @@ pub struct CallTarget {
     pub seen: Option<SeenCallee>,
 }
 
+// Written out: a derived drop would be spelled out, field by field, in each function that drops one, and be proved there.
+impl Drop for CallTarget {
+    fn drop(self) {
+        let CallTarget {
+            method: _,
+            is_static: _,
+            asked: _,
+            is_polymorphic: _,
+            home: _,
+            fixed: _,
+            seen: _,
+        } = self;
+    }
+}
+
 /// What a call runs.
-#[derive(Drop)]
 pub enum Callee {
     /// A method of the folder with code.
     Runs(MethodAt),
@@ -161,15 +273,35 @@ pub enum Callee {
     Nothing,
 }
 
+// Written out: a derived drop would be spelled out, field by field, in each function that drops one, and be proved there.
+impl Drop for Callee {
+    fn drop(self) {
+        match self {
+            Callee::Runs(_) => {}
+            Callee::Asks(_) => {}
+            Callee::Raises(_) => {}
+            Callee::Nothing => {}
+        }
+    }
+}
+
 /// A class of the folder by its number, and what a call on its objects runs.
-#[derive(Drop)]
 pub struct SeenCallee {
     pub class: usize,
     pub callee: Callee,
 }
 
+// Written out: a derived drop would be spelled out, field by field, in each function that drops one, and be proved there.
+impl Drop for SeenCallee {
+    fn drop(self) {
+        let SeenCallee {
+            class: _,
+            callee: _,
+        } = self;
+    }
+}
+
 /// An `invokedynamic`: the class whose code has it, the number of its bootstrap method, name and descriptor.
-#[derive(Drop)]
 pub struct DynamicOp {
     pub class: Text,
     pub bootstrap: u16,
@@ -178,20 +310,63 @@ pub struct DynamicOp {
     pub parameters: Vec<Kind>,
 }
 
+// Written out: a derived drop would be spelled out, field by field, in each function that drops one, and be proved there.
+impl Drop for DynamicOp {
+    fn drop(self) {
+        let DynamicOp {
+            class: _,
+            bootstrap: _,
+            name: _,
+            desc: _,
+            parameters: _,
+        } = self;
+    }
+}
+
 /// A `new`: the named class, its number where it is the folder's, and what the fields of its objects hold at first.
-#[derive(Drop)]
 pub struct NewOp {
     pub class: Text,
     pub home: Option<usize>,
     pub blanks: Vec<Value>,
 }
 
+// Written out: a derived drop would be spelled out, field by field, in each function that drops one, and be proved there.
+impl Drop for NewOp {
+    fn drop(self) {
+        let NewOp {
+            class: _,
+            home: _,
+            blanks: _,
+        } = self;
+    }
+}
+
+impl NewOp {
+    /// What the fields of its objects hold at first. It does not allocate.
+    pub fn into_blanks(self) -> Vec<Value>
+        ensures { result ≡ self.blanks }
+    {
+        let NewOp {
+            class: _,
+            home: _,
+            blanks,
+        } = self;
+        blanks
+    }
+}
+
 /// A `checkcast` or `instanceof`: the named class or array.
-#[derive(Drop)]
 pub struct CastOp {
     pub name: Text,
     /// The last object's class, and whether it is an instance.
     pub seen: Option<SeenAnswer>,
+}
+
+// Written out: a derived drop would be spelled out, field by field, in each function that drops one, and be proved there.
+impl Drop for CastOp {
+    fn drop(self) {
+        let CastOp { name: _, seen: _ } = self;
+    }
 }
 
 /// A class of the folder by its number, and the answer of a test of its objects.
