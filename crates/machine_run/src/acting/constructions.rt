@@ -113,7 +113,7 @@ fn make_blank(
     let op = resolve_new(alloc, tree, class)?;
     match op.home {
         Some(number) => {
-            let blanks = ValueList::from_vec(op.blanks);
+            let blanks = ValueList::from_vec(op.into_blanks());
             let made = memory.allocate(Shape::Folder(number), blanks)?;
             Ok(Some(made))
         }
