@@ -6,7 +6,7 @@ use Rattle.machine_step.proofs.fields.statics.static_value.Goals as goal
 
 pub returns-in-None : goal.returns-in-None
 returns-in-None c = λ P field is stored.
-    c.blank.ensures
+    c.blank_of_kind.ensures
     ∙ ap blank_of_kind c.kind.ensures
     ∙ sym
     (value_blank P field c.args.class c.args.number is c.args.memory.now c.args.type_.now
