@@ -43,7 +43,6 @@ pub fn candidate(alloc: Global, tree: &Tree, class: &Text) -> Result<bool, NoMem
 }
 
 /// The classes of a folder whose objects may be kept in local variables. Contracts see the classes of the tree.
-#[derive(Drop)]
 pub struct Candidates<'t> {
     tree: &'t Tree,
     // by the number of a class of the folder: whether a method that is none of its instance initialisers stores into a final
@@ -54,13 +53,35 @@ pub struct Candidates<'t> {
     judged: Vec<Judged>,
 }
 
+// Written out: a derived drop would be spelled out, field by field, in each function that drops one, and be proved there.
+impl Drop for Candidates<'_> {
+    fn drop(self) {
+        let Candidates {
+            tree: _,
+            stored: _,
+            constructors: _,
+            judged: _,
+        } = self;
+    }
+}
+
 /// What is known of a class of the folder: whether the classes of its chain are fit and its fields narrow, and then the
 /// descriptors of the fields.
-#[derive(Drop)]
 pub(crate) enum Judged {
     Unknown,
     Unsound,
     Sound(TextList),
+}
+
+// Written out: a derived drop would be spelled out, field by field, in each function that drops one, and be proved there.
+impl Drop for Judged {
+    fn drop(self) {
+        match self {
+            Judged::Unknown => {}
+            Judged::Unsound => {}
+            Judged::Sound(_) => {}
+        }
+    }
 }
 
 // The classes of a chain up to one that is judged, upwards, and the descriptors of the fields of that one, if it is sound.

@@ -25,7 +25,6 @@ use std::alloc::Global;
 use std::mem;
 
 /// What becomes of an instruction.
-#[derive(Drop)]
 pub(crate) enum Step {
     /// It stays as it is.
     Stays,
@@ -35,9 +34,19 @@ pub(crate) enum Step {
     Replaced(usize),
 }
 
+// Written out: a derived drop would be spelled out, field by field, in each function that drops one, and be proved there.
+impl Drop for Step {
+    fn drop(self) {
+        match self {
+            Step::Stays => {}
+            Step::Site(_) => {}
+            Step::Replaced(_) => {}
+        }
+    }
+}
+
 /// A method in flat code, with the frames that type it and a step for each of its instructions. Steps name bodies
 /// that stand before it.
-#[derive(Drop)]
 pub(crate) struct Body<'t> {
     pub(crate) at: MethodAt,
     pub(crate) host: Host<'t>,
@@ -45,11 +54,32 @@ pub(crate) struct Body<'t> {
     pub(crate) steps: ListOf<Step>,
 }
 
+// Written out: a derived drop would be spelled out, field by field, in each function that drops one, and be proved there.
+impl Drop for Body<'_> {
+    fn drop(self) {
+        let Body {
+            at: _,
+            host: _,
+            frames: _,
+            steps: _,
+        } = self;
+    }
+}
+
 /// What becomes of the instructions of a host: its body, and those of the callees in it, each behind those of its own callees.
-#[derive(Drop)]
 pub(crate) struct HostBodies<'t> {
     pub(crate) body: Body<'t>,
     pub(crate) callees: Vec<Body<'t>>,
+}
+
+// Written out: a derived drop would be spelled out, field by field, in each function that drops one, and be proved there.
+impl Drop for HostBodies<'_> {
+    fn drop(self) {
+        let HostBodies {
+            body: _,
+            callees: _,
+        } = self;
+    }
 }
 
 /// What was made so far: verdicts, bodies, and how many steps more there may be that leave an instruction in its place.

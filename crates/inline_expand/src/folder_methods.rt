@@ -17,10 +17,19 @@ pub(crate) type FoundList = ListOf<Found>;
 const SLOTS: usize = 65_536;
 
 /// The methods of a folder, in buckets by their names and descriptors. Contracts see the classes.
-#[derive(Drop)]
 pub(crate) struct FolderMethods<'t> {
     tree: &'t Tree,
     buckets: Vec<FoundList>,
+}
+
+// Written out: a derived drop would be spelled out, field by field, in each function that drops one, and be proved there.
+impl Drop for FolderMethods<'_> {
+    fn drop(self) {
+        let FolderMethods {
+            tree: _,
+            buckets: _,
+        } = self;
+    }
 }
 
 impl<'t> Model for FolderMethods<'t> {

@@ -21,7 +21,6 @@ use std::marker::Model;
 use type_rules::code_of;
 
 /// A method with code, with its instructions and their numbers by their offsets. Contracts see its scope.
-#[derive(Drop)]
 pub(crate) struct Host<'a> {
     tree: &'a Tree,
     class: &'a ClassFile,
@@ -29,6 +28,20 @@ pub(crate) struct Host<'a> {
     part: &'a CodePart,
     instrs: PlacedList,
     index: OffsetIndex,
+}
+
+// Written out: a derived drop would be spelled out, field by field, in each function that drops one, and be proved there.
+impl Drop for Host<'_> {
+    fn drop(self) {
+        let Host {
+            tree: _,
+            class: _,
+            method: _,
+            part: _,
+            instrs: _,
+            index: _,
+        } = self;
+    }
 }
 
 impl<'a> Model for Host<'a> {

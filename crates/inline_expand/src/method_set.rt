@@ -8,11 +8,17 @@ use std::alloc::Global;
 use std::marker::Model;
 
 /// Methods in the order in which they were added, each once. Contracts see the list.
-#[derive(Drop)]
 pub(crate) struct MethodSet {
     list: Vec<MethodAt>,
     // of each of them
     seen: Verdicts,
+}
+
+// Written out: a derived drop would be spelled out, field by field, in each function that drops one, and be proved there.
+impl Drop for MethodSet {
+    fn drop(self) {
+        let MethodSet { list: _, seen: _ } = self;
+    }
 }
 
 impl Model for MethodSet {

@@ -8,9 +8,15 @@ use std::alloc::Global;
 use std::collections::HashMap;
 
 /// Of some methods, whether they are ready.
-#[derive(Drop)]
 pub(crate) struct Verdicts {
     by_method: HashMap<(usize, usize), bool>,
+}
+
+// Written out: a derived drop would be spelled out, field by field, in each function that drops one, and be proved there.
+impl Drop for Verdicts {
+    fn drop(self) {
+        let Verdicts { by_method: _ } = self;
+    }
 }
 
 impl Verdicts {

@@ -15,12 +15,23 @@ use std::alloc::Global;
 /// How a method stands in place of a call: its shape; the number of the first point of each of its instructions and of what is
 /// behind them, counted from that of the first; how many points stand in place of the call; and how many local units it and its own callees
 /// have. What is more than a `u16` counts stands as its greatest.
-#[derive(Drop)]
 pub(crate) struct Layout {
     pub(crate) shape: Shape,
     pub(crate) starts: Vec<u16>,
     pub(crate) points: u16,
     pub(crate) units: u16,
+}
+
+// Written out: a derived drop would be spelled out, field by field, in each function that drops one, and be proved there.
+impl Drop for Layout {
+    fn drop(self) {
+        let Layout {
+            shape: _,
+            starts: _,
+            points: _,
+            units: _,
+        } = self;
+    }
 }
 
 /// The layouts of bodies, each with callees among those before it.

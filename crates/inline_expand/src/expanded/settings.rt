@@ -17,16 +17,25 @@ use std::alloc::Global;
 
 /// What a callee has beside a host: the number of the point behind its call, how its results are narrowed, and the
 /// handlers of its call.
-#[derive(Drop)]
 pub(crate) struct Call {
     pub(crate) behind: u16,
     pub(crate) narrowed: Narrowed,
     pub(crate) handlers: FlatHandlerList,
 }
 
+// Written out: a derived drop would be spelled out, field by field, in each function that drops one, and be proved there.
+impl Drop for Call {
+    fn drop(self) {
+        let Call {
+            behind: _,
+            narrowed: _,
+            handlers: _,
+        } = self;
+    }
+}
+
 /// A method in its place: the number of its first own point and, counted from that, of the first point of each of its instructions; the
 /// first of its local units; what its callers have; the type of its uninitialised object; and what it has as a callee.
-#[derive(Drop)]
 pub(crate) struct Setting<'s, 't> {
     pub(crate) body: &'s Body<'t>,
     pub(crate) starts: &'s [u16],
@@ -35,6 +44,21 @@ pub(crate) struct Setting<'s, 't> {
     pub(crate) below: Frame,
     pub(crate) this: VType,
     pub(crate) call: Option<Call>,
+}
+
+// Written out: a derived drop would be spelled out, field by field, in each function that drops one, and be proved there.
+impl Drop for Setting<'_, '_> {
+    fn drop(self) {
+        let Setting {
+            body: _,
+            starts: _,
+            base: _,
+            unit: _,
+            below: _,
+            this: _,
+            call: _,
+        } = self;
+    }
 }
 
 /// Where points stand that have one class and the same handlers.

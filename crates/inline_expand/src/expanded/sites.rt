@@ -24,10 +24,16 @@ pub(crate) struct Numbered<'s, 't> {
 }
 
 /// A candidate site: the number of its point, and the class of the object that it makes.
-#[derive(Drop)]
 pub(crate) struct NewAt {
     pub(crate) at: u16,
     pub(crate) class: Text,
+}
+
+// Written out: a derived drop would be spelled out, field by field, in each function that drops one, and be proved there.
+impl Drop for NewAt {
+    fn drop(self) {
+        let NewAt { at: _, class: _ } = self;
+    }
 }
 
 /// Appends the candidate sites of a method in its place, with those of its callees, which are among these bodies.
