@@ -28,9 +28,6 @@ milliseconds() {
     processor_ms "$@"
 }
 
-# peak COMMAND..: the most memory of one run of a command, in kB
-peak() { /usr/bin/time -f %M "$@" 2>&1 >/dev/null; }
-
 # copy_as NUMBER: puts into the input a copy of the class files with packages of their own, whose names are as long
 copy_as() {
     cp -r one "in/copy$1"

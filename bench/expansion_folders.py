@@ -1,5 +1,5 @@
-"""expansion_folders.py FOLDER SHAPE COUNT: makes a folder `in` of class files, and in some shapes more of a folder `lib`, for whose
-methods flat code is asked for. `SHAPES` below says which there are; bench/sizes.sh asks for them."""
+"""expansion_folders.py FOLDER SHAPE COUNT..: makes a folder `in` of class files, and in some shapes more of a folder `lib`, for whose
+methods flat code is asked for. `SHAPES` below says which there are; bench/sizes.sh and bench/rewriting.sh ask for them."""
 import os
 import sys
 
@@ -8,7 +8,7 @@ from size_folders import (
     METHOD, NOP, POP, PUBLIC, RETURN, caught_frames, full_frame, plain, u2,
 )
 
-PUTFIELD = b"\xb5"
+PUTFIELD, ILOAD_0 = b"\xb5", b"\x1a"
 FINAL = 0x10
 OBJECT = "java/lang/Object"
 
@@ -327,12 +327,23 @@ def long_constructors(count):
     made.write("T.class")
 
 
+def handled(count, size):
+    """So many methods of so many instructions, most of which load and pop, with a handler over half of each 64 bytes."""
+    candidate()
+    made = Class("T")
+    for number in range(count):
+        body = made.site("C") + (ILOAD_0 + POP) * ((size - 5) // 2) + RETURN
+        table = [(start, start + 32, len(body), 0) for start in range(0, len(body) - 64, 64)]
+        made.method(f"m{number}", "(I)V", body + POP + RETURN, 1, 1, table, caught_frames(made, len(body), 1))
+    made.write("T.class")
+
+
 SHAPES = {
     made.__name__.replace("_", "-"): made
     for made in (
         tree_under, tree_over, hosts, callers, alike, alike_callers, constructors_own, constructors_last, constructors_one,
         candidates, ask_others, long_fields, quiet, silent, library_chain, handles, final_stores, colliding, ranges, same_ranges,
-        units, units_calls, flat_pushes, long_calls, long_constructors,
+        units, units_calls, flat_pushes, long_calls, long_constructors, handled,
     )
 }
 
@@ -340,4 +351,4 @@ if __name__ == "__main__":
     os.chdir(sys.argv[1])
     os.makedirs("in", exist_ok=True)
     os.makedirs("lib", exist_ok=True)
-    SHAPES[sys.argv[2]](int(sys.argv[3]))
+    SHAPES[sys.argv[2]](*map(int, sys.argv[3:]))

@@ -10,7 +10,10 @@ classes are in the order of their numbers.
     private     a chain of so many classes, each with the same 60 private final methods
     elsewhere   overriding, and a class outside of the chain in which these methods are final
     circle      so many classes, each below the next, and the last below the first
-    below       a circle of two classes, and so many below it"""
+    below       a circle of two classes, and so many below it
+    lattice     64 interfaces, of which each but the first four is below two, and so many classes: each below that of a quarter of its
+                number, and every seventh with one or two of the interfaces; their names are the last in byte order
+    chain       so many classes, each below the one before"""
 import os
 import struct
 import sys
@@ -112,6 +115,17 @@ def below(count):
     yield class_below("Z", "Y")
 
 
+def lattice(count):
+    def face(number):
+        return f"I{number % 64:06X}"
+
+    for number in range(64):
+        yield interface(face(number), [face(number // 2), face(number // 3)] if number > 3 else [])
+    for number in range(count):
+        faces = [face(number // 7), face(number // 7 + 1)][:{0: 1, 7: 2}.get(number % 14, 0)]
+        yield class_below(f"C{number:06X}", f"C{number // 4:06X}" if number else OBJECT, interfaces=faces)
+
+
 SHAPES = {
     "interfaces": interfaces,
     "diamonds": lambda count: layers(count, (1, 1)),
@@ -123,6 +137,8 @@ SHAPES = {
     "elsewhere": elsewhere,
     "circle": circle,
     "below": below,
+    "lattice": lattice,
+    "chain": lambda count: chain(count, plain),
 }
 
 for name, content in SHAPES[sys.argv[2]](int(sys.argv[3])):

@@ -1,4 +1,4 @@
-# Words for the scripts of this folder, which source it at the top of the repository: wants that are met or not, and times of a program that times itself.
+# Words for the scripts of this folder, which source it at the top of the repository: wants that are met or not, and times of programs.
 
 runs=${RUNS:-5}
 failed=0
@@ -14,12 +14,14 @@ in_memory() {
 
 # build_bench: proves and builds the program $bench, of which the scripts time what a word says (crates/bench); $BENCH names one that is built
 build_bench() {
-    if [ -n "${BENCH:-}" ]; then
-        bench=$BENCH
-        return
-    fi
-    (cd "$root/crates/bench" && rt check && rt run -- jumps 1 1) >/dev/null
-    bench=$root/crates/bench/out/bench
+    bench=${BENCH:-$root/crates/bench/out/bench}
+    if [ -z "${BENCH:-}" ]; then (cd "$root/crates/bench" && rt check && rt run -- grow 1 1) >/dev/null; fi
+}
+
+# build_cases: the same of the program $cases, which asks files of cases (crates/cases_expand), and of $CASES
+build_cases() {
+    cases=${CASES:-$root/crates/cases_expand/out/cases_expand}
+    if [ -z "${CASES:-}" ]; then (cd "$root/crates/cases_expand" && rt check && rt run -- /dev/null) >/dev/null; fi
 }
 
 # ratio ONE OTHER: one number, or what awk makes of it, by another
@@ -44,35 +46,43 @@ processor_ms() {
     { time "$@" >/dev/null; } 2>&1 | awk '{ printf "%d\n", ($1 + $2) * 1000 }'
 }
 
-# measure WORDS..: the least time of the runs of $bench
-measure() {
-    local best=999999
-    for _ in $(seq 1 "$runs"); do
-        best=$(least "$best" "$(processor_ms "$bench" "$@")")
-    done
-    echo "$best"
-}
-
 declare -A least_ms
-# turn WORDS..: one run of $bench with these words, whose time in least_ms[WORDS..] counts if it is the least yet
-turn() { least_ms[$*]=$(least "${least_ms[$*]:-999999}" "$(processor_ms "$bench" "$@")"); }
-
-# fresh TIMES WORDS..: so many runs of $bench with these words, each a process of its own
-fresh() {
-    local times=$1
+# turn NAME COMMAND..: one run of a command, whose time of the processor counts in least_ms[NAME] if it is the least yet
+turn() {
+    local name=$1
     shift
-    for _ in $(seq 1 "$times"); do "$bench" "$@"; done
+    least_ms[$name]=$(least "${least_ms[$name]:-999999}" "$(processor_ms "$@")")
 }
 
-# turn_fresh TIMES WORDS..: as turn, of so many processes; least_ms[WORDS..] is their time together
-turn_fresh() {
-    local times=$1
+# turn_bench WORDS..: the same of $bench with these words, in least_ms[WORDS..]
+turn_bench() { turn "$*" "$bench" "$@"; }
+
+# times COUNT COMMAND..: so many runs of a command, each a process of its own
+times() {
+    local count=$1
     shift
-    least_ms[$*]=$(least "${least_ms[$*]:-999999}" "$(processor_ms fresh "$times" "$@")")
+    for _ in $(seq 1 "$count"); do "$@" || true; done
 }
 
-# instructions WORDS..: how many instructions one run of $bench takes
+# peak COMMAND..: the most memory of one run of a command, in kB
+peak() { /usr/bin/time -f %M "$@" 2>&1 >/dev/null | tail -n 1; }
+
+# instructions COMMAND..: how many instructions one run of a command takes
 instructions() {
-    valgrind --tool=callgrind --callgrind-out-file=/dev/null "$bench" "$@" 2>&1 >/dev/null |
+    valgrind --tool=callgrind --callgrind-out-file=/dev/null "$@" 2>&1 >/dev/null |
         awk '/Collected/ { print $NF }'
+}
+
+# library FOLDER: makes a folder of the class files of the first example's library
+library() {
+    cp -r "$root/examples/first/lib" "$1"
+    rm -f "$1"/README.md
+}
+
+# need_python WHAT: ends the script where python3 is missing
+need_python() {
+    if ! command -v python3 >/dev/null; then
+        echo "$1: skipped, since python3 is missing"
+        exit 0
+    fi
 }

@@ -31,7 +31,7 @@ class ClassFile:
     """A class file that is put together: constants are found or added."""
 
     def __init__(self, name="M", flags=PUBLIC | SUPER, above="java/lang/Object", interfaces=()):
-        self.entries, self.indices = [], {}
+        self.name, self.entries, self.indices = name, [], {}
         self.flags, self.fields, self.methods = flags, [], []
         self.this, self.above = self.type(name), self.type(above)
         self.interfaces = [self.type(one) for one in interfaces]

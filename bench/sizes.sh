@@ -1,31 +1,29 @@
 #!/usr/bin/env bash
 # Tries the greatest legal sizes. bench/size_folders.py, hierarchy_sizes.py, expansion_folders.py and machine_folders.py make folders of
-# one shape each: they are verified, the flat code of their methods is made, or a script runs with them. The shapes are classes with the
+# one shape each: they are verified, the flat code of their methods is made (pea plan), or a script runs with them. The shapes are classes with the
 # most and the largest methods, tables, frames, handlers, members, constants and texts; many classes; deep trees of calls, many callees and
-# hosts, chains of classes; millions of objects, frames and stores, long scripts. Plans are made of 8,000 points with 256 sites.
+# hosts, chains of classes; millions of objects, frames and stores, long scripts. Plans are made of 8,000 points with 256 sites, which
+# bench/plan_cases.py writes as cases for the program of crates/cases_expand.
 # A row of a table has a shape and how often or how large it is made, then the processor's milliseconds and the megabytes at the peak that
 # are wanted at most, then the answer. "-" is what the input allows: a second and one more for each 5 MB, with 3 microseconds for each
 # point of flat code and half a microsecond for each step; 64 MB and 16 bytes for each byte. Prints what is wanted and what came, the
 # least of some runs each, and fails where a want is not met.
 # With `worse` as the first word it tries the shapes that cost more than in proportion to their size instead (docs/MEASURES.md says why),
-# prints their time and memory, and judges nothing. Other words are the shapes to try, all where there is none. PEA=FILE and BENCH=FILE
+# prints their time and memory, and judges nothing. Other words are the shapes to try, all where there is none. PEA=FILE and CASES=FILE
 # time other programs; RUNS=1 is enough for a look.
 set -eu
 cd "$(dirname "$0")/.."
 . bench/measures.sh
 pea=${PEA:-$pea}
 runs=${RUNS:-3}
-if ! command -v python3 >/dev/null; then
-    echo "sizes: skipped, since python3 is missing"
-    exit 0
-fi
+need_python sizes
 kind=judged
 if [ "${1:-}" = worse ]; then
     kind=worse
     runs=${RUNS:-1}
     shift
 fi
-build_bench
+if [ "$kind" = judged ]; then build_cases; fi
 lib=$root/examples/first/lib
 in_memory
 
@@ -46,11 +44,13 @@ to_verify() {
 
 # to_expand SHAPE NUMBER: makes a folder and its library, and the command that makes the flat code of each method
 to_expand() {
-    cp -r "$lib" lib
-    rm -f lib/README.md
+    library lib
     python3 "$root/bench/expansion_folders.py" . "$1" "$2"
-    command=("$bench" expand 1 1)
+    command=("$pea" plan in --lib lib)
 }
+
+# flat_codes: how many methods the last plan says to have flat code
+flat_codes() { grep -cvE ' (Host|Float|Expanded|NoSite|Wide)$' said || true; }
 
 # to_run SHAPE NUMBER STEPS: makes a folder and a script, and the command that runs it in so many steps
 to_run() {
@@ -84,16 +84,21 @@ spend() {
 # judge SHAPE NUMBER MS MB MICROSECONDS ANSWER: whether the command takes at most so much time and memory, where "-" allows so many
 # microseconds beside what the bytes allow, and prints a line that begins with the answer
 judge() {
+    bounded "$@"
+    if ! grep -q "^$6" said; then
+        echo "  FAILED: the answer begins with $6"
+        failed=1
+    fi
+}
+
+# bounded SHAPE NUMBER MS MB MICROSECONDS: the same of time and memory
+bounded() {
     local most_ms=$3 most_mb=$4
     spend "$1" "$2"
     if [ "$most_ms" = - ]; then most_ms=$((1000 + bytes / 5000 + $5 / 1000)); fi
     if [ "$most_mb" = - ]; then most_mb=$((64 + 16 * bytes / 1048576)); fi
     wanted "$ms ms (at most $most_ms is wanted)" "$ms <= $most_ms"
     wanted "$((kb / 1024)) MB (at most $most_mb is wanted)" "$kb <= $most_mb * 1024"
-    if ! grep -q "^$6" said; then
-        echo "  FAILED: the answer begins with $6"
-        failed=1
-    fi
 }
 
 while read -r shape number most_ms most_mb answer; do
@@ -136,22 +141,23 @@ names 100 - - verified
 deep 1000 - - verified
 SIZES
 
-# The flat code of each method; the answer is how many points there are in all.
-while read -r shape number most_ms most_mb points; do
+# The flat code of each method, of so many points in all; the answer is how many methods have one.
+while read -r shape number most_ms most_mb points methods; do
     is_tried judged "$shape" || continue
     to_expand "$shape" "$number"
-    judge "$shape" "$number" "$most_ms" "$most_mb" "$((3 * points))" "$points\$"
+    bounded "$shape" "$number" "$most_ms" "$most_mb" "$((3 * points))"
+    wanted "$(flat_codes) methods have flat code, of $points points (it is wanted of $methods)" "$(flat_codes) == $methods"
 done <<'EXPANSIONS'
-tree-under 500 4000 - 3828500
-tree-over 500 2000 - 0
-hosts 500 - - 183500
-callers 40000 - - 160000
-constructors-one 4000 - - 32093
-candidates 8000 - - 24000
-ask-others 2000 - - 802000
-handles 10000 - - 401
-final-stores 8000 - 160 24000
-same-ranges 65535 - - 7904
+tree-under 500 4000 - 3828500 500
+tree-over 500 2000 - 0 0
+hosts 500 - - 183500 500
+callers 40000 - - 160000 40000
+constructors-one 4000 - - 32093 4006
+candidates 8000 - - 24000 8000
+ask-others 2000 - - 802000 2000
+handles 10000 - - 401 1
+final-stores 8000 - 160 24000 8000
+same-ranges 65535 - - 7904 1
 EXPANSIONS
 
 # Runs in so many steps; the answer is the last line.
@@ -185,13 +191,17 @@ while read -r word count most_ms most_mb; do
     is_tried judged "$word" || continue
     for _ in $(seq 1 "$runs"); do
         for size in $((count / 2)) "$count"; do
-            turn "$word" "$size" 0
-            turn "$word" "$size" 4
+            python3 "$root/bench/plan_cases.py" "$word" "$size" 4 >"$size.cases"
+            turn "$word $size" "$cases" "$size.cases"
         done
     done
-    half=$((least_ms[$word $((count / 2)) 4] - least_ms[$word $((count / 2)) 0]))
-    whole=$((least_ms[$word $count 4] - least_ms[$word $count 0]))
-    kb=$(/usr/bin/time -f %M "$bench" "$word" "$count" 4 2>&1 >/dev/null)
+    half=${least_ms[$word $((count / 2))]}
+    whole=${least_ms[$word $count]}
+    kb=$(peak "$cases" "$count.cases")
+    if [ "$("$cases" "$count.cases")" != "$count.cases: 4" ]; then
+        echo "  FAILED: each of the plans saves something"
+        failed=1
+    fi
     echo "$word $count: 4 plans of $((count / 2)) points in $half ms, of $count in $whole ms, $((kb / 1024)) MB"
     wanted "$(ratio "$whole" "$half") times the first (at most 2.4 is wanted)" "$half > 0 && $whole <= 2.4 * $half"
     wanted "$whole ms (at most $most_ms is wanted)" "$whole <= $most_ms"

@@ -9,8 +9,8 @@ cd "$(dirname "$0")/.."
 . bench/measures.sh
 in_memory
 
-# peak FOLDER LIBRARY: the most memory of verifying a folder, in kB
-peak() { /usr/bin/time -f %M "$pea" verify "$1" --lib "$2" 2>&1 >/dev/null; }
+# peak_of FOLDER LIBRARY: the most memory of verifying a folder, in kB
+peak_of() { /usr/bin/time -f %M "$pea" verify "$1" --lib "$2" 2>&1 >/dev/null; }
 
 # verify_ms FOLDER LIBRARY: the least time of verifying a folder
 verify_ms() {
@@ -37,7 +37,7 @@ many_classes() {
     if command -v javac >/dev/null; then javac -d loads "$root"/scripts/java/{LoadClasses,FolderLoader}.java; fi
     local library_ms library_kb
     library_ms=$(verify_ms none lib)
-    library_kb=$(peak none lib)
+    library_kb=$(peak_of none lib)
     echo "the library's $(find lib -type f | wc -l) class files alone: $library_ms ms; peak memory $library_kb kB"
     for times in 1 2; do
         for number in $(seq $(((times - 1) * copies + 1)) $((times * copies))); do
@@ -46,7 +46,7 @@ many_classes() {
         classes=$(find in -type f | wc -l)
         bytes=$(find in -type f -printf '%s\n' | awk '{ sum += $1 } END { print sum }')
         pea_ms=$(verify_ms in lib)
-        kb=$(($(peak in lib) - library_kb))
+        kb=$(($(peak_of in lib) - library_kb))
         echo "$classes class files, $bytes bytes: verified in $pea_ms ms; $kb kB more memory at the peak"
         if [ "$first_ms" = 0 ]; then first_ms=$((pea_ms - library_ms)); fi
         wanted "time beyond the library's $(ratio "($pea_ms - $library_ms)" "$first_ms") times the first (in proportion: $times; at most half as much again is wanted)" \
@@ -75,12 +75,12 @@ if ! command -v python3 >/dev/null; then
     exit "$failed"
 fi
 mkdir large empty
-base_kb=$(peak empty "$root/examples/first/lib")
+base_kb=$(peak_of empty "$root/examples/first/lib")
 first=0
 for count in 1250 2500 5000; do
-    python3 "$root/bench/large_methods.py" large/M.class frames $((count / 2))
+    python3 "$root/bench/large_methods.py" large stated $((count / 2)) 1
     if command -v valgrind >/dev/null; then
-        cost=$(valgrind --tool=callgrind --callgrind-out-file=/dev/null "$pea" verify large --lib "$root/examples/first/lib" 2>&1 >/dev/null | awk '/Collected/ { print $NF }')
+        cost=$(instructions "$pea" verify large --lib "$root/examples/first/lib")
         unit=instructions
     else
         cost=$(verify_ms large "$root/examples/first/lib")
@@ -90,8 +90,8 @@ for count in 1250 2500 5000; do
     echo "a method with $count stated frames: $cost $unit"
     wanted "$(ratio "$cost" "$first") times the first (in proportion: $((count / 1250)); at most half as much again is wanted)" "$cost <= $count / 1250 * 1.5 * $first"
 done
-python3 "$root/bench/large_methods.py" large/M.class locals 65535
-kb=$(($(peak large "$root/examples/first/lib") - base_kb))
+python3 "$root/bench/large_methods.py" large locals 65535 1
+kb=$(($(peak_of large "$root/examples/first/lib") - base_kb))
 echo "a method of 65,535 bytes with 65,535 locals at each instruction: $(verify_ms large "$root/examples/first/lib") ms, $kb kB"
 wanted "memory $kb kB (at most 1,000,000 is wanted)" "$kb <= 1000000"
 exit "$failed"

@@ -3,7 +3,7 @@ ghost use Rattle.type_rules.specs.Verified.{TypesFolder};
 
 use crate::edits::edit_answer;
 use crate::flat_code::{copy_answer, flat_answer};
-use crate::flats::{expand_answer, handlers_answer, typed_answer};
+use crate::flats::{alone_answer, expand_answer, handlers_answer, typed_answer};
 use crate::layouts::layout_answer;
 use crate::plans::plan_answer;
 use crate::states::state_answer;
@@ -20,14 +20,14 @@ use verify_folder::verify_all;
 pub(crate) fn answer(alloc: Global, setting: &Setting<'_>, question: &str) -> Option<String> {
     let (call, about) = word_and_rest(question);
     match call {
-        "candidate" | "callee" | "expand" | "typed" | "handlers" => {
+        "candidate" | "callee" | "expand" | "alone" | "typed" | "handlers" => {
             verified_answer(alloc, setting, call, about)
         }
         "pool_edit" => edit_answer(alloc, about),
         "layout" | "lengths" => layout_answer(alloc, call, about),
         "flat" => flat_answer(alloc, setting, about),
         "handler_list" => copy_answer(alloc, about),
-        "least_plan" => plan_answer(alloc, setting, about),
+        "least_plan" | "plan_gain" => plan_answer(alloc, setting, call, about),
         _ => state_answer(alloc, call, about),
     }
 }
@@ -88,6 +88,10 @@ fn folder_answer(
         ("expand", [class, method]) => {
             let at = method_at(alloc, tree, class, method)?;
             expand_answer(alloc, tree, typed, at)
+        }
+        ("alone", [class, method]) => {
+            let at = method_at(alloc, tree, class, method)?;
+            alone_answer(alloc, tree, typed, at)
         }
         ("typed", [class, method, point]) => {
             let at = method_at(alloc, tree, class, method)?;

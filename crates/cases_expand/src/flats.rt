@@ -5,7 +5,7 @@ use cases_notation::text_of_frame;
 use class_model::MethodAt;
 use class_tree::{Place, Tree};
 use flow_code::{Flat, FlatHandler, FlatInstr, KeptFault, Site};
-use inline_expand::expand;
+use inline_expand::{expand, flat_alone};
 use std::alloc::Global;
 use type_rules::TypedFolder;
 
@@ -18,11 +18,29 @@ pub(crate) fn expand_answer(
 ) -> Option<String>
     requires { TypesFolder tree.now typed.now }
 {
-    match expand(alloc, tree, typed, at) {
-        Ok(flat) => flat_text(alloc, tree, &flat),
+    found_text(alloc, tree, expand(alloc, tree, typed, at))
+}
+
+/// The same of the flat code of the method by itself.
+pub(crate) fn alone_answer(
+    alloc: Global,
+    tree: &Tree,
+    typed: &TypedFolder,
+    at: MethodAt,
+) -> Option<String>
+    requires { TypesFolder tree.now typed.now }
+{
+    found_text(alloc, tree, flat_alone(alloc, tree, typed, at))
+}
+
+fn found_text(alloc: Global, tree: &Tree, found: Result<Flat, KeptFault>) -> Option<String> {
+    let text = match &found {
+        Ok(flat) => flat_text(alloc, tree, flat),
         Err(KeptFault::Kept(reason)) => format!(in alloc; "{reason:?}").ok(),
         Err(KeptFault::NoMemory) => None,
-    }
+    };
+    drop(found);
+    text
 }
 
 /// The types before a point.
@@ -36,6 +54,12 @@ pub(crate) fn typed_answer(
     requires { TypesFolder tree.now typed.now }
 {
     let flat = expand(alloc, tree, typed, at).ok()?;
+    let text = frame_text(alloc, &flat, point);
+    drop(flat);
+    text
+}
+
+fn frame_text(alloc: Global, flat: &Flat, point: usize) -> Option<String> {
     text_of_frame(alloc, flat.typed(point)?)
 }
 
@@ -50,6 +74,12 @@ pub(crate) fn handlers_answer(
     requires { TypesFolder tree.now typed.now }
 {
     let flat = expand(alloc, tree, typed, at).ok()?;
+    let text = point_handlers(alloc, &flat, point);
+    drop(flat);
+    text
+}
+
+fn point_handlers(alloc: Global, flat: &Flat, point: usize) -> Option<String> {
     handlers_text(alloc, flat.handlers(point)?.as_slice())
 }
 

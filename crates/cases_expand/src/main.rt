@@ -7,6 +7,7 @@
 //! - `callee HOST CLASS METHOD AT`, of the call at an offset in a host of a class: the class, name and descriptor of the callee;
 //! - `expand CLASS METHOD`: the local units of the flat code, each site with its point, its class and the local units of its fields, and behind a
 //!   bar the instructions of the points, with the class of each that is of another class than the host; or the reason why the method is kept;
+//! - `alone CLASS METHOD`: the same of the flat code of the method by itself;
 //! - `typed CLASS METHOD POINT`: the types before a point of it;
 //! - `handlers CLASS METHOD POINT`: the handlers of a point, each with its point and the class that it catches, or `*`;
 //! - `pool_edit LIMIT CONSTANTS + STEPS`, of a pool of these constants, in the notation of `edits`. A step adds a constant, or behind `try:` takes
@@ -14,7 +15,7 @@
 //! - `layout ITEMS`, with `, ` between items, in the notation of `layouts`: the bytes, where the items start, and the exception table; and
 //!   `lengths ITEMS`: how many bytes, the last start, and how many entries; or the reason why there is none;
 //! - `flat CODE`, of flat code in the notation of `points`: what its look-ups answer; and `handler_list HANDLERS`: the list, and a copy that grew;
-//! - `least_plan CODE`: whether the least plan saves something, and its points, as `plans` says;
+//! - `least_plan CODE`: whether the least plan saves something, and its points, as `plans` says; `plan_gain CODE`: the first alone;
 //! - `state STATE`, `copy STATE`, `changed STATE with STATE`, `join STATE with STATE`, `without STATE with STATE` (without the sites by which it
 //!   differs from that), `monitor STATE with SITE SIGNS` (entered for each `+` and left for each `-`), of states in the notation of
 //!   `state_text`: the state that this makes; and `shared` in front of one of the last five: which objects that has in common with the first;

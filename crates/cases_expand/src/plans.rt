@@ -15,13 +15,35 @@ struct Method {
     code: PlanCode,
 }
 
-/// Whether the least plan of flat code saves something, and what it has of each point: `unreached`, or the state before it, `+0` for each
+/// Whether the least plan of flat code saves something, which alone is asked by `plan_gain`, and what it has of each point: `unreached`, or the state before it, `+0` for each
 /// site that is made there, and the edges, `>` or, to a handler, `!`, the target, and `+0` for each site that is made on it. What is not as
 /// the definition of valid plans wants is behind `?`.
-pub(crate) fn plan_answer(alloc: Global, setting: &Setting<'_>, about: &str) -> Option<String> {
+pub(crate) fn plan_answer(
+    alloc: Global,
+    setting: &Setting<'_>,
+    call: &str,
+    about: &str,
+) -> Option<String> {
     let method = method_in(alloc, setting, about)?;
+    let answer = method_answer(alloc, &method, call);
+    drop(method);
+    answer
+}
+
+fn method_answer(alloc: Global, method: &Method, call: &str) -> Option<String> {
     let plan = method.code.least_plan(alloc, &method.tree).ok()?;
-    plan_text(alloc, &method, &plan)
+    let answer = if call == "plan_gain" {
+        gain_text(alloc, method, &plan)
+    } else {
+        plan_text(alloc, method, &plan)
+    };
+    drop(plan);
+    answer
+}
+
+fn gain_text(alloc: Global, method: &Method, plan: &Plan) -> Option<String> {
+    let gains = method.code.gain(plan);
+    format!(in alloc; "{gains}").ok()
 }
 
 fn method_in(alloc: Global, setting: &Setting<'_>, about: &str) -> Option<Method> {
@@ -44,8 +66,7 @@ fn code_in(alloc: Global, setting: &Setting<'_>, tree: &Tree, about: &str) -> Op
 }
 
 fn plan_text(alloc: Global, method: &Method, plan: &Plan) -> Option<String> {
-    let gains = method.code.gain(plan);
-    let mut out = format!(in alloc; "{gains}").ok()?;
+    let mut out = gain_text(alloc, method, plan)?;
     for at in 0..method.code.len() {
         out.push_str(" ; ").ok()?;
         push_point(alloc, &mut out, method, plan, at)?;
@@ -67,12 +88,27 @@ fn push_point(
     if !made.is_empty() {
         push_made(out, " ", made)?;
     }
-    let asked = method.code.must(alloc, &method.tree, at, state).ok()?;
-    if asked.as_slice() != made.as_slice() {
-        push_made(out, " ?", &asked)?;
-    }
+    push_asked(alloc, out, method, at, state, made)?;
     let left = without_sites(alloc, state, made).ok()?;
-    push_edges(alloc, out, method, plan, at, &left)
+    let is_pushed = push_edges(alloc, out, method, plan, at, &left);
+    drop(left);
+    is_pushed
+}
+
+// Appends the sites whose objects a point with this state asks to be made, where these are others.
+fn push_asked(
+    alloc: Global,
+    out: &mut String,
+    method: &Method,
+    at: usize,
+    state: &VState,
+    made: &SiteSet,
+) -> Option<()> {
+    let asked = method.code.must(alloc, &method.tree, at, state).ok()?;
+    if asked.as_slice() == made.as_slice() {
+        return Some(());
+    }
+    push_made(out, " ?", &asked)
 }
 
 // Appends the edges of a point with this state, which asks that nothing more is made.
@@ -87,7 +123,19 @@ fn push_edges(
     let Some(edges) = method.code.effect(alloc, &method.tree, at, left).ok()? else {
         return out.push_str(" ?asks").ok();
     };
-    for (number, edge) in edges.as_slice().iter().enumerate() {
+    let is_pushed = push_all_edges(alloc, out, plan, at, edges.as_slice());
+    drop(edges);
+    is_pushed
+}
+
+fn push_all_edges(
+    alloc: Global,
+    out: &mut String,
+    plan: &Plan,
+    at: usize,
+    edges: &[Edge],
+) -> Option<()> {
+    for (number, edge) in edges.iter().enumerate() {
         out.push_str(if number == 0 { " " } else { "" }).ok()?;
         push_edge(alloc, out, plan, edge, plan.made_on(at, number))?;
     }
