@@ -1,6 +1,6 @@
 //! Files of cases that a program asks over settings.
 use crate::case::{print_difference, question_of};
-use crate::lines::lines_of;
+use crate::lines::{Line, lines_of};
 use crate::setting::Setting;
 use std::alloc::Global;
 use std::process::ExitCode;
@@ -35,9 +35,22 @@ where
 {
     let text = fs::read_to_string(rt, name).ok()?;
     let lines = lines_of(rt.alloc(), &text)?;
+    drop(text);
+    let counted = compare_lines(rt, name, answer, lines.as_slice());
+    drop(lines);
+    let count = counted?;
+    println!(rt; "{name}: {count}").ok()
+}
+
+// How many cases some lines of a file are, which it asks.
+fn compare_lines<A>(rt: &HostRuntime, name: &str, answer: &A, lines: &[Line]) -> Option<u64>
+where
+    A: Fn(Global, &Setting<'_>, &str) -> Option<String>,
+    requires callable { A.IsAlwaysCallable answer.now }
+{
     let mut setting = Setting::empty();
     let mut count: u64 = 0;
-    for line in lines.as_slice() {
+    for line in lines {
         if !setting.take(&line.text) {
             let place = format!(in rt.alloc(); "{name}:{}", line.number).ok()?;
             let came = match question_of(&line.text) {
@@ -48,5 +61,5 @@ where
             count = count.wrapping_add(1);
         }
     }
-    println!(rt; "{name}: {count}").ok()
+    Some(count)
 }

@@ -44,8 +44,19 @@ pub(crate) fn push_code(
     uses: &[&str],
 ) -> Result<(), NoMemory> {
     let code = code_of(alloc, pool, uses)?;
+    let is_pushed = push_attribute(alloc, out, pool, &code);
+    drop(code);
+    is_pushed
+}
+
+fn push_attribute(
+    alloc: Global,
+    out: &mut Vec<u8>,
+    pool: &mut PoolBytes,
+    code: &Code,
+) -> Result<(), NoMemory> {
     push_u2(out, pool.utf8(b"Code")?)?;
-    let body = body_of(alloc, pool, &code)?;
+    let body = body_of(alloc, pool, code)?;
     push_u4(out, low_bits(body.len()) as u32)?;
     out.extend_from_slice(&body)?;
     Ok(())
@@ -60,34 +71,60 @@ fn code_of(alloc: Global, pool: &mut PoolBytes, uses: &[&str]) -> Result<Code, N
         handlers: Counted::new(alloc),
         frames: Counted::new(alloc),
     };
+    match push_uses(alloc, &mut code, pool, uses) {
+        Ok(()) => Ok(code),
+        Err(fault) => {
+            drop(code);
+            Err(fault)
+        }
+    }
+}
+
+// Appends a nop, what the uses say, and a return if the code has one.
+fn push_uses(
+    alloc: Global,
+    code: &mut Code,
+    pool: &mut PoolBytes,
+    uses: &[&str],
+) -> Result<(), NoMemory> {
     code.instructions.push(NOP)?;
     for used in uses {
         let words = used.split(' ').collect::<Vec<&str>>(alloc)?;
-        push_use(alloc, &mut code, pool, &words)?;
+        push_use(alloc, code, pool, &words)?;
     }
     if !code.is_open {
         code.instructions.push(RETURN)?;
     }
-    Ok(code)
+    Ok(())
 }
 
 fn body_of(alloc: Global, pool: &mut PoolBytes, code: &Code) -> Result<Vec<u8>, NoMemory> {
     let mut body = Vec::new(alloc);
-    push_u2(&mut body, code.max_stack as u16)?;
-    push_u2(&mut body, code.max_locals as u16)?;
-    push_u4(&mut body, low_bits(code.instructions.len()) as u32)?;
-    body.extend_from_slice(&code.instructions)?;
-    code.handlers.push_to(&mut body)?;
-    let has_frames = code.frames.count != 0;
-    push_u2(&mut body, has_frames as u16)?;
-    if has_frames {
-        let mut table = Vec::new(alloc);
-        code.frames.push_to(&mut table)?;
-        push_u2(&mut body, pool.utf8(b"StackMapTable")?)?;
-        push_u4(&mut body, low_bits(table.len()) as u32)?;
-        body.extend_from_slice(&table)?;
-    }
+    push_body(alloc, &mut body, pool, code)?;
     Ok(body)
+}
+
+fn push_body(
+    alloc: Global,
+    body: &mut Vec<u8>,
+    pool: &mut PoolBytes,
+    code: &Code,
+) -> Result<(), NoMemory> {
+    push_u2(body, code.max_stack as u16)?;
+    push_u2(body, code.max_locals as u16)?;
+    push_u4(body, low_bits(code.instructions.len()) as u32)?;
+    body.extend_from_slice(&code.instructions)?;
+    code.handlers.push_to(body)?;
+    if code.frames.count == 0 {
+        return push_u2(body, 0);
+    }
+    push_u2(body, 1)?;
+    push_u2(body, pool.utf8(b"StackMapTable")?)?;
+    let mut table = Vec::new(alloc);
+    code.frames.push_to(&mut table)?;
+    push_u4(body, low_bits(table.len()) as u32)?;
+    body.extend_from_slice(&table)?;
+    Ok(())
 }
 
 // Appends what the words of a use say.

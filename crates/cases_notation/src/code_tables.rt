@@ -44,6 +44,21 @@ pub(crate) fn push_full(
 ) -> Result<(), NoMemory> {
     let mut locals = Counted::new(alloc);
     let mut stack = Counted::new(alloc);
+    push_types(&mut locals, &mut stack, pool, types)?;
+    let bytes = frames.one_more();
+    bytes.extend_from_slice(&[255])?;
+    push_u2(bytes, number(delta))?;
+    locals.push_to(bytes)?;
+    stack.push_to(bytes)
+}
+
+// Appends the types of the locals and, behind a colon, of the stack.
+fn push_types(
+    locals: &mut Counted,
+    stack: &mut Counted,
+    pool: &mut PoolBytes,
+    types: &[&str],
+) -> Result<(), NoMemory> {
     let mut is_stack = false;
     for word in types {
         if *word == ":" {
@@ -54,11 +69,7 @@ pub(crate) fn push_full(
             push_type(locals.one_more(), pool, word)?;
         }
     }
-    let bytes = frames.one_more();
-    bytes.push(255)?;
-    push_u2(bytes, number(delta))?;
-    locals.push_to(bytes)?;
-    stack.push_to(bytes)
+    Ok(())
 }
 
 // Appends a type of a frame (JVM Specification SE 8, 4.7.4).

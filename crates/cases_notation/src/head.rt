@@ -5,7 +5,7 @@ use class_model::{NoMemory, push_u2};
 /// The flags of a class and the names of it, of its superclass, where it has one, and of its interfaces. Names are of at most
 /// 65,535 bytes.
 #[derive(Clone, Copy)]
-pub struct Head<'a, 'n> {
+pub(crate) struct Head<'a, 'n> {
     pub flags: u16,
     pub name: &'a [u8],
     pub superclass: Option<&'a [u8]>,

@@ -2,9 +2,8 @@
 ghost use Rattle.std.specs.Prelude.{◌≡◌};
 ghost use Rattle.class_tree.specs.Trees.{IsTreeOf};
 
-use crate::head::Head;
 use crate::library::LIBRARY;
-use crate::notation::{class_file, name_of, plain_file};
+use crate::notation::{class_file, name_of};
 use class_bytes::{read_class, read_header};
 use class_model::{ClassFault, ListOf};
 use class_tree::{ClassFileList, HeaderList, LinkFault, Tree, build_tree};
@@ -47,20 +46,49 @@ impl Input {
     /// The same, but for the library's classes of these names.
     pub fn without(alloc: Global, names: &[&str]) -> Result<Self, ClassFault> {
         let mut input = Input::empty(alloc);
-        for text in &LIBRARY {
-            if !names.contains(&name_of(text)) {
-                input.add_header(alloc, text)?;
+        match input.add_library(alloc, names) {
+            Ok(()) => Ok(input),
+            Err(fault) => {
+                drop(input);
+                Err(fault)
             }
         }
-        Ok(input)
+    }
+
+    // Adds what each library has, but for the classes of these names.
+    fn add_library(&mut self, alloc: Global, names: &[&str]) -> Result<(), ClassFault> {
+        for text in &LIBRARY {
+            if !names.contains(&name_of(text)) {
+                self.add_header(alloc, text)?;
+            }
+        }
+        Ok(())
     }
 
     /// The classes of a folder, and what the library has beside those that each has, with ` | ` between classes.
     pub fn of(alloc: Global, folder: &str, library: &str) -> Result<Self, ClassFault> {
         let mut input = Input::new(alloc)?;
-        input.add_headers(alloc, library)?;
-        input.add_classes(alloc, folder)?;
-        Ok(input)
+        match input.add_all(alloc, folder, library) {
+            Ok(()) => Ok(input),
+            Err(fault) => {
+                drop(input);
+                Err(fault)
+            }
+        }
+    }
+
+    /// Adds the classes of a folder, and what the library has, with ` | ` between classes.
+    ///
+    /// # Errors
+    /// Those of `read_class` and `read_header`.
+    pub fn add_all(
+        &mut self,
+        alloc: Global,
+        folder: &str,
+        library: &str,
+    ) -> Result<(), ClassFault> {
+        self.add_headers(alloc, library)?;
+        self.add_classes(alloc, folder)
     }
 
     /// Adds classes to the folder, with ` | ` between them.
@@ -97,14 +125,6 @@ impl Input {
         self.add_file(alloc, &class_file(alloc, text)?)
     }
 
-    /// Adds a class without members to the folder.
-    ///
-    /// # Errors
-    /// Those of `read_class`.
-    pub fn add_plain(&mut self, alloc: Global, head: &Head<'_, '_>) -> Result<(), ClassFault> {
-        self.add_file(alloc, &plain_file(alloc, head)?)
-    }
-
     /// Adds the class of these bytes to the folder.
     ///
     /// # Errors
@@ -131,11 +151,6 @@ impl Input {
         let header = read_header(alloc, bytes)?;
         self.library.push(header)?;
         Ok(())
-    }
-
-    /// How many classes there are.
-    pub fn len(&self) -> u64 {
-        (self.folder.len() as u64).wrapping_add(self.library.len() as u64)
     }
 
     /// The hierarchy of the classes.

@@ -19,7 +19,6 @@ mod setting;
 pub use case::{difference, print_difference, question_of};
 pub use case_files::compare_files;
 pub use frame_text::{frame_of, text_of_frame, type_of};
-pub use head::Head;
 pub use input::Input;
 pub use lines::{Line, lines_of, word_and_rest};
 pub use notation::{OBJECT, class_file};

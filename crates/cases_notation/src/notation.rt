@@ -29,16 +29,6 @@ pub fn class_file(alloc: Global, text: &str) -> Result<Vec<u8>, NoMemory> {
     file_of(alloc, major, &pool, &body)
 }
 
-/// The bytes of a class file of version 52.0 without members.
-pub(crate) fn plain_file(alloc: Global, head: &Head<'_, '_>) -> Result<Vec<u8>, NoMemory> {
-    let mut pool = PoolBytes::new(alloc);
-    let mut body = Vec::new(alloc);
-    head.push_to(&mut body, &mut pool)?;
-    // no fields, methods and attributes
-    body.extend_from_slice(&[0; 6])?;
-    file_of(alloc, 52, &pool, &body)
-}
-
 // The bytes of a class file of a major version, of its pool and of what stands behind that.
 fn file_of(alloc: Global, major: u32, pool: &PoolBytes, body: &[u8]) -> Result<Vec<u8>, NoMemory> {
     let mut out = Vec::new(alloc);
@@ -54,18 +44,40 @@ fn file_of(alloc: Global, major: u32, pool: &PoolBytes, body: &[u8]) -> Result<V
 fn body_of(alloc: Global, pool: &mut PoolBytes, text: &str) -> Result<Vec<u8>, NoMemory> {
     let parts = text.split(" / ").collect::<Vec<&str>>(alloc)?;
     let mut out = Vec::new(alloc);
-    let mut fields = Counted::new(alloc);
-    let mut methods = Counted::new(alloc);
     if let [head, members @ ..] = parts.as_slice() {
         push_head(alloc, &mut out, pool, head)?;
-        for member in members {
-            push_member(alloc, &mut fields, &mut methods, pool, member)?;
-        }
+        push_members(alloc, &mut out, pool, members)?;
     }
-    fields.push_to(&mut out)?;
-    methods.push_to(&mut out)?;
     push_bootstraps(&mut out, pool)?;
     Ok(out)
+}
+
+// Appends the fields and the methods.
+fn push_members(
+    alloc: Global,
+    out: &mut Vec<u8>,
+    pool: &mut PoolBytes,
+    members: &[&str],
+) -> Result<(), NoMemory> {
+    let mut fields = Counted::new(alloc);
+    let mut methods = Counted::new(alloc);
+    add_members(alloc, &mut fields, &mut methods, pool, members)?;
+    fields.push_to(out)?;
+    methods.push_to(out)
+}
+
+// Appends each member to those of its kind.
+fn add_members(
+    alloc: Global,
+    fields: &mut Counted,
+    methods: &mut Counted,
+    pool: &mut PoolBytes,
+    members: &[&str],
+) -> Result<(), NoMemory> {
+    for member in members {
+        push_member(alloc, fields, methods, pool, member)?;
+    }
+    Ok(())
 }
 
 // Appends the flags, the names of the class and its superclass, and its interfaces.
@@ -114,12 +126,26 @@ fn push_member(
         return Ok(());
     };
     let words = declaration.split(' ').collect::<Vec<&str>>(alloc)?;
-    let [kind, flags, name, desc] = words.as_slice() else {
+    match words.as_slice() {
+        ["method", rest @ ..] => push_parts(alloc, methods, pool, true, rest, uses),
+        [_, rest @ ..] => push_parts(alloc, fields, pool, false, rest, uses),
+        [] => Ok(()),
+    }
+}
+
+// Appends a member, whose flags, name and descriptor are words, to those of its kind.
+fn push_parts(
+    alloc: Global,
+    members: &mut Counted,
+    pool: &mut PoolBytes,
+    is_method: bool,
+    words: &[&str],
+    uses: &[&str],
+) -> Result<(), NoMemory> {
+    let [flags, name, desc] = words else {
         return Ok(());
     };
     let flags = flags_of(flags);
-    let is_method = *kind == "method";
-    let members = if is_method { methods } else { fields };
     let bytes = members.one_more();
     push_u2(bytes, flags)?;
     push_u2(bytes, pool.utf8(name.as_bytes())?)?;

@@ -44,9 +44,13 @@ impl<'a> Setting<'a> {
     /// A folder of these classes, and the library. None where they are not in the notation or memory runs out.
     pub fn input_with(&self, alloc: Global, folder: &str) -> Option<Input> {
         let mut input = usual(alloc, self.without)?;
-        input.add_headers(alloc, self.library).ok()?;
-        input.add_classes(alloc, folder).ok()?;
-        Some(input)
+        match input.add_all(alloc, folder, self.library) {
+            Ok(()) => Some(input),
+            Err(_) => {
+                drop(input);
+                None
+            }
+        }
     }
 
     /// The hierarchy of a folder of these classes and of the library. None where there is none.
