@@ -9,20 +9,52 @@ use std::alloc::Global;
 pub(crate) fn edit_answer(alloc: Global, about: &str) -> Option<String> {
     let (limit, about) = about.split_once(' ')?;
     let (constants, steps) = about.split_once(" +")?;
+    let limit = limit.parse::<u16>().ok()?;
     let pool = pool_of(alloc, constants)?;
-    let mut edit = PoolEdit::over(alloc, &pool, limit.parse::<u16>().ok()?).ok()?;
-    let mut out = steps_text(alloc, &mut edit, steps)?;
-    push_added(&mut out, &edit)?;
-    push_pool(&mut out, &edit.finish().ok()?)?;
+    let answer = pool_answer(alloc, &pool, limit, steps);
+    drop(pool);
+    answer
+}
+
+fn pool_answer(alloc: Global, pool: &Pool, limit: u16, steps: &str) -> Option<String> {
+    let mut edit = PoolEdit::over(alloc, pool, limit).ok()?;
+    let edited = edit_text(alloc, &mut edit, steps);
+    let finished = edit.finish().ok()?;
+    let answer = finished_text(edited, &finished);
+    drop(finished);
+    answer
+}
+
+// What the steps of an edit answer, the count behind them, and the constants that were appended.
+fn edit_text(alloc: Global, edit: &mut PoolEdit, steps: &str) -> Option<String> {
+    let mut out = steps_text(alloc, edit, steps)?;
+    push_added(&mut out, edit)?;
+    Some(out)
+}
+
+// The same and the constants of the finished pool.
+fn finished_text(edited: Option<String>, finished: &Pool) -> Option<String> {
+    let mut out = edited?;
+    push_pool(&mut out, finished)?;
     Some(out)
 }
 
 fn pool_of(alloc: Global, constants: &str) -> Option<Pool> {
     let mut pool = Pool::new(alloc);
-    for word in constants.split(' ') {
-        push_constant(&mut pool, constant(alloc, word)?).ok()?;
+    match push_constants(alloc, &mut pool, constants) {
+        Some(()) => Some(pool),
+        None => {
+            drop(pool);
+            None
+        }
     }
-    Some(pool)
+}
+
+fn push_constants(alloc: Global, pool: &mut Pool, constants: &str) -> Option<()> {
+    for word in constants.split(' ') {
+        push_constant(pool, constant(alloc, word)?).ok()?;
+    }
+    Some(())
 }
 
 fn constant(alloc: Global, word: &str) -> Option<Const> {

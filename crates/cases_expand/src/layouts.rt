@@ -12,12 +12,16 @@ pub(crate) fn layout_answer(alloc: Global, call: &str, about: &str) -> Option<St
     let Some(emitted) = emitted_of(items_in(alloc, about)?) else {
         return String::from_str(alloc, "-").ok();
     };
-    match layout(alloc, &emitted) {
-        Ok(laid) if call == "lengths" => lengths_text(alloc, &laid),
-        Ok(laid) => laid_text(alloc, &laid),
+    let laid = layout(alloc, &emitted);
+    drop(emitted);
+    let text = match &laid {
+        Ok(laid) if call == "lengths" => lengths_text(alloc, laid),
+        Ok(laid) => laid_text(alloc, laid),
         Err(KeptFault::Kept(reason)) => format!(in alloc; "{reason:?}").ok(),
         Err(KeptFault::NoMemory) => None,
-    }
+    };
+    drop(laid);
+    text
 }
 
 fn laid_text(alloc: Global, laid: &Laid) -> Option<String> {
@@ -36,24 +40,36 @@ fn lengths_text(alloc: Global, laid: &Laid) -> Option<String> {
 // 2`, for so many handlers, and ` times 3`, for so many items that are the same.
 fn items_in(alloc: Global, text: &str) -> Option<EmitItemList> {
     let mut items = ListOf::new(alloc);
+    match push_items(alloc, &mut items, text) {
+        Some(()) => Some(items),
+        None => {
+            drop(items);
+            None
+        }
+    }
+}
+
+fn push_items(alloc: Global, items: &mut EmitItemList, text: &str) -> Option<()> {
     for part in text.split(", ") {
         let (part, times) = part.split_once(" times ").unwrap_or((part, "1"));
         for _ in 0..times.parse::<u32>().ok()? {
             items.push(item_in(alloc, part)?).ok()?;
         }
     }
-    Some(items)
+    Some(())
 }
 
 fn item_in(alloc: Global, text: &str) -> Option<EmitItem> {
     let (text, count) = text.split_once(" catching ").unwrap_or((text, "0"));
-    let catches = catches_of(alloc, count.parse::<u32>().ok()?)?;
+    let count = count.parse::<u32>().ok()?;
     let (instr, near) = match text.strip_suffix(" near") {
         Some(instr) => (instr, true),
         None => (text, false),
     };
+    let instr = instr_in(alloc, instr)?;
+    let catches = catches_of(alloc, count)?;
     Some(EmitItem {
-        instr: instr_in(alloc, instr)?,
+        instr,
         near,
         catches,
     })

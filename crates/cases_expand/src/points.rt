@@ -5,7 +5,7 @@
 use crate::instrs::instr_in;
 use cases_notation::{Setting, frame_of, last_method};
 use cases_rewrite::decoded_code;
-use class_model::{FieldType, FieldTypeList, ListOf, MethodAt, Placed, Text};
+use class_model::{FieldType, FieldTypeList, ListOf, MethodAt, Placed, PlacedList, Text};
 use class_tree::Tree;
 use flow_code::{FlatHandler, FlatHandlerList, FlatInstr, Point, PointList, Site, SiteList};
 use std::alloc::Global;
@@ -41,24 +41,49 @@ pub(crate) fn host_of(alloc: Global, setting: &Setting<'_>, tree: &Tree) -> Opti
 pub(crate) fn parts_in(alloc: Global, tree: &Tree, host: MethodAt, text: &str) -> Option<Parts> {
     let (head, points) = text.split_once(" ; ")?;
     let (locals, sites) = head.split_once(' ').unwrap_or((head, ""));
-    Some(Parts {
-        locals: locals.parse::<u16>().ok()?,
-        sites: sites_in(alloc, sites)?,
-        points: points_in(alloc, tree, host, points)?,
-    })
+    let locals = locals.parse::<u16>().ok()?;
+    let sites = sites_in(alloc, sites)?;
+    match points_in(alloc, tree, host, points) {
+        Some(points) => Some(Parts {
+            locals,
+            sites,
+            points,
+        }),
+        None => {
+            drop(sites);
+            None
+        }
+    }
 }
 
 // ---- points
 
 fn points_in(alloc: Global, tree: &Tree, host: MethodAt, text: &str) -> Option<PointList> {
-    let mut decoded = decoded_code(alloc, tree, host)?.into_vec().into_iter();
+    let decoded = decoded_code(alloc, tree, host)?;
     let mut points = ListOf::new(alloc);
-    for point in text.split(" ; ") {
-        points
-            .push(point_in(alloc, host.class, decoded.next()?, point)?)
-            .ok()?;
+    let is_pushed = push_points(alloc, &mut points, decoded, host.class, text);
+    match is_pushed {
+        Some(()) => Some(points),
+        None => {
+            drop(points);
+            None
+        }
     }
-    Some(points)
+}
+
+fn push_points(
+    alloc: Global,
+    points: &mut PointList,
+    decoded: PlacedList,
+    class: usize,
+    text: &str,
+) -> Option<()> {
+    let mut decoded = decoded.into_vec().into_iter();
+    for point in text.split(" ; ") {
+        let point = point_in(alloc, class, decoded.next()?, point)?;
+        points.push(point).ok()?;
+    }
+    Some(())
 }
 
 fn point_in(alloc: Global, class: usize, decoded: Placed, text: &str) -> Option<Point> {
@@ -91,17 +116,24 @@ fn flat_instr(alloc: Global, class: usize, decoded: Placed, text: &str) -> Optio
 /// The handlers of a point that words say, each with its point and the class that it catches, or `*`.
 pub(crate) fn handlers_in(alloc: Global, words: &str) -> Option<FlatHandlerList> {
     let mut handlers = FlatHandlerList::new(alloc);
-    for word in words.split(' ') {
-        if let Some((to, class)) = word.split_once(':') {
-            handlers
-                .push(FlatHandler {
-                    to: to.parse::<usize>().ok()?,
-                    catch_class: class_in(alloc, class)?,
-                })
-                .ok()?;
+    match push_handlers(alloc, &mut handlers, words) {
+        Some(()) => Some(handlers),
+        None => {
+            drop(handlers);
+            None
         }
     }
-    Some(handlers)
+}
+
+fn push_handlers(alloc: Global, handlers: &mut FlatHandlerList, words: &str) -> Option<()> {
+    for word in words.split(' ') {
+        if let Some((to, class)) = word.split_once(':') {
+            let to = to.parse::<usize>().ok()?;
+            let catch_class = class_in(alloc, class)?;
+            handlers.push(FlatHandler { to, catch_class }).ok()?;
+        }
+    }
+    Some(())
 }
 
 fn class_in(alloc: Global, word: &str) -> Option<Option<Text>> {
@@ -115,12 +147,22 @@ fn class_in(alloc: Global, word: &str) -> Option<Option<Text>> {
 
 fn sites_in(alloc: Global, words: &str) -> Option<SiteList> {
     let mut sites = ListOf::new(alloc);
+    match push_sites(alloc, &mut sites, words) {
+        Some(()) => Some(sites),
+        None => {
+            drop(sites);
+            None
+        }
+    }
+}
+
+fn push_sites(alloc: Global, sites: &mut SiteList, words: &str) -> Option<()> {
     for word in words.split(' ') {
         if let Some((at, named)) = word.split_once('=') {
             sites.push(site_in(alloc, at, named)?).ok()?;
         }
     }
-    Some(sites)
+    Some(())
 }
 
 fn site_in(alloc: Global, at: &str, named: &str) -> Option<Site> {

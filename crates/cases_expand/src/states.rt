@@ -3,6 +3,7 @@ use crate::state_text::{objects_in, sites_in, slots_in, state_in, state_text};
 use cases_notation::word_and_rest;
 use cases_rewrite::{chain_of, changed, entered, joined, left, without_differing};
 use std::alloc::Global;
+use std::mem;
 use std::rc::Rc;
 use virtual_state::{VState, below, closure, differing};
 
@@ -14,10 +15,28 @@ pub(crate) fn state_answer(alloc: Global, call: &str, about: &str) -> Option<Str
         "chains" => chains_answer(alloc, about, other.parse::<u16>().ok()?),
         "shared" => {
             let (call, about) = word_and_rest(about);
-            shared_answer(alloc, call, &state_in(alloc, about)?, other)
+            stated(alloc, call, about, other, true)
         }
-        _ => asked_of(alloc, call, &state_in(alloc, about)?, other),
+        _ => stated(alloc, call, about, other, false),
     }
+}
+
+// What is answered to a question about the state of a text, or about what a call shares with it.
+fn stated(
+    alloc: Global,
+    call: &str,
+    state: &str,
+    other: &str,
+    asks_shared: bool,
+) -> Option<String> {
+    let state = state_in(alloc, state)?;
+    let answer = if asks_shared {
+        shared_answer(alloc, call, &state, other)
+    } else {
+        asked_of(alloc, call, &state, other)
+    };
+    drop(state);
+    answer
 }
 
 // What is answered to a question about a state.
@@ -25,11 +44,30 @@ fn asked_of(alloc: Global, call: &str, state: &VState, other: &str) -> Option<St
     match call {
         "state" => state_text(alloc, state),
         "look_up" => look_ups(alloc, state, other.parse::<u16>().ok()?),
-        "below" => below_answer(alloc, state, &state_in(alloc, other)?),
-        "differing" => differing_answer(alloc, state, &state_in(alloc, other)?),
+        "below" | "differing" => compared(alloc, call, state, other),
         "closure" => closure_answer(alloc, state, other),
-        _ => state_text(alloc, &state_after(alloc, call, state, other)?),
+        _ => text_after(alloc, call, state, other),
     }
+}
+
+// What is answered to a question about a state and another one.
+fn compared(alloc: Global, call: &str, state: &VState, other: &str) -> Option<String> {
+    let other = state_in(alloc, other)?;
+    let answer = if call == "below" {
+        below_answer(alloc, state, &other)
+    } else {
+        differing_answer(alloc, state, &other)
+    };
+    drop(other);
+    answer
+}
+
+// The text of the state that a call makes of another one.
+fn text_after(alloc: Global, call: &str, state: &VState, other: &str) -> Option<String> {
+    let after = state_after(alloc, call, state, other)?;
+    let text = state_text(alloc, &after);
+    drop(after);
+    text
 }
 
 // The state that a call makes of another one.
@@ -37,11 +75,22 @@ fn state_after(alloc: Global, call: &str, state: &VState, other: &str) -> Option
     match call {
         "copy" => state.copy().ok(),
         "changed" => changed_to(alloc, state, other),
-        "join" => joined(alloc, state, &state_in(alloc, other)?).ok()?,
-        "without" => without_differing(alloc, state, &state_in(alloc, other)?).ok()?,
+        "join" | "without" => with_other(alloc, call, state, other),
         "monitor" => monitored(alloc, state, other),
         _ => None,
     }
+}
+
+// The join of a state and another one, or the state without the sites by which it differs from that.
+fn with_other(alloc: Global, call: &str, state: &VState, other: &str) -> Option<VState> {
+    let other = state_in(alloc, other)?;
+    let made = if call == "join" {
+        joined(alloc, state, &other)
+    } else {
+        without_differing(alloc, state, &other)
+    };
+    drop(other);
+    made.ok()?
 }
 
 // The state of other slots, and of objects in place of those of their sites.
@@ -62,7 +111,8 @@ fn monitored(alloc: Global, state: &VState, steps: &str) -> Option<VState> {
     let site = site.parse::<u16>().ok()?;
     let mut after = state.copy().ok()?;
     for step in steps.bytes() {
-        after = stepped(alloc, &after, site, step)?;
+        let next = stepped(alloc, &after, site, step)?;
+        drop(mem::replace(&mut after, next));
     }
     Some(after)
 }
@@ -78,9 +128,15 @@ fn stepped(alloc: Global, state: &VState, site: u16, step: u8) -> Option<VState>
 // object (n), or one of them has none (-).
 fn shared_answer(alloc: Global, call: &str, state: &VState, other: &str) -> Option<String> {
     let after = state_after(alloc, call, state, other)?;
+    let text = shared_text(alloc, &after, state);
+    drop(after);
+    text
+}
+
+fn shared_text(alloc: Global, after: &VState, state: &VState) -> Option<String> {
     let mut out = String::new(alloc);
     for site in 0..3 {
-        out.push_str(shared(&after, state, site)).ok()?;
+        out.push_str(shared(after, state, site)).ok()?;
     }
     Some(out)
 }
@@ -141,21 +197,26 @@ fn chains_answer(alloc: Global, about: &str, other: u16) -> Option<String> {
     let (sites, one) = about.split_once(' ')?;
     let sites = sites.parse::<u16>().ok()?;
     let one = chain_of(alloc, sites, one.parse::<u16>().ok()?).ok()??;
+    let answer = chain_answer(alloc, sites, &one, other);
+    drop(one);
+    answer
+}
+
+fn chain_answer(alloc: Global, sites: u16, one: &VState, other: u16) -> Option<String> {
     let other = chain_of(alloc, sites, other).ok()??;
-    join_of_chains(alloc, sites, &one, &other)
+    let answer = join_of_chains(alloc, sites, one, &other);
+    drop(other);
+    answer
 }
 
 // How many sites the join of two states has, whether each is below it, and whether it is below the first.
 fn join_of_chains(alloc: Global, sites: u16, one: &VState, other: &VState) -> Option<String> {
     let above = joined(alloc, one, other).ok()??;
-    format!(in alloc;
-        "{} {} {} {}",
-        count_present(&above, sites),
-        below(one, &above),
-        below(other, &above),
-        below(&above, one)
-    )
-    .ok()
+    let count = count_present(&above, sites);
+    let (is_above, is_above_other) = (below(one, &above), below(other, &above));
+    let is_below = below(&above, one);
+    drop(above);
+    format!(in alloc; "{count} {is_above} {is_above_other} {is_below}").ok()
 }
 
 // How many of the first sites are present.
