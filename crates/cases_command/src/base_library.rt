@@ -11,7 +11,10 @@ use work_gen::base_library;
 
 /// How many classes the library has. None where memory runs out.
 pub(crate) fn class_count(alloc: Global) -> Option<usize> {
-    Some(base_library(alloc).ok()?.len())
+    let classes = base_library(alloc).ok()?;
+    let count = classes.len();
+    drop(classes);
+    Some(count)
 }
 
 /// Puts the first class files of the base library into a root, each under the name of its class. None where memory runs out.
@@ -22,7 +25,20 @@ pub(crate) fn put_first(
     count: usize,
 ) -> Option<()> {
     let classes = base_library(alloc).ok()?;
-    for class in classes.as_slice().iter().take(count) {
+    let is_put = put_classes(alloc, host, root, classes.as_slice(), count);
+    drop(classes);
+    is_put
+}
+
+// Puts the first of some class files into a root, each under the name of its class.
+fn put_classes(
+    alloc: Global,
+    host: &mut MemoryHost,
+    root: &str,
+    classes: &[ClassFile],
+    count: usize,
+) -> Option<()> {
+    for class in classes.iter().take(count) {
         if !is_small(class) {
             return None;
         }

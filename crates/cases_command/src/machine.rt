@@ -14,11 +14,13 @@ use type_rules::TypedFolder;
 /// What is answered to a question about the machine. None where it is none, or memory runs out.
 pub(crate) fn machine_answer(alloc: Global, asked: &str, about: &str) -> Option<String> {
     let tree = Input::empty(alloc).build(alloc).ok()?;
-    match asked {
+    let answer = match asked {
         "heap" => heap_answer(alloc, &tree, about),
         "begins" => beginning(alloc, &tree, about),
         _ => None,
-    }
+    };
+    drop(tree);
+    answer
 }
 
 // What a heap answers of a new array of a descriptor and a length.
@@ -30,8 +32,13 @@ fn heap_answer(alloc: Global, tree: &Tree, array: &str) -> Option<String> {
         return None;
     }
     let mut heap = Heap::new(alloc);
-    let at = heap.alloc(tree, Shape::Array { desc, len }).ok()?;
-    array_answer(alloc, &mut heap, at, len)
+    let made = heap.alloc(tree, Shape::Array { desc, len }).ok();
+    let answer = match made {
+        Some(at) => array_answer(alloc, &mut heap, at, len),
+        None => None,
+    };
+    drop(heap);
+    answer
 }
 
 // The elements of an array, what a write behind them answers, and what leaving its monitor does.
@@ -45,28 +52,48 @@ fn array_answer(alloc: Global, heap: &mut Heap, at: Ref, len: u32) -> Option<Str
 // What the first step of a run comes to and, at its beginning, the action of a line; and both in a typed world.
 fn beginning(alloc: Global, tree: &Tree, line: &str) -> Option<String> {
     let actions = read_script(alloc, line.as_bytes()).ok()?;
-    let action = actions.as_slice().first()?;
+    let typed = TypedFolder::new(alloc);
+    let answer = match actions.as_slice().first() {
+        Some(action) => action_answer(alloc, tree, &typed, action),
+        None => None,
+    };
+    drop(typed);
+    drop(actions);
+    answer
+}
+
+fn action_answer(
+    alloc: Global,
+    tree: &Tree,
+    typed: &TypedFolder,
+    action: &Action,
+) -> Option<String> {
     let stepped = first_step(alloc, tree)?;
     let acted = first_action(alloc, tree, action)?;
-    let typed = TypedFolder::new(alloc);
-    let typed_stepped = first_typed_step(alloc, tree, &typed)?;
-    let typed_acted = first_typed_action(alloc, tree, &typed, action)?;
+    let typed_stepped = first_typed_step(alloc, tree, typed)?;
+    let typed_acted = first_typed_action(alloc, tree, typed, action)?;
     format!(in alloc; "{stepped:?} {acted:?} {typed_stepped:?} {typed_acted:?}").ok()
 }
 
 fn first_step(alloc: Global, tree: &Tree) -> Option<Outcome> {
     let mut world = World::start(alloc, tree).ok()?;
-    step(alloc, tree, &mut world).ok()
+    let stepped = step(alloc, tree, &mut world).ok();
+    drop(world);
+    stepped
 }
 
 fn first_action(alloc: Global, tree: &Tree, action: &Action) -> Option<Acted> {
     let mut world = World::start(alloc, tree).ok()?;
-    act(alloc, tree, &mut world, action).ok()
+    let acted = act(alloc, tree, &mut world, action).ok();
+    drop(world);
+    acted
 }
 
 fn first_typed_step(alloc: Global, tree: &Tree, typed: &TypedFolder) -> Option<Outcome> {
     let mut world = World::start(alloc, tree).ok()?;
-    stays_typed(alloc, tree, typed, &mut world).ok()
+    let stepped = stays_typed(alloc, tree, typed, &mut world).ok();
+    drop(world);
+    stepped
 }
 
 fn first_typed_action(
@@ -76,5 +103,7 @@ fn first_typed_action(
     action: &Action,
 ) -> Option<Acted> {
     let mut world = World::start(alloc, tree).ok()?;
-    acts_typed(alloc, tree, typed, &mut world, action).ok()
+    let acted = acts_typed(alloc, tree, typed, &mut world, action).ok();
+    drop(world);
+    acted
 }

@@ -55,7 +55,7 @@ mod texts;
 mod vanishing;
 
 use answers::answer;
-use cases_notation::{lines_of, print_difference, question_of};
+use cases_notation::{Line, lines_of, print_difference, question_of};
 use setting::Setting;
 use std::process::ExitCode;
 use std::{env, fs};
@@ -75,8 +75,14 @@ fn compare_files(rt: &HostRuntime) -> Option<()> {
         .collect::<Vec<String>>(rt.alloc())
         .ok()?;
     let mut setting = Setting::empty(rt.alloc())?;
-    for name in names.as_slice() {
-        compare_file(rt, &mut setting, name)?;
+    let is_done = compare_all(rt, &mut setting, names.as_slice());
+    drop(setting);
+    is_done
+}
+
+fn compare_all(rt: &HostRuntime, setting: &mut Setting, names: &[String]) -> Option<()> {
+    for name in names {
+        compare_file(rt, setting, name)?;
     }
     Some(())
 }
@@ -84,16 +90,36 @@ fn compare_files(rt: &HostRuntime) -> Option<()> {
 // Asks the cases of a file, and prints those that are answered otherwise and how many there are.
 fn compare_file(rt: &HostRuntime, setting: &mut Setting, name: &str) -> Option<()> {
     let text = fs::read_to_string(rt, name).ok()?;
-    let mut count: u64 = 0;
-    for line in lines_of(rt.alloc(), &text)?.as_slice() {
-        let place = format!(in rt.alloc(); "{name}:{}", line.number).ok()?;
-        let (settings, last) = settings_and_last(&line.text);
-        for statement in settings.split(" ; ") {
-            count = count.wrapping_add(take_statement(rt, setting, &place, statement)?);
-        }
-        count = count.wrapping_add(take_statement(rt, setting, &place, last)?);
-    }
+    let lines = lines_of(rt.alloc(), &text)?;
+    drop(text);
+    let counted = compare_lines(rt, setting, name, lines.as_slice());
+    drop(lines);
+    let count = counted?;
     println!(rt; "{name}: {count}").ok()
+}
+
+// How many cases some lines of a file are, which it asks.
+fn compare_lines(
+    rt: &HostRuntime,
+    setting: &mut Setting,
+    name: &str,
+    lines: &[Line],
+) -> Option<u64> {
+    let mut count: u64 = 0;
+    for line in lines {
+        let place = format!(in rt.alloc(); "{name}:{}", line.number).ok()?;
+        count = count.wrapping_add(compare_line(rt, setting, &place, &line.text)?);
+    }
+    Some(count)
+}
+
+fn compare_line(rt: &HostRuntime, setting: &mut Setting, place: &str, line: &str) -> Option<u64> {
+    let (settings, last) = settings_and_last(line);
+    let mut count: u64 = 0;
+    for statement in settings.split(" ; ") {
+        count = count.wrapping_add(take_statement(rt, setting, place, statement)?);
+    }
+    Some(count.wrapping_add(take_statement(rt, setting, place, last)?))
 }
 
 // The statements of a line but for the last one, and that.

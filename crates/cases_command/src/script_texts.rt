@@ -12,11 +12,14 @@ use std::alloc::Global;
 /// What the actions of a script under the root without a name are printed as, or its first line outside the grammar. None where it
 /// is not there, or memory runs out.
 pub(crate) fn actions(alloc: Global, host: &MemoryHost, name: &str) -> Option<String> {
-    match read_script(alloc, host.file("", name)?) {
-        Ok(actions) => printed_actions(alloc, &actions),
+    let read = read_script(alloc, host.file("", name)?);
+    let text = match &read {
+        Ok(actions) => printed_actions(alloc, actions),
         Err(ScriptFault::BadScript { line }) => format!(in alloc; "line {line}").ok(),
         Err(ScriptFault::NoMemory) => None,
-    }
+    };
+    drop(read);
+    text
 }
 
 fn printed_actions(alloc: Global, actions: &ActionList) -> Option<String> {
@@ -27,15 +30,16 @@ fn printed_actions(alloc: Global, actions: &ActionList) -> Option<String> {
 /// What is printed of events with values that no run gives, and of the end that no verified folder gives. None where memory runs
 /// out.
 pub(crate) fn events(alloc: Global) -> Option<String> {
-    let mut events = EventList::new(alloc);
-    push_events(alloc, &mut events)?;
-    printed_events(
-        alloc,
-        &Shown {
-            events,
-            end: End::Stuck,
-        },
-    )
+    let mut shown = Shown {
+        events: EventList::new(alloc),
+        end: End::Stuck,
+    };
+    let text = match push_events(alloc, &mut shown.events) {
+        Some(()) => printed_events(alloc, &shown),
+        None => None,
+    };
+    drop(shown);
+    text
 }
 
 fn printed_events(alloc: Global, events: &Shown) -> Option<String> {

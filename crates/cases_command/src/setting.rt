@@ -6,6 +6,7 @@ use cases_notation::{class_file, word_and_rest};
 use class_model::ListOf;
 use host_tree::MemoryHost;
 use std::alloc::Global;
+use std::mem;
 
 /// A host in memory, and the contents that have names.
 #[derive(Drop)]
@@ -27,7 +28,7 @@ impl Setting {
     pub(crate) fn take(&mut self, alloc: Global, statement: &str) -> Option<bool> {
         let (word, said) = word_and_rest(statement);
         match word {
-            "host" => self.host = host_failing(alloc, said)?,
+            "host" => drop(mem::replace(&mut self.host, host_failing(alloc, said)?)),
             "base" => self.put_library(alloc, said)?,
             "put" => self.put_file(alloc, said)?,
             "class" => self.put_class(alloc, said)?,
