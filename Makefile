@@ -13,8 +13,14 @@ bin/pea: $(sources)
 run: bin/pea
 	bash scripts/run-example.sh
 
-try:
-	bash scripts/try-example.sh
+bin/pea-unproved: $(sources)
+	bash scripts/build-unproved.sh
+
+try: bin/pea-unproved
+	@echo "Nothing is proved of bin/pea-unproved. Try it on the examples:"
+	@echo "  bin/pea-unproved verify examples/first/in --lib examples/first/lib"
+	@echo "  bin/pea-unproved plan examples/points/in --lib examples/first/lib"
+	@echo "  bin/pea-unproved run examples/points/in examples/points/script --lib examples/first/lib"
 
 test:
 	bash .ci/run

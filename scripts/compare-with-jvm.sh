@@ -4,6 +4,10 @@
 # folder that differs, and where the folders are kept. PEA=FILE takes another program than bin/pea; where neither is there, crates/pea is run
 # by `rt try`, without proofs. KEEP=FOLDER keeps all that was made.
 set -eu
+if [ $# -gt 2 ]; then
+    echo "usage: bash scripts/compare-with-jvm.sh [NUMBER_OF_FOLDERS] [SEED]" >&2
+    exit 64
+fi
 cd "$(dirname "$0")/compare"
 count=${1:-1000}
 seed=${2:-1}

@@ -2,6 +2,10 @@
 # compile-java.sh RELEASE FOLDER: compiles examples/java/RELEASE into the folder, with all that javac writes for debuggers.
 # Prints why and ends with status 2 where there is no javac that knows the release.
 set -u
+if [ $# != 2 ]; then
+    echo "usage: bash scripts/compile-java.sh RELEASE FOLDER" >&2
+    exit 64
+fi
 release=$1
 folder=$(realpath "$2")
 cd "$(dirname "$0")/../examples/java/$release" || exit 1

@@ -6,6 +6,19 @@ import sys
 import tempfile
 import zipfile
 
+USAGE, NO_JAR, NOT_WRITTEN = 64, 65, 73
+
+# The words behind each command.
+WORDS = {"verify": ["IN.jar"], "plan": ["IN.jar"], "run": ["IN.jar", "SCRIPT"], "optimise": ["IN.jar", "OUT.jar"]}
+
+
+class Stop(Exception):
+    """A status of the script itself, and why."""
+
+    def __init__(self, status, why):
+        super().__init__(why)
+        self.status = status
+
 
 def is_left_out(name):
     return name.rsplit("/", 1)[-1] == "module-info.class" or name.startswith("META-INF/versions/")
@@ -21,7 +34,7 @@ def unpack(jar, folder):
             continue
         path = os.path.join(folder, entry.filename)
         if os.path.isabs(entry.filename) or ".." in entry.filename.split("/"):
-            raise ValueError(f"the entry {entry.filename} is no name of a file")
+            raise Stop(NO_JAR, f"the entry {entry.filename} is no name of a file")
         os.makedirs(os.path.dirname(path), exist_ok=True)
         with open(path, "wb") as file:
             file.write(jar.read(entry))
@@ -51,26 +64,62 @@ def pack(jar, folder, to):
                 out.writestr(entry, written[entry.filename], entry.compress_type)
 
 
-def main(words):
-    commands = {"verify": 1, "optimise": 2}
-    if not words or words[0] not in commands:
-        print("jar.sh verify IN.jar --lib LIB, or jar.sh optimise IN.jar OUT.jar --lib LIB", file=sys.stderr)
-        return 2
-    count = commands[words[0]]
-    jars, options = words[1:1 + count], words[1 + count:]
-    with tempfile.TemporaryDirectory() as room, zipfile.ZipFile(jars[0]) as jar:
-        folders = [os.path.join(room, "in"), os.path.join(room, "out")][:count]
-        for folder in folders:
-            os.mkdir(folder)
-        unpack(jar, folders[0])
-        status = subprocess.run([os.environ["PEA"], words[0], *folders, *options], check=False).returncode
-        if status == 0 and count == 2:
-            pack(jar, folders[1], jars[1])
-        elif count == 1:
+def arguments(words):
+    """The command, its words by their names, and its options as the program takes them."""
+    command = words[0] if words else ""
+    if command not in WORDS:
+        raise Stop(USAGE, f"'{command}' is no command; expected is {', '.join(WORDS)}")
+    plain, options, rest = [], [], list(words[1:])
+    while rest:
+        word = rest.pop(0)
+        if word in ("--lib", "--steps") and rest:
+            options += [word, rest.pop(0)]
+        elif word.startswith("-"):
+            options.append(word)
+        else:
+            plain.append(word)
+    names = WORDS[command]
+    if len(plain) != len(names):
+        raise Stop(USAGE, f"usage: jar.sh {command} {' '.join(names)} --lib LIB{' [--steps N]' if command == 'run' else ''}")
+    return command, dict(zip(names, plain)), options
+
+
+def run(command, named, options):
+    jar_path, out_path = named["IN.jar"], named.get("OUT.jar")
+    if out_path and os.path.exists(out_path) and os.path.samefile(jar_path, out_path):
+        raise Stop(USAGE, f"OUT.jar is IN.jar: {out_path} and {jar_path} are one file")
+    with tempfile.TemporaryDirectory() as room, zipfile.ZipFile(jar_path) as jar:
+        folder, written = os.path.join(room, "in"), os.path.join(room, "out")
+        os.mkdir(folder)
+        unpack(jar, folder)
+        words = [folder]
+        if command == "run":
+            words.append(named["SCRIPT"])
+        if command == "optimise":
+            os.mkdir(written)
+            words.append(written)
+        status = subprocess.run([os.environ["PEA"], command, *words, *options], check=False).returncode
+        if command != "optimise":
             for entry in jar.infolist():
                 if is_left_out(entry.filename):
-                    note(f"{entry.filename} is not verified")
-        return status
+                    note(f"{entry.filename} is left out")
+        elif status == 0:
+            try:
+                pack(jar, written, out_path)
+            except OSError as error:
+                raise Stop(NOT_WRITTEN, f"{out_path} cannot be written: {error}") from error
+        return status if status >= 0 else 128 - status
+
+
+def main(words):
+    try:
+        return run(*arguments(words))
+    except Stop as stop:
+        print(f"jar.sh: {stop}", file=sys.stderr)
+        return stop.status
+    except (OSError, zipfile.BadZipFile, RuntimeError) as error:
+        print(f"jar.sh: the jar cannot be read: {error}", file=sys.stderr)
+        return NO_JAR
 
 
 if __name__ == "__main__":

@@ -10,6 +10,10 @@ if [ "${1-}" = --whole ]; then
     whole=yes
     shift
 fi
+if [ $# != 1 ]; then
+    echo "usage: bash scripts/jdk-library.sh [--whole] FOLDER" >&2
+    exit 64
+fi
 for tool in jimage python3; do
     if ! command -v "$tool" >/dev/null; then
         echo "$tool is missing"

@@ -3,11 +3,11 @@
 # each jar. A class that the library has already is passed over.
 set -eu
 if [ $# -lt 2 ]; then
-    echo "library.sh LIB JAR.."
-    exit 2
+    echo "usage: bash scripts/library.sh LIB JAR.." >&2
+    exit 64
 fi
 if ! command -v python3 >/dev/null; then
-    echo "python3 is missing"
-    exit 2
+    echo "python3 is missing" >&2
+    exit 69
 fi
-exec python3 "$(dirname "$0")/class_headers.py" "$@"
+exec python3 -B "$(dirname "$0")/class_headers.py" "$@"

@@ -3,12 +3,17 @@
 # run makes: each time the program must end with status 9 and have printed a prefix of what it prints otherwise, or end as otherwise. It is
 # no part of the gate. Needs cc: the allocations are refused by a library that is loaded in front of the C library.
 set -eu
+if [ $# -gt 1 ]; then
+    echo "usage: bash scripts/refused-allocations.sh [COUNT]" >&2
+    exit 64
+fi
 cd "$(dirname "$0")/.."
 count=${1:-200}
-if ! command -v cc >/dev/null || [ ! -x bin/pea ]; then
-    echo "skipped: refused allocations, since cc or bin/pea is missing"
+if ! command -v cc >/dev/null; then
+    echo "skipped: refused allocations, since cc is missing"
     exit 0
 fi
+source scripts/program.sh
 work=$(mktemp -d)
 trap 'rm -rf "$work"' EXIT
 cat >"$work/refuse.c" <<'C'
@@ -51,14 +56,14 @@ __attribute__((destructor)) static void tell(void) {
 }
 C
 cc -shared -fPIC -O1 -o "$work/refuse.so" "$work/refuse.c" -ldl
-ask=(bin/pea run examples/points/in examples/points/script --lib examples/first/lib)
+ask=("$pea" run examples/points/in examples/points/script --lib examples/first/lib)
 # where there is a javac, a run with more allocations: the methods of the bench
 if command -v javac >/dev/null; then
     mkdir "$work/src" "$work/in"
     { awk '/Prints the least time/ { exit } { print }' bench/java/Turns.java && echo "}"; } >"$work/src/Turns.java"
     if javac --release 8 -Xlint:-options -d "$work/in" "$work/src/Turns.java" 2>/dev/null; then
         printf 'call Turns loop (I)I i:50\ncall Turns objects (I)I i:50\ncall Turns deep (I)I i:50\nstop\n' >"$work/script"
-        ask=(bin/pea run "$work/in" "$work/script" --lib examples/first/lib)
+        ask=("$pea" run "$work/in" "$work/script" --lib examples/first/lib)
     fi
 fi
 made() { MADE="$work/made" LD_PRELOAD="$work/refuse.so" "$@" >"$work/printed" 2>/dev/null; cat "$work/made"; }

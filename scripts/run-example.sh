@@ -1,11 +1,16 @@
 #!/usr/bin/env bash
-# Runs the main job on the first example, and shows what was printed and what was written.
+# run-example.sh: runs the main job on the first example, and shows what was printed and what was written.
 set -u
-cd "$(dirname "$0")/.."
+if [ $# != 0 ]; then
+    echo "usage: bash scripts/run-example.sh" >&2
+    exit 64
+fi
+cd "$(dirname "$0")/.." || exit 1
+source scripts/program.sh
 out=$(mktemp -d)
 trap 'rm -rf "$out"' EXIT
 echo "\$ pea optimise examples/first/in OUT --lib examples/first/lib"
-bin/pea optimise examples/first/in "$out" --lib examples/first/lib
+"$pea" optimise examples/first/in "$out" --lib examples/first/lib
 status=$?
 echo "status $status"
 (cd "$out" && find . -type f | LC_ALL=C sort | while read -r file; do
