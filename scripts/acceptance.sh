@@ -1,6 +1,10 @@
 #!/usr/bin/env bash
 # Runs the proved program on real folders, and compares status, printed bytes and files. Prints a line for each check.
 set -u
+if [ $# != 0 ]; then
+    echo "usage: bash scripts/acceptance.sh" >&2
+    exit 64
+fi
 cd "$(dirname "$0")/.." || exit 1
 for tool in make find sort diff od cmp mktemp xargs paste rt; do
     if ! command -v "$tool" >/dev/null; then
@@ -19,7 +23,7 @@ work=$(mktemp -d)
 trap 'rm -rf "$work"' EXIT
 
 source "$root/scripts/acceptance/checks.sh"
-for part in folders refusals words library java methods damaged jars; do
+for part in folders refusals words scripts library java methods damaged jars; do
     source "$root/scripts/acceptance/$part.sh"
 done
 

@@ -3,6 +3,10 @@
 # compares its answer and the files that it leaves. A file that is read counts as ok whether it is linked with that library and
 # verifies, and then has the same bytes, or not, and then leaves no files. Prints a line for each file.
 set -u
+if [ $# != 0 ]; then
+    echo "usage: bash scripts/conformance.sh" >&2
+    exit 64
+fi
 cd "$(dirname "$0")/.." || exit 1
 for tool in make awk sed cut paste split nproc cmp mktemp; do
     if ! command -v "$tool" >/dev/null; then
@@ -30,8 +34,8 @@ answer() {
     printed=$(<printed)
     {
         IFS= read -r said
-        # That IN has no class files is noted where the file stands in the library.
-        case "$folder $said" in "LIB pea: note: IN has no class files"*) IFS= read -r said ;; esac
+        # That IN has no files is noted where the file stands in the library.
+        case "$folder $said" in "LIB pea: note: NOTHING WAS READ: "*) IFS= read -r said ;; esac
     } <why
     if [ "$folder" = IN ]; then counts="files=1 classes=1"; else counts="files=0 classes=0"; fi
     case "$status $printed" in

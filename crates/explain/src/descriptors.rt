@@ -35,8 +35,8 @@ pub(crate) fn element(name: &[u8]) -> &[u8] {
     }
 }
 
-// The class that the part of a descriptor up to a semicolon names: what is before it has no L.
-fn class_of_part(part: &[u8]) -> Option<&[u8]> {
+/// The class that the part of a descriptor up to a semicolon names: what is before it has no L.
+pub(crate) fn class_of_part(part: &[u8]) -> Option<&[u8]> {
     let at = part.iter().position(|byte| *byte == b'L')?;
     part.get(at..)?.get(1..)
 }

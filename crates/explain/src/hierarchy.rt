@@ -1,15 +1,17 @@
 //! Classes that are no hierarchy.
 use crate::lines::Lines;
+use crate::missing::Missing;
 use crate::outlines::Outlines;
 use crate::pool_texts::class_name;
 use class_model::{ClassFile, NoMemory, Text};
 use class_tree::{LinkRule, OBJECT};
 use std::alloc::Global;
 
-/// The class files of the input, and what is kept of the library.
+/// The class files of the input with the names of their files, and what is kept of the library.
 #[derive(Clone, Copy)]
 pub struct Folders<'a> {
     pub input: &'a [ClassFile],
+    pub names: &'a [String],
     pub library: &'a Outlines,
 }
 
@@ -29,7 +31,12 @@ pub fn explain_hierarchy(
     lines.put(rule.text());
     lines.put("\n");
     match rule {
-        LinkRule::Missing => put_missing(&mut lines, folders, name),
+        LinkRule::Missing => {
+            put_missing(&mut lines, folders, name);
+            if has(folders, OBJECT) {
+                let _ = put_all(alloc, &mut lines, folders);
+            }
+        }
         LinkRule::Duplicate => put_copies(&mut lines, folders, name),
         LinkRule::NoMember => {
             lines.put(
@@ -76,6 +83,27 @@ fn put_missing(lines: &mut Lines, folders: &Folders<'_>, class: &[u8]) {
             folders.library.classes.len(),
         ),
     }
+}
+
+// All classes that class files of the input and headers of the library name and that are nowhere. Where memory runs out nothing is
+// written.
+fn put_all(alloc: Global, lines: &mut Lines, folders: &Folders<'_>) -> Result<(), NoMemory> {
+    let mut missing = Missing::new(alloc);
+    for name in folders.library.classes.as_slice() {
+        missing.add_known(name.bytes())?;
+    }
+    for file in folders.input {
+        if let Some(name) = class_name(&file.pool, file.this_class) {
+            missing.add_known(name.bytes())?;
+        }
+    }
+    for file in folders.input {
+        missing.add_file(file)?;
+    }
+    for one in folders.library.supers.as_slice() {
+        missing.add_name(one.above.bytes())?;
+    }
+    missing.put(lines)
 }
 
 // The first class that a class names above it and that is nowhere.
@@ -141,13 +169,20 @@ fn is_named(file: &ClassFile, name: &[u8]) -> bool {
     }
 }
 
-// How often a class is there.
+// How often a class is there, and in which files of the input.
 fn put_copies(lines: &mut Lines, folders: &Folders<'_>, class: &[u8]) {
     lines.put("  class files with this class in IN: ");
     lines.number(copies_in_input(folders, class));
     lines.put(", in LIB: ");
     lines.number(folders.library.copies(class));
     lines.put("; the name inside the file counts\n");
+    for (file, name) in folders.input.iter().zip(folders.names) {
+        if is_named(file, class) {
+            lines.put("  IN/");
+            lines.name(name.as_str().as_bytes());
+            lines.put("\n");
+        }
+    }
 }
 
 // What a class names above it.

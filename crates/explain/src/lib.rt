@@ -3,13 +3,18 @@
 #![tactic(auto)]
 
 mod access;
+mod answers;
 mod descriptors;
+mod ends;
+mod faults;
 mod forms;
 mod frames;
+mod given;
 mod hierarchy;
 mod lines;
 mod links;
 mod malformed;
+mod missing;
 mod mnemonics;
 mod notes;
 mod outlines;
@@ -23,16 +28,20 @@ mod side;
 mod spot;
 mod spot_words;
 mod taken;
+mod turns;
+mod usage;
 mod verification;
 mod version;
 mod wanted;
 
+pub use ends::explain_end;
 pub use hierarchy::{Folders, explain_hierarchy};
 pub use links::explain_links;
 pub use malformed::explain_malformed;
-pub use notes::{class_counts, usage};
+pub use notes::{class_counts, plan_note};
 pub use outlines::Outlines;
 pub use scripts::{explain_absent, explain_line};
 pub use side::Side;
+pub use usage::explain_usage;
 pub use verification::explain_verification;
 pub use version::explain_version;

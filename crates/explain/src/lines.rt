@@ -76,6 +76,31 @@ impl Lines {
         }
     }
 
+    /// Writes a line of a file so that all of it is visible: a space at either end or beside another space, and each byte that is no visible
+    /// ASCII character, by an escape.
+    pub(crate) fn escaped(&mut self, line: &[u8]) {
+        let mut is_edge = true;
+        for (at, byte) in line.iter().enumerate() {
+            let is_last = matches!(line.get(at.saturating_add(1)), None | Some(b' '));
+            match *byte {
+                b'\r' => self.put("\\r"),
+                b'\t' => self.put("\\t"),
+                b'\\' => self.put("\\\\"),
+                b' ' if is_edge || is_last => self.put("\\x20"),
+                b' '..=b'~' => self.byte(*byte),
+                _ => self.hex(*byte),
+            }
+            is_edge = *byte == b' ';
+        }
+    }
+
+    // Writes a byte by its number.
+    fn hex(&mut self, byte: u8) {
+        if write!(self.text, "\\x{byte:02x}").is_err() {
+            self.is_cut = true;
+        }
+    }
+
     /// Writes a class, or a member of it: `A`, `A.m(I)V`, or `A.x of type I` for a field.
     pub(crate) fn member(&mut self, class: &[u8], name: &[u8], desc: &[u8]) {
         self.name(class);

@@ -1,6 +1,7 @@
 //! Members and classes of a hierarchy that are not linked.
 use crate::descriptors::missing_of_descriptor;
 use crate::lines::Lines;
+use crate::missing::put_all_missing;
 use crate::mnemonics::mnemonic_at;
 use crate::places::{class_of, code_at, method_at};
 use crate::pool_texts::class_name;
@@ -31,6 +32,9 @@ pub fn explain_links(
         put_supers(&mut lines, tree, class);
     } else if !put_declared(&mut lines, tree, class, member, rule) {
         put_used(alloc, &mut lines, tree, class, member, rule);
+    }
+    if rule == LinkRule::Missing {
+        put_all_missing(alloc, &mut lines, tree);
     }
     lines.finish()
 }

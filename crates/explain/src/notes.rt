@@ -1,36 +1,33 @@
-//! What may be a mistake, and is no refusal; and how the program is called.
+//! What may be a mistake, and is no refusal.
 use crate::lines::Lines;
 use class_model::NoMemory;
 use std::alloc::Global;
 
-/// Notes where the input or the library has no class files. The text is empty where both have some.
+/// Notes where the input or the library has no class files, of so many files and class files of the input and class files of the
+/// library. The text is empty where both have class files.
 pub fn class_counts(
     alloc: Global,
+    files: usize,
     classes: usize,
     library_classes: usize,
 ) -> Result<String, NoMemory> {
     let mut lines = Lines::new(alloc);
-    if classes == 0 {
-        lines.put("pea: note: IN has no class files, whose names end in .class\n");
-    }
     if library_classes == 0 {
         lines.put("pea: note: LIB has no class files");
         lines.put("; scripts/jdk-library.sh LIB makes a library of the machine's JDK\n");
     }
+    if files == 0 {
+        lines.put("pea: note: NOTHING WAS READ: IN is not there, or has no files\n");
+    } else if classes == 0 {
+        lines.put("pea: note: NO CLASS FILE WAS READ: the name of none in IN ends in .class\n");
+    }
     lines.finish()
 }
 
-/// How the program is called.
-pub fn usage(alloc: Global) -> Result<String, NoMemory> {
+/// Notes that no plan is made yet.
+pub fn plan_note(alloc: Global) -> Result<String, NoMemory> {
     let mut lines = Lines::new(alloc);
-    lines.put("pea: error: these words are no command\n");
-    lines.put("  pea verify IN --lib LIB\n");
-    lines.put("  pea plan IN --lib LIB\n");
-    lines.put("  pea optimise IN OUT --lib LIB\n");
-    lines.put("  pea run IN SCRIPT --lib LIB [--steps N]\n");
-    lines.put("  each of IN, OUT and LIB is a folder, and OUT is neither IN nor LIB\n");
-    lines.put(
-        "  SCRIPT is a file, and N is at most 10000000 steps, and 1000000 where it is left out\n",
-    );
+    lines.put("pea: note: no plan is made yet: NoGain is said of each method that no other reason");
+    lines.put(" holds of, and says nothing of a gain\n");
     lines.finish()
 }

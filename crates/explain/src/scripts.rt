@@ -20,8 +20,11 @@ pub fn explain_line(alloc: Global, script: &[u8], number: u64) -> Result<String,
     lines.put("pea: error: line ");
     lines.number(number);
     lines.put(" of SCRIPT is no action of the library: ");
-    lines.name(line);
+    lines.escaped(line);
     lines.put("\n");
+    if line.ends_with(b"\r") {
+        lines.put("  a line ends with \\n alone: the \\r before it belongs to the line\n");
+    }
     lines.put(form_of(first_word(line)));
     lines.put(
         "  words have one space between, and a VALUE is i:N, l:N, f:BITS, d:BITS, null or r:K\n",

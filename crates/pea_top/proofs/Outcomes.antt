@@ -106,6 +106,13 @@ stop_behind words old mid new before mid_text after status same same_text stop =
     let at_old : IsStop words old new mid_text after status = subst (λ (files : Files). IsStop words files new mid_text after status) (one_value same) stop in
     subst (λ (text : Bytes). IsStop words old new text after status) same_text at_old
 
+-- the same of a line that is printed behind such calls
+pub printed_behind : (line : Bytes) (old mid new : Files) (before mid_text after : Bytes) (is : Ending) → SameFiles old mid → mid_text ≡ before
+    → LeavesPrinted line mid new mid_text after is → LeavesPrinted line old new before after is
+printed_behind line old mid new before mid_text after is same same_text left =
+    let at_old : LeavesPrinted line old new mid_text after is = subst (λ (files : Files). LeavesPrinted line files new mid_text after is) (one_value same) left in
+    subst (λ (text : Bytes). LeavesPrinted line old new text after is) same_text at_old
+
 -- what stands before calls that leave the files and print nothing stands behind them
 pub stop_then : (words : List Word) (old mid new : Files) (before text after : Bytes) (status : Status) → SameFiles mid new → after ≡ text
     → IsStop words old mid before text status → IsStop words old new before after status

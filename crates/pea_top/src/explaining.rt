@@ -15,7 +15,7 @@ use class_model::NoMemory;
 use class_tree::{ClassFileList, LinkFault, Tree};
 use explain::{
     Folders, Outlines, class_counts, explain_absent, explain_hierarchy, explain_line,
-    explain_links, explain_malformed, explain_verification, explain_version, usage,
+    explain_links, explain_malformed, explain_usage, explain_verification, explain_version,
 };
 use host_tree::Host;
 use std::alloc::Global;
@@ -32,13 +32,13 @@ pub(crate) fn show<H: Host>(host: &mut H, lines: Result<String, NoMemory>)
     }
 }
 
-/// Explains how the program is called.
-pub(crate) fn explain_usage<H: Host>(alloc: Global, host: &mut H)
+/// Explains what is wrong with words that are no command, and how the program is called.
+pub(crate) fn explain_words<H: Host>(alloc: Global, host: &mut H, words: &[String])
     ensures files { IsTrue H.tells → SameFiles (H.file host.old) (H.file host.new) }
     ensures printed { IsTrue H.tells → H.printed host.new ≡ H.printed host.old }
     ensures counts { (call : HostCall) → H.faults host.new call ≡ H.faults host.old call }
 {
-    show(host, usage(alloc));
+    show(host, explain_usage(alloc, words));
 }
 
 /// Notes where the input or the library has no class files, and shows that they are about to be linked.
@@ -49,7 +49,12 @@ pub(crate) fn note_input<H: Host>(alloc: Global, host: &mut H, input: &Input)
 {
     show(
         host,
-        class_counts(alloc, input.classes.len(), input.headers.len()),
+        class_counts(
+            alloc,
+            input.files.len(),
+            input.classes.len(),
+            input.headers.len(),
+        ),
     );
     show_linking(host, input);
 }
@@ -136,9 +141,10 @@ fn lines_of_linking(
             let Ok(library) = library else {
                 return Err(NoMemory);
             };
-            let input = class_files(alloc, files)?;
+            let (input, names) = class_files(alloc, files)?;
             let folders = Folders {
                 input: input.as_slice(),
+                names: names.as_slice(),
                 library,
             };
             explain_hierarchy(alloc, &folders, class, *rule)
@@ -146,17 +152,22 @@ fn lines_of_linking(
     }
 }
 
-/// The class files among files that were read.
-fn class_files(alloc: Global, files: &[NamedFile]) -> Result<ClassFileList, NoMemory> {
+/// The class files among files that were read, and the names of their files.
+fn class_files(
+    alloc: Global,
+    files: &[NamedFile],
+) -> Result<(ClassFileList, Vec<String>), NoMemory> {
+    let mut names = Vec::new(alloc);
     let mut classes = ClassFileList::new(alloc);
     for file in files {
         if is_class_file(&file.name) {
             if let Ok(class) = read_class(alloc, file.bytes.as_slice()) {
                 classes.push(class)?;
+                names.push(String::from_str(alloc, file.name.as_str())?)?;
             }
         }
     }
-    Ok(classes)
+    Ok((classes, names))
 }
 
 /// Explains why a method does not verify.

@@ -17,7 +17,7 @@ ghost use Rattle.pea_top.specs.Inner.ReadFiles.{AreClassesOf, AreFilesFor, HasNa
 ghost use Rattle.pea_top.specs.Inner.Deciding.{AreInput, WritesFiles, IsPrepared, AreArranged, IsOutcome, IsStop};
 
 use crate::explaining::{
-    explain_linking, explain_reading, explain_script, explain_usage, explain_verifying, note_input,
+    explain_linking, explain_reading, explain_script, explain_verifying, explain_words, note_input,
 };
 use crate::folder::NamedFile;
 use crate::laws::{words_and_files_have_one_answer, words_spell_one_command};
@@ -133,7 +133,7 @@ fn run<H: Host>(alloc: Global, words: &[String], host: &mut H) -> Result<(), Sta
     match command_of(words) {
         Some(command) => perform(alloc, command, host),
         None => {
-            explain_usage(alloc, host);
+            explain_words(alloc, host, words);
             Err(Status::Usage)
         }
     }

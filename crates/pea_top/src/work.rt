@@ -18,6 +18,7 @@ ghost use Rattle.pea_top.specs.Inner.Ended.{ended};
 ghost use Rattle.pea_top.specs.Inner.ReadFiles.{AreFilesFor, HasNames, class_names};
 ghost use Rattle.pea_top.specs.Inner.Scripts.{IsCommandStop};
 
+use crate::explaining::show;
 use crate::folder::NamedFile;
 use crate::lines::verified;
 use crate::optimising::{output_of, plan_text};
@@ -28,6 +29,7 @@ use crate::words::Command;
 use crate::writing::write_files;
 use class_model::{ByteList, ClassFile, NoMemory, Text};
 use class_tree::Tree;
+use explain::{explain_end, plan_note};
 use host_tree::{Host, HostCall, HostFail};
 use machine_run::a_tree_has_a_program;
 use machine_values::ActionList;
@@ -158,14 +160,14 @@ pub(crate) fn carry_out<H: Host>(
         Work::Plan => {
             let typed = kept(typed);
             match plan_text(alloc, tree, typed) {
-                Ok(text) => finish(alloc, host, text.as_slice()),
+                Ok(text) => finish_noted(alloc, host, plan_note(alloc), text.as_slice()),
                 Err(NoMemory) => Err(Status::NoMemory),
             }
         }
         Work::Run { actions, steps } => {
             let typed = kept(typed);
             match run_text(alloc, tree, typed, actions, *steps) {
-                Ok(text) => finish(alloc, host, text.as_slice()),
+                Ok((text, note)) => finish_noted(alloc, host, note, text.as_slice()),
                 Err(NoMemory) => Err(Status::NoMemory),
             }
         }
@@ -183,21 +185,22 @@ fn kept<'t>(typed: Option<&'t TypedFolder>) -> &'t TypedFolder
     }
 }
 
-/// What a run of these actions prints: its events and its end.
+/// What a run of these actions prints: its events and its end. And what is to be noted of its end.
 fn run_text(
     alloc: Global,
     tree: &Tree,
     typed: &TypedFolder,
     actions: &ActionList,
     steps: u64,
-) -> Result<ByteList, NoMemory>
+) -> Result<(ByteList, Result<String, NoMemory>), NoMemory>
     requires linked { IsLinked tree.now }
     requires types { TypesFolder tree.now typed.now }
-    ensures { IfOk result (IsShown tree.now actions.now steps) }
+    ensures { IfOk result (λ told. IsShown tree.now actions.now steps told.0) }
 {
     a_tree_has_a_program(tree);
     let shown = run_verified(alloc, tree, typed, actions, steps)?;
-    print_events(alloc, &shown)
+    let text = print_events(alloc, &shown)?;
+    Ok((text, explain_end(alloc, tree, actions.as_slice(), &shown)))
 }
 
 /// How many methods class files have together.
@@ -236,6 +239,27 @@ fn write_out<H: Host>(
         Err(HostFail::NoMemory) => Err(Status::NoMemory),
         Err(HostFail::Absent) => unreachable!(),
     }
+}
+
+/// Shows a note, and then prints the last lines of a command that was done.
+fn finish_noted<H: Host>(
+    alloc: Global,
+    host: &mut H,
+    note: Result<String, NoMemory>,
+    text: &[u8],
+) -> Result<(), Status>
+    ensures not_usage { ¬ IsErrOf result Status.Usage }
+    ensures not_absent { (name : Bytes) → ¬ IsErrOf result (Status.Absent name) }
+    ensures fault { (call : HostCall)
+        → IsErrOf result (Status.HostFault call)
+        → Rose (H.faults host.old call) (H.faults host.new call) }
+    ensures counts { CountsOnly HostCall.Print (H.faults host.old) (H.faults host.new) }
+    ensures left { IsTrue H.tells
+        → LeavesPrinted text.now (H.file host.old) (H.file host.new) (H.printed host.old)
+        (H.printed host.new) (ending (ended result)) }
+{
+    show(host, note);
+    finish(alloc, host, text)
 }
 
 /// Prints the last line of a command that was done.
