@@ -34,7 +34,7 @@ use type_rules::{TypedFolder, a_typed_folder_types_each_method};
 /// `Kept`, with the first of these reasons that holds:
 /// - `Host`: the method has no code, or is an instance or class initialiser;
 /// - `Float`: its own code has arithmetic of float or double;
-/// - `Expanded`: the flat code has more than 8,000 points;
+/// - `Expanded`: each flat code of it with its callees in place of their calls has more than 8,000 points; none is made;
 /// - `NoSite`: it has no candidate site;
 /// - `Wide`: it has more than 256 sites, or 4,096 local units of the sites' fields; or the written code would have more than 65,535
 ///   local units; or the greatest depth of its typed stacks, in units, plus 70 passes 65,535.
