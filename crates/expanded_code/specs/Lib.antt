@@ -7,4 +7,5 @@ pub mod Sites
 pub mod Expansions
 pub mod Expanded
 pub mod ExpandAnswers
+pub mod CandidateSites
 pub mod Laws

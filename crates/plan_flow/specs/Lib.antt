@@ -9,3 +9,5 @@ pub mod Plans
 pub mod Gain
 pub mod Orders
 pub mod Inner
+pub mod Written
+pub mod ReadyForPlans

@@ -1,6 +1,7 @@
 pub mod Flats
 pub mod FlatBodies
 pub mod TypedFlats
+pub mod ReadyCode
 pub mod ClearedFields
 pub mod EqualRuns
 pub mod Simulations

@@ -1,0 +1,6 @@
+pub mod Units
+pub mod Items
+pub mod MakeOrder
+pub mod MakeCode
+pub mod Constants
+pub mod FieldConstructor
