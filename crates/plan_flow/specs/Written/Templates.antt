@@ -155,24 +155,24 @@ below_units units (cell ∷ others) =
     if units == 0 then cell ∷ others else below_units (units - cell.units) others
 
 abbrev pub pops : ℕ → List WInstr
-pops 0 = []
-pops 1 = plain (Shuffle POP) ∷ []
-pops 2 = plain (Shuffle POP2) ∷ []
-pops more = []
+pops units =
+    if units == 1 then plain (Shuffle POP) ∷ []
+    else (if units == 2 then plain (Shuffle POP2) ∷ []
+    else [])
 
 abbrev pub swaps : ℕ → List WInstr
-swaps 2 = plain (Shuffle SWAP) ∷ []
-swaps fewer = []
+swaps units = if units == 2 then plain (Shuffle SWAP) ∷ [] else []
+
+-- one of three, by a number of units
+abbrev pub by_units : ℕ → ℕ → ℕ → ℕ → ℕ
+by_units units none one two = if units == 0 then none else (if units == 1 then one else two)
 
 -- so many plain units are copied over so many
 abbrev pub dups : ℕ → ℕ → List WInstr
-dups 1 0 = plain (Shuffle DUP) ∷ []
-dups 1 1 = plain (Shuffle DUP_X1) ∷ []
-dups 1 2 = plain (Shuffle DUP_X2) ∷ []
-dups 2 0 = plain (Shuffle DUP2) ∷ []
-dups 2 1 = plain (Shuffle DUP2_X1) ∷ []
-dups 2 2 = plain (Shuffle DUP2_X2) ∷ []
-dups copied over = []
+dups copied over =
+    if copied == 1 then plain (Shuffle (by_units over DUP DUP_X1 DUP_X2)) ∷ []
+    else (if copied == 2 then plain (Shuffle (by_units over DUP2 DUP2_X1 DUP2_X2)) ∷ []
+    else [])
 
 -- copies of so many units over so many, of which the plain ones count
 abbrev pub dups_among : ℕ → ℕ → List Cell → List WInstr

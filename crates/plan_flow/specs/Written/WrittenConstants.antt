@@ -117,7 +117,7 @@ catch_index pool (Some class) = index_in pool (needs_class class)
 
 -- the jump inside a test for null
 abbrev pub is_near : List WTarget → Bool
-is_near (ahead 3 ∷ []) = true
+is_near (ahead count ∷ []) = count == 3
 is_near targets = false
 
 -- An item: its instruction, with numbers of items for targets; whether it is the jump inside a test for null; and its handlers, each with the

@@ -47,14 +47,16 @@ site_types_from state number (site ∷ sites) =
 -- ---- the stack
 
 -- the plain entries
+abbrev pub entry_types_by : Slot → VType → List VType → List VType
+entry_types_by Plain type types = type ∷ types
+entry_types_by (Virt site) type types = types
+entry_types_by Unusable type types = types
+
 abbrev pub entry_types_from : FlatCode → List VType → List Slot → List VType
 entry_types_from flat [] slots = []
 entry_types_from flat (type ∷ types) [] = []
-entry_types_from flat (type ∷ types) (slot ∷ slots) = of_slot slot where
-  of_slot : Slot → List VType
-  of_slot Plain = read_type flat type ∷ entry_types_from flat types slots
-  of_slot (Virt site) = entry_types_from flat types slots
-  of_slot Unusable = entry_types_from flat types slots
+entry_types_from flat (type ∷ types) (slot ∷ slots) =
+    entry_types_by slot (read_type flat type) (entry_types_from flat types slots)
 
 -- ---- the frame
 
