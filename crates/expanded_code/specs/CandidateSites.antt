@@ -47,8 +47,8 @@ pub record StoresFinal (classes : Classes) (flat : FlatCode) (field : Declared) 
       (Some field)
   pub final : IsTrue (has field.member.flags FINAL)
 
--- Sites increase by point, and no method that stands in for a call is the host's. Where the code stores into a final field of a candidate's
--- chain, it has a site of a class whose chain has the field's class: the field's flag is cleared for flat code and written code alike.
+-- The host may be rewritten, and sites increase by point. Where the code stores into a final field of a candidate's chain, it has a site of a
+-- class whose chain has the field's class: so the field's flag is cleared for flat code and written code alike.
 pub record HasCandidateSites (classes : Classes) (flat : FlatCode) : Type 0 where
   pub host : ¬ IsNoHost classes flat.host
   pub sites : AllByRecursion (IsSite classes flat) flat.sites

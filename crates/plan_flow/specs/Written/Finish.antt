@@ -54,7 +54,7 @@ comes_to to (one ∷ others) =
 
 -- ---- the end of a block, by those behind it
 
--- the last block always ends by itself
+-- The last block always ends by itself. Whether a goto is written is decided before the block's own nop.
 abbrev pub empty_end : FlatCode → Block → List Finished → End
 empty_end flat block [] = no_end
 empty_end flat block (next ∷ others) =
