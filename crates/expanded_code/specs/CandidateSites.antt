@@ -24,7 +24,8 @@ use Rattle.member_link.specs.Signatures.{reference_of}
 pub record IsSite (classes : Classes) (flat : FlatCode) (site : Site) : Type 0 where
   pub point : Point
   pub there : point_at flat site.at ≡ Some point
-  pub class index : ℕ
+  pub class : ℕ
+  pub index : ℕ
   pub is_new : point.instr ≡ Of class (New index)
   pub file : ClassFile
   pub of_class : slice_get classes.folder class ≡ Some file
@@ -37,7 +38,8 @@ pub record StoresFinal (classes : Classes) (flat : FlatCode) (field : Declared) 
   pub number : ℕ
   pub point : Point
   pub there : point_at flat number ≡ Some point
-  pub class index : ℕ
+  pub class : ℕ
+  pub index : ℕ
   pub is_put : point.instr ≡ Of class (PutField index)
   pub file : ClassFile
   pub of_class : slice_get classes.folder class ≡ Some file
