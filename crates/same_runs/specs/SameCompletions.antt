@@ -8,7 +8,7 @@ use Rattle.member_link.specs.Machine.Programs.{Program}
 use Rattle.member_link.specs.Machine.Worlds.{Halt, Memory, is_begun}
 use Rattle.member_link.specs.References.{Reference}
 use Rattle.same_runs.specs.Renamings.{Names, NamesMore, SameUnit, SameValue, SameValues}
-use Rattle.same_runs.specs.SameMemories.{SameMemories}
+use Rattle.same_runs.specs.SameMemories.{Apart, SameMemories}
 
 -- the library is asked the same, of the same values
 pub data SameAsked (names : Names) : Asked → Asked → Type 0 where
@@ -31,31 +31,31 @@ pub data SameAsked (names : Names) : Asked → Asked → Type 0 where
       → SameAsked names (asks_float opcode ones) (asks_float opcode others)
 
 -- Both come to the same, under names that are perhaps more; or the second has to begin a class first that the first has begun.
-pub data SameCompletions (P : Program) (Allocated Entered : ℕ → ℕ → Type 0) (names : Names)
+pub data SameCompletions (P : Program) (Allocated Entered : ℕ → ℕ → Type 0) (apart : Apart) (names : Names)
     (one other : Memory)
     : Completion → Completion → Type 0 where
   both_give : {memory also : Memory} {ones others : List Value} (more : Names)
       → NamesMore names more
-      → SameMemories P Allocated Entered more [] memory also
+      → SameMemories P Allocated Entered apart more [] memory also
       → SameValues more ones others
-      → SameCompletions P Allocated Entered names one other (gives memory ones) (gives also others)
+      → SameCompletions P Allocated Entered apart names one other (gives memory ones) (gives also others)
   both_raise : {class : Name}
-      → SameCompletions P Allocated Entered names one other (raises class) (raises class)
+      → SameCompletions P Allocated Entered apart names one other (raises class) (raises class)
   both_throw : {reference named : ℕ}
       → names reference ≡ Some named
-      → SameCompletions P Allocated Entered names one other (throws reference) (throws named)
+      → SameCompletions P Allocated Entered apart names one other (throws reference) (throws named)
   both_begin : {class : ℕ}
       → IsFalse (is_begun one class)
-      → SameCompletions P Allocated Entered names one other (begins class) (begins class)
+      → SameCompletions P Allocated Entered apart names one other (begins class) (begins class)
   both_call : {at : MethodAt} {ones others : List Value}
       → SameValues names ones others
-      → SameCompletions P Allocated Entered names one other (calls at ones) (calls at others)
+      → SameCompletions P Allocated Entered apart names one other (calls at ones) (calls at others)
   both_ask : {asked also : Asked}
       → SameAsked names asked also
-      → SameCompletions P Allocated Entered names one other (asks asked) (asks also)
+      → SameCompletions P Allocated Entered apart names one other (asks asked) (asks also)
   both_end : {halt : Halt}
-      → SameCompletions P Allocated Entered names one other (ends halt) (ends halt)
+      → SameCompletions P Allocated Entered apart names one other (ends halt) (ends halt)
   begins_alone : {completion : Completion} {class : ℕ}
       → IsTrue (is_begun one class)
       → IsFalse (is_begun other class)
-      → SameCompletions P Allocated Entered names one other completion (begins class)
+      → SameCompletions P Allocated Entered apart names one other completion (begins class)

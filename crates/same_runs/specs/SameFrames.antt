@@ -10,7 +10,7 @@ use Rattle.member_link.specs.Machine.Performing.{Landing, is_initialiser, lands_
 use Rattle.member_link.specs.Machine.Programs.{Catch, Point, Program, RunMethod, point_at, run_method}
 use Rattle.member_link.specs.Machine.Worlds.{Memory}
 use Rattle.same_runs.specs.Renamings.{Names, NamesMore, SameHeld}
-use Rattle.same_runs.specs.SameMemories.{SameMemories}
+use Rattle.same_runs.specs.SameMemories.{Apart, SameMemories}
 
 -- ---- handlers
 
@@ -80,20 +80,20 @@ pub data Unwinds (P Q : Program) (SameFrames Lands : Names → List RunFrame →
 
 -- ---- where an object ends
 
-pub data SameLanding (P : Program) (Allocated Entered : ℕ → ℕ → Type 0)
+pub data SameLanding (P : Program) (Allocated Entered : ℕ → ℕ → Type 0) (apart : Apart)
     (SameFrames Lands : Names → List RunFrame → List RunFrame → Type 0) (names : Names)
     : Landing → Landing → Type 0 where
   both_catch : {memory also : Memory} {ones others : List RunFrame}
-      → SameMemories P Allocated Entered names [] memory also
+      → SameMemories P Allocated Entered apart names [] memory also
       → Lands names ones others
-      → SameLanding P Allocated Entered SameFrames Lands names (lands_in memory ones) (lands_in also others)
+      → SameLanding P Allocated Entered apart SameFrames Lands names (lands_in memory ones) (lands_in also others)
   both_reach_library : {memory also : Memory} {ones others : List RunFrame}
-      → SameMemories P Allocated Entered names [] memory also
+      → SameMemories P Allocated Entered apart names [] memory also
       → SameFrames names (Library None ∷ ones) (Library None ∷ others)
-      → SameLanding P Allocated Entered SameFrames Lands names
+      → SameLanding P Allocated Entered apart SameFrames Lands names
       (lands_in_library memory (Library None ∷ ones)) (lands_in_library also (Library None ∷ others))
   both_leave : {memory also : Memory} {ones others : List RunFrame}
-      → SameMemories P Allocated Entered names [] memory also
-      → SameLanding P Allocated Entered SameFrames Lands names (leaves_initialiser memory ones)
+      → SameMemories P Allocated Entered apart names [] memory also
+      → SameLanding P Allocated Entered apart SameFrames Lands names (leaves_initialiser memory ones)
       (leaves_initialiser also others)
-  both_nowhere : SameLanding P Allocated Entered SameFrames Lands names lands_nowhere lands_nowhere
+  both_nowhere : SameLanding P Allocated Entered apart SameFrames Lands names lands_nowhere lands_nowhere

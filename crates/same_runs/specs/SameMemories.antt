@@ -35,9 +35,19 @@ abbrev pub fresh_constant : Constant → Object
 fresh_constant constant =
     record { shape = External (class_of_constant constant) []; values = []; monitor = 0 }
 
+-- Objects of the first run that the second has not, by their references: what a theorem says of them itself.
+abbrev pub Apart : Type 0
+Apart = List (ℕ × Object)
+
+-- One of them is in the first heap exactly so. It has no name, and is no constant's.
+pub record StaysApart (names : Names) (heap : Heap) (apart : ℕ × Object) : Type 0 where
+  pub there : object_at heap apart.0 ≡ Some apart.1
+  pub unnamed : names apart.0 ≡ None
+  pub no_constant : (constant : Constant) → kept_in heap.constants constant ≡ Some apart.0 → ⊥
+
 -- A reference that has a name is that of the same object under its name. The second heap has no constant that the first has not; one that
--- the first alone has is as it was made.
-pub record SameHeaps (names : Names) (one other : Heap) : Type 0 where
+-- the first alone has is as it was made. Objects that are said to be apart stay in the first alone.
+pub record SameHeaps (apart : Apart) (names : Names) (one other : Heap) : Type 0 where
   pub renaming : IsRenaming names
   pub objects : (reference named : ℕ)
       → names reference ≡ Some named
@@ -60,6 +70,7 @@ pub record SameHeaps (names : Names) (one other : Heap) : Type 0 where
       → kept_in one.constants constant ≡ Some reference
       → names reference ≡ None
       → object_at one reference ≡ Some (fresh_constant constant)
+  pub stays : AllByRecursion (StaysApart names one) apart
 
 -- ---- classes that are begun
 
@@ -150,10 +161,10 @@ pub record IsComparison (Compares : ℕ → ℕ → Type 0) : Type 0 where
   pub both : (one other more : ℕ) → Compares one other → Compares (one + more) (other + more)
 
 -- The same memories: `now` has the classes whose beginnings stand on top of the first run alone.
-pub record SameMemories (P : Program) (Allocated Entered : ℕ → ℕ → Type 0) (names : Names)
+pub record SameMemories (P : Program) (Allocated Entered : ℕ → ℕ → Type 0) (apart : Apart) (names : Names)
     (now : List ℕ) (one other : Memory)
     : Type 0 where
-  pub heaps : SameHeaps names one.heap other.heap
+  pub heaps : SameHeaps apart names one.heap other.heap
   pub statics : SameStatics P names now one other
   pub allocations : Allocated one.allocations other.allocations
   pub entries : Entered one.entries other.entries

@@ -16,7 +16,7 @@ use Rattle.member_link.specs.Machine.Stepping.{is_library_turn}
 use Rattle.member_link.specs.Machine.Worlds.{World, going}
 use Rattle.same_runs.specs.Renamings.{Names, NamesMore, SameHeld, SameReferences, SameValues}
 use Rattle.same_runs.specs.SameFrames.{EndSame, Unwinds}
-use Rattle.same_runs.specs.SameMemories.{BeginsQuietly, SameMemories}
+use Rattle.same_runs.specs.SameMemories.{Apart, BeginsQuietly, SameMemories}
 
 -- how a theorem compares runs
 pub record Comparison : Type 1 where
@@ -25,6 +25,8 @@ pub record Comparison : Type 1 where
   pub entered : ℕ → ℕ → Type 0
   pub shows_allocated : ℕ → ℕ → Type 0
   pub shows_entered : ℕ → ℕ → Type 0
+  -- objects of the first run alone, of which frames speak
+  pub apart : Apart
   -- frames, under names
   pub frames : Names → List RunFrame → List RunFrame → Type 0
   pub lands : Names → List RunFrame → List RunFrame → Type 0
@@ -68,7 +70,7 @@ pub data SameAfter (P : Program) (c : Comparison) (names : Names) (one other : W
   both_go : (more : Names)
       → NamesMore names more
       → c.frames more one.frames other.frames
-      → SameMemories P c.allocated c.entered more [] one.memory other.memory
+      → SameMemories P c.allocated c.entered c.apart more [] one.memory other.memory
       → SameSeen c more one other
       → one.halt ≡ going
       → other.halt ≡ going
@@ -76,7 +78,7 @@ pub data SameAfter (P : Program) (c : Comparison) (names : Names) (one other : W
   both_landed : (more : Names)
       → NamesMore names more
       → c.lands more one.frames other.frames
-      → SameMemories P c.allocated c.entered more [] one.memory other.memory
+      → SameMemories P c.allocated c.entered c.apart more [] one.memory other.memory
       → SameSeen c more one other
       → one.halt ≡ going
       → other.halt ≡ going
@@ -87,7 +89,7 @@ pub data SameAfter (P : Program) (c : Comparison) (names : Names) (one other : W
       → is_library_turn rest ≡ false
       → BeginsQuietly P one.memory class
       → c.frames more one.frames rest
-      → SameMemories P c.allocated c.entered more [] one.memory other.memory
+      → SameMemories P c.allocated c.entered c.apart more [] one.memory other.memory
       → SameSeen c more one other
       → one.halt ≡ going
       → other.halt ≡ going

@@ -169,7 +169,7 @@ module _ (u : Setup) (basis : Basis u) (facts : FlatFacts u) {names : Names} {on
       → IsInert P class
       → IsFalse (is_begun one.world.memory class)
       → (turn P one ≡ record one { world = begun_on P class (counted one) (Method f ∷ rest) })
-      × SameMemories P (λ n m. n ≡ m) (λ n m. n ≡ m) names (class ∷ []) (begun_memory P class one.world.memory) other.world.memory
+      × SameMemories P (λ n m. n ≡ m) (λ n m. n ≡ m) [] names (class ∷ []) (begun_memory P class one.world.memory) other.world.memory
       → Keeps P Q (Related u) measure one other
   begins class found is_class inert none led =
       alone_keeps u basis {later = weight P (begun_memory P class one.world.memory) (class ∷ []) (length in_flat.chain)} at_once led.0

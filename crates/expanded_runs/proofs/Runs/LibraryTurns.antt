@@ -45,8 +45,8 @@ module _ (u : Setup) (basis : Basis u) (facts : FlatFacts u) (parts : LibraryPar
   abbrev Q : Program
   Q = after u
 
-  memories : SameMemories P (λ n m. n ≡ m) (λ n m. n ≡ m) t.names [] one.world.memory other.world.memory
-  memories = subst (λ (now : List ℕ). SameMemories P (λ n m. n ≡ m) (λ n m. n ≡ m) t.names now one.world.memory other.world.memory) none t.memories
+  memories : SameMemories P (λ n m. n ≡ m) (λ n m. n ≡ m) [] t.names [] one.world.memory other.world.memory
+  memories = subst (λ (now : List ℕ). SameMemories P (λ n m. n ≡ m) (λ n m. n ≡ m) [] t.names now one.world.memory other.world.memory) none t.memories
 
   -- ---- the library's turn
 

@@ -87,7 +87,7 @@ pub record AtMethod (u : Setup) (names : Names) (one other : Run) (f g : MethodS
     : Type 0 where
   pub stands : one.world.frames ≡ Method f ∷ rest
   pub stands_also : other.world.frames ≡ Method g ∷ others
-  pub memories : SameMemories (before u) (λ n m. n ≡ m) (λ n m. n ≡ m) names [] one.world.memory other.world.memory
+  pub memories : SameMemories (before u) (λ n m. n ≡ m) (λ n m. n ≡ m) [] names [] one.world.memory other.world.memory
   pub seen : SameSeen (comparison u) names one.world other.world
   pub goes : one.world.halt ≡ going
   pub goes_also : other.world.halt ≡ going

@@ -140,13 +140,14 @@ pub data SameTop (u : Setup) (names : Names) : List RunFrame → List RunFrame �
       → SameTop u names ones others
       → SameTop u names (Beginning class ∷ ones) (Beginning class ∷ others)
 
--- how runs are compared: counts are equal
+-- how runs are compared: counts are equal, and no object is apart
 abbrev pub comparison : Setup → Comparison
 comparison u = record {
   allocated = λ one other. one ≡ other;
   entered = λ one other. one ≡ other;
   shows_allocated = λ one other. one ≡ other;
   shows_entered = λ one other. one ≡ other;
+  apart = [];
   frames = SameTop u;
   lands = SameTop u;
 }

@@ -112,8 +112,8 @@ module _ (u : Setup) (parts : Parts u) where
   -- ---- one turn
 
   module _ {measure : ℕ} {one other : Run} (t : Together u measure one other) (none : t.now ≡ []) where
-    memories : SameMemories P (λ n m. n ≡ m) (λ n m. n ≡ m) t.names [] one.world.memory other.world.memory
-    memories = subst (λ (now : List ℕ). SameMemories P (λ n m. n ≡ m) (λ n m. n ≡ m) t.names now one.world.memory other.world.memory) none t.memories
+    memories : SameMemories P (λ n m. n ≡ m) (λ n m. n ≡ m) [] t.names [] one.world.memory other.world.memory
+    memories = subst (λ (now : List ℕ). SameMemories P (λ n m. n ≡ m) (λ n m. n ≡ m) [] t.names now one.world.memory other.world.memory) none t.memories
 
     stands : one.world.frames ≡ t.ones
     stands = t.stands ∙ ap (λ (now : List ℕ). map Beginning now ++ t.ones) none
@@ -277,7 +277,7 @@ module _ (u : Setup) (parts : Parts u) where
       has = λ constant reference kept. absurd (none-some constant kept);
     }
 
-    start_memories : SameMemories P (λ n m. n ≡ m) (λ n m. n ≡ m) none_named [] start.memory start.memory
+    start_memories : SameMemories P (λ n m. n ≡ m) (λ n m. n ≡ m) [] none_named [] start.memory start.memory
     start_memories = record {
       heaps = record {
         renaming = record { once = λ first second reference is also. absurd (none-some reference is) };
@@ -287,6 +287,7 @@ module _ (u : Setup) (parts : Parts u) where
         kept = λ constant named is. absurd (none-some named is);
         named = λ constant reference named kept is. absurd (none-some named is);
         fresh = λ constant reference kept none. absurd (none-some reference kept);
+        stays = tt;
       };
       statics = record {
         begun = λ class is. is;

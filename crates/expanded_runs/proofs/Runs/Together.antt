@@ -56,7 +56,7 @@ pub record Together (u : Setup) (measure : ℕ) (one other : Run) : Type 0 where
   pub frames : SameStanding u false names ones others
   pub alone : AllByRecursion (BeginsAlone (before u)) now
   pub no_turn : NoTurnBelow now ones
-  pub memories : SameMemories (before u) (λ n m. n ≡ m) (λ n m. n ≡ m) names now one.world.memory other.world.memory
+  pub memories : SameMemories (before u) (λ n m. n ≡ m) (λ n m. n ≡ m) [] names now one.world.memory other.world.memory
   pub seen : SameSeen (comparison u) names one.world other.world
   pub goes : one.world.halt ≡ going
   pub goes_also : other.world.halt ≡ going
@@ -134,7 +134,7 @@ module _ (u : Setup) (basis : Basis u) where
   -- ---- behind a turn of both
 
   together : (names : Names) (one other : Run) (frames : SameStanding u false names one.world.frames other.world.frames)
-      → SameMemories P (λ n m. n ≡ m) (λ n m. n ≡ m) names [] one.world.memory other.world.memory
+      → SameMemories P (λ n m. n ≡ m) (λ n m. n ≡ m) [] names [] one.world.memory other.world.memory
       → SameSeen (comparison u) names one.world other.world
       → one.world.halt ≡ going
       → other.world.halt ≡ going
@@ -266,8 +266,8 @@ module _ (u : Setup) (basis : Basis u) where
         here : BeginsAlone P class
         here = alone.0
 
-        memories : SameMemories P (λ n m. n ≡ m) (λ n m. n ≡ m) t.names (class ∷ now) one.world.memory other.world.memory
-        memories = subst (λ (classes : List ℕ). SameMemories P (λ n m. n ≡ m) (λ n m. n ≡ m) t.names classes one.world.memory other.world.memory) is t.memories
+        memories : SameMemories P (λ n m. n ≡ m) (λ n m. n ≡ m) [] t.names (class ∷ now) one.world.memory other.world.memory
+        memories = subst (λ (classes : List ℕ). SameMemories P (λ n m. n ≡ m) (λ n m. n ≡ m) [] t.names classes one.world.memory other.world.memory) is t.memories
 
         no_turn : is_library_turn t.ones ≡ false
         no_turn = subst (λ (classes : List ℕ). NoTurnBelow classes t.ones) is t.no_turn
@@ -282,7 +282,7 @@ module _ (u : Setup) (basis : Basis u) where
         typed : (w : World) → turn P one ≡ record one { world = w } → TypedWorld P u.typings w
         typed w turned = (turn_typed t.goes (ap is_library_turn stands) t.typed turned).0
 
-        by : AloneTurn P (λ n m. n ≡ m) (λ n m. n ≡ m) t.names now class rest one other.world.memory → Keeps P Q (Related u) measure one other
+        by : AloneTurn P (λ n m. n ≡ m) (λ n m. n ≡ m) [] t.names now class rest one other.world.memory → Keeps P Q (Related u) measure one other
         by (begins_deeper first found found_is inert none turned memories_then) =
             alone_keeps {later = weight P (begun_memory P first one.world.memory) (first ∷ class ∷ now) (depth t.frames)} at_once turned
             (let fewer = begins_fewer P P first found one.world.memory found_is none in omega (arith, fewer, low))

@@ -94,7 +94,7 @@ unless_fault_same {P = P} {c = c} {names = names} first second after also seen (
 
 module _ {P Q : Program} {c : Comparison} {names : Names} {first second : World} {made made_also : Option ℕ} {rest rest_also : List RunFrame}
     (same : SamePrograms P Q) (compares : Compares c)
-    (memories : SameMemories P c.allocated c.entered names [] first.memory second.memory) (seen : SameSeen c names first second)
+    (memories : SameMemories P c.allocated c.entered c.apart names [] first.memory second.memory) (seen : SameSeen c names first second)
     (goes : first.halt ≡ going) (goes_also : second.halt ≡ going)
     (is : first.frames ≡ Library made ∷ rest) (is_also : second.frames ≡ Library made_also ∷ rest_also)
     (at : AtLibrary P Q c names made made_also rest rest_also) where
@@ -194,7 +194,7 @@ module _ {P Q : Program} {c : Comparison} {names : Names} {first second : World}
 
   -- ---- objects that the library makes
 
-  shows_both : (new also : Made) → SameMade names first.memory.heap second.memory.heap new also
+  shows_both : (new also : Made) → SameMade c.apart names first.memory.heap second.memory.heap new also
       → After (shows_made P (record first { memory = with_heap first.memory new.heap }) new.reference)
       (shows_made Q (record second { memory = with_heap second.memory also.heap }) also.reference)
   shows_both new also both =
@@ -332,7 +332,7 @@ module _ {P Q : Program} {c : Comparison} {names : Names} {first second : World}
       → is_library_turn other.frames ≡ false
       → NamesMore names more
       → c.frames more one.frames other.frames
-      → SameMemories P c.allocated c.entered more [] one.memory other.memory
+      → SameMemories P c.allocated c.entered c.apart more [] one.memory other.memory
       → SameSeen c more one other
       → one.halt ≡ going
       → other.halt ≡ going
@@ -363,7 +363,7 @@ module _ {P Q : Program} {c : Comparison} {names : Names} {first second : World}
       → is_library_turn other.frames ≡ false
       → NamesMore names more
       → c.frames more one.frames other.frames
-      → SameMemories P c.allocated c.entered more [] one.memory other.memory
+      → SameMemories P c.allocated c.entered c.apart more [] one.memory other.memory
       → SameSeen c more one other
       → one.halt ≡ going
       → other.halt ≡ going
@@ -575,7 +575,7 @@ pub act_same :
     {P Q : Program} {c : Comparison} {names : Names} {first second : World} {made made_also : Option ℕ} {rest rest_also : List RunFrame}
     → SamePrograms P Q
     → Compares c
-    → SameMemories P c.allocated c.entered names [] first.memory second.memory
+    → SameMemories P c.allocated c.entered c.apart names [] first.memory second.memory
     → SameSeen c names first second
     → first.halt ≡ going
     → second.halt ≡ going

@@ -23,7 +23,7 @@ use Rattle.member_link.specs.Machine.Work.{arity, work}
 use Rattle.member_link.specs.Machine.Worlds.{Memory, going, is_begun, stuck}
 use Rattle.member_link.specs.References.{Reference}
 use Rattle.same_runs.specs.Renamings.{Names}
-use Rattle.same_runs.specs.SameMemories.{IsInert, SameMemories}
+use Rattle.same_runs.specs.SameMemories.{Apart, IsInert, SameMemories}
 use Rattle.same_runs.specs.Laws.BegunAlone.{first_begins}
 use Rattle.same_runs.specs.Laws.BegunClasses.{folder_class}
 use Rattle.same_runs.specs.Laws.BothBegin.{counted, turned_next, turned_past}
@@ -33,7 +33,7 @@ use Rattle.same_runs.specs.Laws.Operations.{WorksOnOperands, step_works}
 use Rattle.same_runs.specs.Laws.QuietBeginnings.{BeginAlike, IsUnbegun, begins_itself, begins_more, one_fewer, unbegun, unbegun_is}
 
 -- What the turn leads to: the memory of the second stands still.
-pub data AloneTurn (P : Program) (Allocated Entered : ℕ → ℕ → Type 0) (names : Names) (now : List ℕ) (class : ℕ) (rest : List RunFrame)
+pub data AloneTurn (P : Program) (Allocated Entered : ℕ → ℕ → Type 0) (apart : Apart) (names : Names) (now : List ℕ) (class : ℕ) (rest : List RunFrame)
     (one : Run) (other : Memory)
     : Type 0 where
   begins_deeper : (first : ℕ) (found : RunClass)
@@ -41,28 +41,28 @@ pub data AloneTurn (P : Program) (Allocated Entered : ℕ → ℕ → Type 0) (n
       → IsInert P first
       → IsFalse (is_begun one.world.memory first)
       → turn P one ≡ record one { world = begun_on P first (counted one) (Beginning class ∷ rest) }
-      → SameMemories P Allocated Entered names (first ∷ class ∷ now) (begun_memory P first one.world.memory) other
-      → AloneTurn P Allocated Entered names now class rest one other
+      → SameMemories P Allocated Entered apart names (first ∷ class ∷ now) (begun_memory P first one.world.memory) other
+      → AloneTurn P Allocated Entered apart names now class rest one other
   is_over :
       turn P one ≡ record one { world = record (counted one) { frames = rest } }
-      → SameMemories P Allocated Entered names now one.world.memory other
-      → AloneTurn P Allocated Entered names now class rest one other
+      → SameMemories P Allocated Entered apart names now one.world.memory other
+      → AloneTurn P Allocated Entered apart names now class rest one other
 
 -- a turn of a beginning of the first alone, of a class of the folder with nothing to run
 pub beginning_alone :
-    {P Q : Program} {Allocated Entered : ℕ → ℕ → Type 0} {names : Names} {now : List ℕ} {one : Run} {other : Memory} (class : ℕ)
+    {P Q : Program} {Allocated Entered : ℕ → ℕ → Type 0} {apart : Apart} {names : Names} {now : List ℕ} {one : Run} {other : Memory} (class : ℕ)
     (rest : List RunFrame) (found : RunClass)
     → BeginAlike P Q
     → one.world.halt ≡ going
     → one.world.frames ≡ Beginning class ∷ rest
     → slice_get P.classes class ≡ Some found
     → IsInert P class
-    → SameMemories P Allocated Entered names (class ∷ now) one.world.memory other
-    → AloneTurn P Allocated Entered names now class rest one other
-beginning_alone {P = P} {Allocated = Allocated} {Entered = Entered} {names = names} {now = now} {one = one} {other = other} class rest found
+    → SameMemories P Allocated Entered apart names (class ∷ now) one.world.memory other
+    → AloneTurn P Allocated Entered apart names now class rest one other
+beginning_alone {P = P} {Allocated = Allocated} {Entered = Entered} {apart = apart} {names = names} {now = now} {one = one} {other = other} class rest found
     alike goes stands is inert memories = by (first_unbegun P one.world.memory (come_first P found.header)) refl where
       by : (next : Option ℕ) → first_unbegun P one.world.memory (come_first P found.header) ≡ next
-          → AloneTurn P Allocated Entered names now class rest one other
+          → AloneTurn P Allocated Entered apart names now class rest one other
       by None none =
           is_over (turned_past P one class rest found None goes stands is none (inert class (alike.itself (name_of_class P class))))
           (first_is_over class (first_has_begun P one.world.memory class found is none) memories)
@@ -82,7 +82,7 @@ beginning_alone {P = P} {Allocated = Allocated} {Entered = Entered} {names = nam
 
 -- an operation of the first alone, whose class has nothing to run
 pub operation_begins_alone :
-    {P : Program} {Allocated Entered : ℕ → ℕ → Type 0} {names : Names} {now : List ℕ} {other : Memory} {rest : List RunFrame}
+    {P : Program} {Allocated Entered : ℕ → ℕ → Type 0} {apart : Apart} {names : Names} {now : List ℕ} {other : Memory} {rest : List RunFrame}
     (one : Run) (f : MethodState) (point : Point) (class : ℕ)
     → one.world.halt ≡ going
     → one.world.frames ≡ Method f ∷ rest
@@ -92,9 +92,9 @@ pub operation_begins_alone :
     → work P one.world.memory point.op (operands_of (arity point.op) f) ≡ begins class
     → IsFalse (is_begun one.world.memory class)
     → IsInert P class
-    → SameMemories P Allocated Entered names now one.world.memory other
+    → SameMemories P Allocated Entered apart names now one.world.memory other
     → (turn P one ≡ record one { world = begun_on P class (counted one) (Method f ∷ rest) })
-    × SameMemories P Allocated Entered names (class ∷ now) (begun_memory P class one.world.memory) other
+    × SameMemories P Allocated Entered apart names (class ∷ now) (begun_memory P class one.world.memory) other
 operation_begins_alone {P = P} {rest = rest} one f point class goes stands is works enough begins_it none inert memories = (
   turned_by_work P one f rest point goes stands is (step_works P f rest point.op works) enough
       ∙ ap (λ (completion : Completion). record one { world = perform P (counted one) f (less (arity point.op) f) rest completion })

@@ -11,7 +11,7 @@ use Rattle.member_link.specs.Machine.Worlds.{Memory}
 use Rattle.member_link.specs.Rows.ArithmeticRows.{Operation}
 use Rattle.same_runs.specs.Renamings.{Names, same_int, same_long, same_float, same_double, same_null, same_reference, SameValues, no_values, and_value}
 use Rattle.same_runs.specs.SameCompletions.{same_compute, SameCompletions, both_ask, both_end, both_raise}
-use Rattle.same_runs.specs.SameMemories.{SameMemories}
+use Rattle.same_runs.specs.SameMemories.{Apart, SameMemories}
 use Rattle.same_runs.specs.SamePrograms.{IsNoReference, SamePrograms}
 use Rattle.same_runs.specs.Laws.OperandWork.{gives_value, itself, kind_same}
 
@@ -138,10 +138,10 @@ zero_same (and_value same_double rest) = refl
 zero_same (and_value same_null rest) = refl
 zero_same (and_value (same_reference is) rest) = refl
 
-module _ {P Q : Program} {Allocated Entered : ℕ → ℕ → Type 0} {names : Names} {one other : Memory}
-    (same : SamePrograms P Q) (memories : SameMemories P Allocated Entered names [] one other) where
+module _ {P Q : Program} {Allocated Entered : ℕ → ℕ → Type 0} {apart : Apart} {names : Names} {one other : Memory}
+    (same : SamePrograms P Q) (memories : SameMemories P Allocated Entered apart names [] one other) where
   abbrev Both : Completion → Completion → Type 0
-  Both completion also = SameCompletions P Allocated Entered names one other completion also
+  Both completion also = SameCompletions P Allocated Entered apart names one other completion also
 
   result_given : {result also : Option Value} → SameResult result also → Both (of_result one result) (of_result other also)
   result_given no_result = both_end

@@ -16,7 +16,7 @@ use Rattle.member_link.specs.Machine.Shapes.{component_named, is_instance}
 use Rattle.member_link.specs.Machine.Worlds.{Memory, array_too_long}
 use Rattle.same_runs.specs.Renamings.{Names, NamesMore, SameObject, SameValue, same_int, same_long, same_float, same_double, same_null, same_reference, SameValues, no_values, and_value}
 use Rattle.same_runs.specs.SameCompletions.{SameCompletions, both_end, both_give, both_raise}
-use Rattle.same_runs.specs.SameMemories.{IsComparison, SameHeaps, SameMemories}
+use Rattle.same_runs.specs.SameMemories.{Apart, IsComparison, SameHeaps, SameMemories}
 use Rattle.same_runs.specs.SamePrograms.{SamePrograms}
 use Rattle.same_runs.specs.Laws.FieldWork.{allocates, blank_itself, narrowed_same, value_at}
 use Rattle.same_runs.specs.Laws.Heaps.{both_write, value_constants}
@@ -35,26 +35,26 @@ blanks names desc (suc count) = and_value (blank_itself names desc) (blanks name
 
 -- ---- arrays that are made in both
 
-pub record SameElements (names : Names) (one other : Heap) (made also : MadeElements) : Type 0 where
+pub record SameElements (apart : Apart) (names : Names) (one other : Heap) (made also : MadeElements) : Type 0 where
   pub more : Names
   pub grows : NamesMore names more
-  pub heaps : SameHeaps more made.heap also.heap
+  pub heaps : SameHeaps apart more made.heap also.heap
   pub are : SameValues more made.values also.values
   pub constants : made.heap.constants ≡ one.constants
 
-pub blank_both : {names : Names} {one other : Heap} → SameHeaps names one other → (desc : Name) (count : ℕ)
-    → SameMade names one other (blank_array one desc count) (blank_array other desc count)
+pub blank_both : {apart : Apart} {names : Names} {one other : Heap} → SameHeaps apart names one other → (desc : Name) (count : ℕ)
+    → SameMade apart names one other (blank_array one desc count) (blank_array other desc count)
 blank_both {names = names} same desc count = made_both same (shapes.Array desc count) _ _ (blanks names (component_text desc) count)
 
 -- what makes one in both, under any names
 abbrev MakesBoth : (Heap → Made) → Type 0
-MakesBoth make = (names : Names) (one other : Heap) → SameHeaps names one other → SameMade names one other (make one) (make other)
+MakesBoth make = (apart : Apart) (names : Names) (one other : Heap) → SameHeaps apart names one other → SameMade apart names one other (make one) (make other)
 
-times_both : (make : Heap → Made) → MakesBoth make → (count : ℕ) {names : Names} {one other : Heap} → SameHeaps names one other
-    → SameElements names one other (made_times make count one) (made_times make count other)
+times_both : (make : Heap → Made) → MakesBoth make → (count : ℕ) {apart : Apart} {names : Names} {one other : Heap} → SameHeaps apart names one other
+    → SameElements apart names one other (made_times make count one) (made_times make count other)
 times_both make both zero {names = names} same = record { more = names; grows = names_themselves names; heaps = same; are = no_values; constants = refl }
-times_both make both (suc count) {names = names} {one = one} {other = other} same =
-    let first = both names one other same in
+times_both make both (suc count) {apart = apart} {names = names} {one = one} {other = other} same =
+    let first = both apart names one other same in
     let rest = times_both make both count first.heaps in
     record {
       more = rest.more;
@@ -65,8 +65,8 @@ times_both make both (suc count) {names = names} {one = one} {other = other} sam
     }
 
 nested_both : (desc : Name) (count : ℕ) (counts : List ℕ) → MakesBoth (nested desc count counts)
-nested_both desc count [] names one other same = blank_both same desc count
-nested_both desc count (next ∷ counts) names one other same =
+nested_both desc count [] apart names one other same = blank_both same desc count
+nested_both desc count (next ∷ counts) apart names one other same =
     let elements = times_both (nested (component_text desc) next counts) (nested_both (component_text desc) next counts) count same in
     let made = made_both elements.heaps (shapes.Array desc count) _ _ elements.are in
     record {
@@ -98,10 +98,10 @@ stores_same number same_double = refl
 stores_same number same_null = refl
 stores_same number (same_reference is) = refl
 
-module _ {P Q : Program} {Allocated Entered : ℕ → ℕ → Type 0} {names : Names} {one other : Memory}
-    (same : SamePrograms P Q) (memories : SameMemories P Allocated Entered names [] one other) where
+module _ {P Q : Program} {Allocated Entered : ℕ → ℕ → Type 0} {apart : Apart} {names : Names} {one other : Memory}
+    (same : SamePrograms P Q) (memories : SameMemories P Allocated Entered apart names [] one other) where
   abbrev Both : Completion → Completion → Type 0
-  Both completion also = SameCompletions P Allocated Entered names one other completion also
+  Both completion also = SameCompletions P Allocated Entered apart names one other completion also
 
   pub makes_array : IsComparison Allocated → (desc : Name) {ones others : List Value} → SameValues names ones others
       → Both (new_array_work one desc ones) (new_array_work other desc others)
@@ -126,7 +126,7 @@ module _ {P Q : Program} {Allocated Entered : ℕ → ℕ → Type 0} {names : N
     by false = allocates same memories compares (shapes.Array desc count) _ _ 1
         (blanks (named_too names (length one.heap.objects) (length other.heap.objects)) (component_text desc) count)
 
-  gives_made : IsComparison Allocated → (made also : Made) (more : ℕ) → SameMade names one.heap other.heap made also
+  gives_made : IsComparison Allocated → (made also : Made) (more : ℕ) → SameMade apart names one.heap other.heap made also
       → Both (gives (record one { heap = made.heap; allocations = one.allocations + more }) (values.Ref made.reference ∷ []))
       (gives (record other { heap = also.heap; allocations = other.allocations + more }) (values.Ref also.reference ∷ []))
   gives_made compares made also more both =
@@ -154,7 +154,7 @@ module _ {P Q : Program} {Allocated Entered : ℕ → ℕ → Type 0} {names : N
         }) (values.Ref (nested desc count counts other.heap).reference ∷ []))
     by true = both_end
     by false = gives_made compares _ _ (arrays_made (count ∷ counts))
-        (nested_both desc count counts names one.heap other.heap memories.heaps)
+        (nested_both desc count counts _ names one.heap other.heap memories.heaps)
 
   pub makes_arrays : IsComparison Allocated → (desc : Name) {ones others : List Value} → SameValues names ones others
       → Both (new_arrays_work one desc ones) (new_arrays_work other desc others)

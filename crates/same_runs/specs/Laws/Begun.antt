@@ -8,7 +8,7 @@ use Rattle.member_link.specs.Machine.Beginnings.{begun_memory, starts_of, with_s
 use Rattle.member_link.specs.Machine.Programs.{Program, RunClass, StartValue, StaticStart, start_string, start_value}
 use Rattle.member_link.specs.Machine.Worlds.{Memory, field_desc, is_begun, static_value}
 use Rattle.same_runs.specs.Renamings.{Names, NamesMore, SameValue, same_reference}
-use Rattle.same_runs.specs.SameMemories.{HasFirstBegun, SameMemories}
+use Rattle.same_runs.specs.SameMemories.{Apart, HasFirstBegun, SameMemories}
 use Rattle.same_runs.specs.SamePrograms.{IsPlainStart, SamePrograms}
 use Rattle.same_runs.specs.Laws.Constants.{both_have}
 use Rattle.same_runs.specs.Laws.FieldWork.{blank_itself, narrowed_same, put_both}
@@ -96,12 +96,12 @@ module _ {P Q : Program} (same : SamePrograms P Q) where
     by (Some one) None is is_also impossible = elim impossible [ ]
     by (Some one) (Some other) is is_also (at_both alike) = rw (is) alike.plain_starts
 
-module _ {P Q : Program} {Allocated Entered : ℕ → ℕ → Type 0} (same : SamePrograms P Q) where
+module _ {P Q : Program} {Allocated Entered : ℕ → ℕ → Type 0} {apart : Apart} (same : SamePrograms P Q) where
   -- ---- in both
 
   mark_both : {names : Names} {now : List ℕ} {one other : Memory} (class : ℕ) → IsFalse (is_begun one class)
-      → SameMemories P Allocated Entered names now one other
-      → SameMemories P Allocated Entered names now (marked one class) (marked other class)
+      → SameMemories P Allocated Entered apart names now one other
+      → SameMemories P Allocated Entered apart names now (marked one class) (marked other class)
   mark_both {names = names} {now = now} {one = one} {other = other} class none memories = record {
     heaps = memories.heaps;
     statics = record {
@@ -150,13 +150,13 @@ module _ {P Q : Program} {Allocated Entered : ℕ → ℕ → Type 0} (same : Sa
       {names : Names} {one other : Memory} (class : ℕ) (start : StaticStart)
       → IsPlainStart start
       → IsTrue (is_begun other class)
-      → SameMemories P Allocated Entered names [] one other
+      → SameMemories P Allocated Entered apart names [] one other
       → (more : Names) × NamesMore names more
-      × SameMemories P Allocated Entered more [] (with_start P class one start) (with_start Q class other start)
+      × SameMemories P Allocated Entered apart more [] (with_start P class one start) (with_start Q class other start)
   start_both {names = names} {one = one} {other = other} class start plain begun memories = by start.value refl plain where
     by : (value : StartValue) → start.value ≡ value → IsPlainStart (record start { value = value })
         → (more : Names) × NamesMore names more
-        × SameMemories P Allocated Entered more [] (with_start P class one start) (with_start Q class other start)
+        × SameMemories P Allocated Entered apart more [] (with_start P class one start) (with_start Q class other start)
     by (start_value value) is plain_value = (
       names,
       names_themselves names,
@@ -178,9 +178,9 @@ module _ {P Q : Program} {Allocated Entered : ℕ → ℕ → Type 0} (same : Sa
       (class : ℕ) (starts : List StaticStart) (names : Names) (one other : Memory)
       → AllByRecursion IsPlainStart starts
       → IsTrue (is_begun other class)
-      → SameMemories P Allocated Entered names [] one other
+      → SameMemories P Allocated Entered apart names [] one other
       → (more : Names) × NamesMore names more
-      × SameMemories P Allocated Entered more [] (with_starts P class one starts) (with_starts Q class other starts)
+      × SameMemories P Allocated Entered apart more [] (with_starts P class one starts) (with_starts Q class other starts)
   starts_both class [] names one other plain begun memories = (names, names_themselves names, memories)
   starts_both class (start ∷ starts) names one other plain begun memories =
       let first = start_both class start plain.0 begun memories in
@@ -192,12 +192,12 @@ module _ {P Q : Program} {Allocated Entered : ℕ → ℕ → Type 0} (same : Sa
   pub begin_both :
       {names : Names} {one other : Memory} (class : ℕ)
       → IsFalse (is_begun one class)
-      → SameMemories P Allocated Entered names [] one other
+      → SameMemories P Allocated Entered apart names [] one other
       → (more : Names) × NamesMore names more
-      × SameMemories P Allocated Entered more [] (begun_memory P class one) (begun_memory Q class other)
+      × SameMemories P Allocated Entered apart more [] (begun_memory P class one) (begun_memory Q class other)
   begin_both {names = names} {one = one} {other = other} class none memories =
       subst (λ (starts : List StaticStart). (more : Names) × NamesMore names more
-      × SameMemories P Allocated Entered more [] (begun_memory P class one) (with_starts Q class (marked other class) starts))
+      × SameMemories P Allocated Entered apart more [] (begun_memory P class one) (with_starts Q class (marked other class) starts))
       (sym (same_starts same class))
       (starts_both class (starts_of P class) names (marked one class) (marked other class) (plain_starts same class)
       (marked_itself other class) (mark_both class none memories))

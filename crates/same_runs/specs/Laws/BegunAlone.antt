@@ -12,7 +12,7 @@ use Rattle.member_link.specs.Machine.Beginnings.{begun_memory, starts_of, with_s
 use Rattle.member_link.specs.Machine.Programs.{Program, StartValue, StaticStart, start_string, start_value}
 use Rattle.member_link.specs.Machine.Worlds.{Memory, field_desc, is_begun, static_value, written_static}
 use Rattle.same_runs.specs.Renamings.{Names, NamesMore, SameUnit, no_value, has_value, SameValue, same_reference}
-use Rattle.same_runs.specs.SameMemories.{IsAsBegun, IsBegunAlone, IsInert, IsKeptStart, SameHeaps, SameMemories, start_in, started}
+use Rattle.same_runs.specs.SameMemories.{Apart, IsAsBegun, IsBegunAlone, IsInert, IsKeptStart, SameHeaps, SameMemories, start_in, started}
 use Rattle.same_runs.specs.SamePrograms.{IsPlainStart, SamePrograms}
 use Rattle.same_runs.specs.Laws.Begun.{first_still, marked, marked_cases, marked_still, plain_starts, same_starts, start_begun, unmarked}
 use Rattle.same_runs.specs.Laws.Constants.{SameConstant, both_have, first_has, made_kept}
@@ -66,23 +66,23 @@ differs class at differ = ne_eqb class at differ
 
 -- ---- in the first alone
 
-heap_first : {names : Names} (R : Program) (class : ℕ) (memory : Memory) (starts : List StaticStart) (other : Heap)
-    → SameHeaps names memory.heap other → SameHeaps names (with_starts R class memory starts).heap other
+heap_first : {apart : Apart} {names : Names} (R : Program) (class : ℕ) (memory : Memory) (starts : List StaticStart) (other : Heap)
+    → SameHeaps apart names memory.heap other → SameHeaps apart names (with_starts R class memory starts).heap other
 heap_first R class memory [] other same = same
-heap_first {names = names} R class memory (start ∷ starts) other same = heap_first R class
+heap_first {apart = apart} {names = names} R class memory (start ∷ starts) other same = heap_first R class
     (with_start R class memory start) starts other (by start.value refl) where
-      by : (value : StartValue) → start.value ≡ value → SameHeaps names (with_start R class memory start).heap other
+      by : (value : StartValue) → start.value ≡ value → SameHeaps apart names (with_start R class memory start).heap other
       by (start_value value) is = rw (is) same
       by (start_string text) is = rw (is) (first_has same (Str text))
 
 -- An inert class begins in the first run alone: its beginning is then on top there.
 pub first_begins :
-    {P : Program} {Allocated Entered : ℕ → ℕ → Type 0} {names : Names} {now : List ℕ} {one other : Memory} (class : ℕ)
+    {P : Program} {Allocated Entered : ℕ → ℕ → Type 0} {apart : Apart} {names : Names} {now : List ℕ} {one other : Memory} (class : ℕ)
     → IsFalse (is_begun one class)
     → IsInert P class
-    → SameMemories P Allocated Entered names now one other
-    → SameMemories P Allocated Entered names (class ∷ now) (begun_memory P class one) other
-first_begins {P = P} {Allocated = Allocated} {Entered = Entered} {names = names} {now = now} {one = one} {other = other} class none inert
+    → SameMemories P Allocated Entered apart names now one other
+    → SameMemories P Allocated Entered apart names (class ∷ now) (begun_memory P class one) other
+first_begins {P = P} {Allocated = Allocated} {Entered = Entered} {apart = apart} {names = names} {now = now} {one = one} {other = other} class none inert
     memories = record {
       heaps = heap_first P class (marked one class) (starts_of P class) other.heap memories.heaps;
       statics = record {
@@ -90,7 +90,7 @@ first_begins {P = P} {Allocated = Allocated} {Entered = Entered} {names = names}
             ∙ marked_still one class at (memories.statics.begun at is);
         values = λ at field is.
             subst (λ (written : Option Value). SameValue names (or_blank at field written) (static_value P other at field))
-            (sym (starts_leave P class (marked one class) (starts_of P class) at field (differs class at (apart at is))))
+            (sym (starts_leave P class (marked one class) (starts_of P class) at field (differs class at (is_other at is))))
             (memories.statics.values at field is);
         alone = λ at is none_also. elim (marked_cases one class at (sym (starts_begun P class at (marked one class) (starts_of P class))
             ∙ is)) [
@@ -112,8 +112,8 @@ first_begins {P = P} {Allocated = Allocated} {Entered = Entered} {names = names}
       or_blank at field None = blank_value (field_desc P at field)
       or_blank at field (Some value) = value
 
-      apart : (at : ℕ) → IsTrue (is_begun other at) → class ≡ at → ⊥
-      apart at is same_one = false≢true (sym none ∙ ap (is_begun one) same_one ∙ memories.statics.begun at is)
+      is_other : (at : ℕ) → IsTrue (is_begun other at) → class ≡ at → ⊥
+      is_other at is same_one = false≢true (sym none ∙ ap (is_begun one) same_one ∙ memories.statics.begun at is)
 
       keeps : KeepsConstants one.heap (begun_memory P class one).heap
       keeps = with_starts_keeps P class (marked one class) (starts_of P class)
@@ -154,35 +154,35 @@ first_begins {P = P} {Allocated = Allocated} {Entered = Entered} {names = names}
 -- ---- in the second, where the first has begun it before
 
 heap_second :
-    (R : Program) (class : ℕ) (memory : Memory) (starts : List StaticStart) (names : Names) (one : Heap)
+    {apart : Apart} (R : Program) (class : ℕ) (memory : Memory) (starts : List StaticStart) (names : Names) (one : Heap)
     → AllByRecursion (IsKeptStart one.constants) starts
-    → SameHeaps names one memory.heap
-    → (more : Names) × NamesMore names more × SameHeaps more one (with_starts R class memory starts).heap
+    → SameHeaps apart names one memory.heap
+    → (more : Names) × NamesMore names more × SameHeaps apart more one (with_starts R class memory starts).heap
 heap_second R class memory [] names one kept same = (names, names_themselves names, same)
-heap_second R class memory (start ∷ starts) names one kept same =
+heap_second {apart = apart} R class memory (start ∷ starts) names one kept same =
     let first = by start.value refl kept.0 in
     let rest = heap_second R class (with_start R class memory start) starts first.0 one kept.1 first.2 in
     (rest.0, more_and_more first.1 rest.1, rest.2) where
       by : (value : StartValue) → start.value ≡ value → IsSome (start_in one.constants value)
-          → (more : Names) × NamesMore names more × SameHeaps more one (with_start R class memory start).heap
+          → (more : Names) × NamesMore names more × SameHeaps apart more one (with_start R class memory start).heap
       by (start_value value) is some = (names, names_themselves names, rw (is) same)
       by (start_string text) is some = at_kept (kept_in one.constants (Str text)) refl some where
-        made : SameConstant names one memory.heap (Str text)
+        made : SameConstant apart names one memory.heap (Str text)
         made = both_have same (Str text)
 
         at_kept : (found : Option ℕ) → kept_in one.constants (Str text) ≡ found → IsSome (option_map values.Ref found)
-            → (more : Names) × NamesMore names more × SameHeaps more one (with_start R class memory start).heap
+            → (more : Names) × NamesMore names more × SameHeaps apart more one (with_start R class memory start).heap
         at_kept None none some = absurd (false≢true some)
         at_kept (Some reference) there some = (
           made.more,
           made.grows,
-          rw (is) (subst (λ (m : Made). SameHeaps made.more m.heap (constant_made memory.heap (Str text)).heap) (made_kept one
+          rw (is) (subst (λ (m : Made). SameHeaps apart made.more m.heap (constant_made memory.heap (Str text)).heap) (made_kept one
               (Str text) reference there) made.heaps),
         )
 
 -- what a field begins with, by the constants of both heaps
-start_units : {names : Names} {one other : Heap} (start : StaticStart) → IsPlainStart start
-    → IsSome (start_in other.constants start.value) → SameHeaps names one other
+start_units : {apart : Apart} {names : Names} {one other : Heap} (start : StaticStart) → IsPlainStart start
+    → IsSome (start_in other.constants start.value) → SameHeaps apart names one other
     → SameUnit names (start_in one.constants start.value) (start_in other.constants start.value)
 start_units {names = names} {one = one} {other = other} start plain some same = by start.value refl plain some where
   by : (value : StartValue) → start.value ≡ value → IsPlainStart (record start { value = value }) → IsSome (start_in other.constants value)
@@ -203,10 +203,10 @@ mapped_units desc (has_value same) = has_value (narrowed_same (type_of desc) sam
 
 -- what fields are set to, by the constants of both heaps
 started_units :
-    {names : Names} {one other : Heap} (R : Program) (class field : ℕ) (starts : List StaticStart)
+    {apart : Apart} {names : Names} {one other : Heap} (R : Program) (class field : ℕ) (starts : List StaticStart)
     → AllByRecursion IsPlainStart starts
     → AllByRecursion (IsKeptStart other.constants) starts
-    → SameHeaps names one other
+    → SameHeaps apart names one other
     → SameUnit names (started R class one.constants starts field) (started R class other.constants starts field)
 started_units R class field [] plain kept same = no_value
 started_units {names = names} {one = one} {other = other} R class field (start ∷ starts) plain kept same =
@@ -250,13 +250,13 @@ begun_alike {P = P} {Q = Q} same class memory =
 
 -- A class that the first has begun begins in the second.
 second_begins_it :
-    {P : Program} {Allocated Entered : ℕ → ℕ → Type 0} {names : Names} {now : List ℕ} {one other : Memory} (class : ℕ)
+    {P : Program} {Allocated Entered : ℕ → ℕ → Type 0} {apart : Apart} {names : Names} {now : List ℕ} {one other : Memory} (class : ℕ)
     → AllByRecursion IsPlainStart (starts_of P class)
     → IsTrue (is_begun one class)
     → IsFalse (is_begun other class)
-    → SameMemories P Allocated Entered names now one other
-    → (more : Names) × NamesMore names more × SameMemories P Allocated Entered more now one (begun_memory P class other)
-second_begins_it {P = P} {Allocated = Allocated} {Entered = Entered} {names = names} {now = now} {one = one} {other = other} class plain
+    → SameMemories P Allocated Entered apart names now one other
+    → (more : Names) × NamesMore names more × SameMemories P Allocated Entered apart more now one (begun_memory P class other)
+second_begins_it {P = P} {Allocated = Allocated} {Entered = Entered} {apart = apart} {names = names} {now = now} {one = one} {other = other} class plain
     begun none memories = (
       made.0,
       made.1,
@@ -269,7 +269,7 @@ second_begins_it {P = P} {Allocated = Allocated} {Entered = Entered} {names = na
           ];
           values = λ at field is. elim (cases at is) [
             | inl before ↦ subst (λ (written : Option Value). SameValue made.0 (static_value P one at field) (or_blank at field written))
-                (sym (starts_leave P class (marked other class) (starts_of P class) at field (differs class at (apart at before))))
+                (sym (starts_leave P class (marked other class) (starts_of P class) at field (differs class at (is_other at before))))
                 (value_more made.1 (memories.statics.values at field before))
             | inr same_one ↦ subst (λ (n : ℕ). SameValue made.0 (static_value P one n field) (static_value P later n field)) same_one
                 (values_here field)
@@ -293,7 +293,7 @@ second_begins_it {P = P} {Allocated = Allocated} {Entered = Entered} {names = na
       as_begun : IsAsBegun P one class
       as_begun = (memories.statics.alone class begun none).as_begun
 
-      made : (more : Names) × NamesMore names more × SameHeaps more one.heap later.heap
+      made : (more : Names) × NamesMore names more × SameHeaps apart more one.heap later.heap
       made = heap_second P class (marked other class) (starts_of P class) names one.heap as_begun.kept memories.heaps
 
       or_blank : ℕ → ℕ → Option Value → Value
@@ -306,8 +306,8 @@ second_begins_it {P = P} {Allocated = Allocated} {Entered = Entered} {names = na
       not_before : (at : ℕ) → IsFalse (is_begun later at) → IsFalse (is_begun other at) × ((class ≡ at) → ⊥)
       not_before at is = unmarked other class at (sym (starts_begun P class at (marked other class) (starts_of P class)) ∙ is)
 
-      apart : (at : ℕ) → IsTrue (is_begun other at) → class ≡ at → ⊥
-      apart at is same_one = false≢true (sym none ∙ ap (is_begun other) same_one ∙ is)
+      is_other : (at : ℕ) → IsTrue (is_begun other at) → class ≡ at → ⊥
+      is_other at is same_one = false≢true (sym none ∙ ap (is_begun other) same_one ∙ is)
 
       units_here : (field : ℕ) → SameUnit made.0 (started P class one.heap.constants (starts_of P class) field)
           (started P class later.heap.constants (starts_of P class) field)
@@ -339,15 +339,15 @@ second_begins_it {P = P} {Allocated = Allocated} {Entered = Entered} {names = na
 
 -- A class that the first has begun begins in the second: memories are then the same still, under names that are perhaps more.
 pub second_has_begun :
-    {P Q : Program} {Allocated Entered : ℕ → ℕ → Type 0} {names : Names} {now : List ℕ} {one other : Memory}
+    {P Q : Program} {Allocated Entered : ℕ → ℕ → Type 0} {apart : Apart} {names : Names} {now : List ℕ} {one other : Memory}
     → SamePrograms P Q
     → (class : ℕ)
     → IsTrue (is_begun one class)
     → IsFalse (is_begun other class)
-    → SameMemories P Allocated Entered names now one other
-    → (more : Names) × NamesMore names more × SameMemories P Allocated Entered more now one (begun_memory Q class other)
-second_has_begun {P = P} {Q = Q} {Allocated = Allocated} {Entered = Entered} {names = names} {now = now} {one = one} {other = other} same
+    → SameMemories P Allocated Entered apart names now one other
+    → (more : Names) × NamesMore names more × SameMemories P Allocated Entered apart more now one (begun_memory Q class other)
+second_has_begun {P = P} {Q = Q} {Allocated = Allocated} {Entered = Entered} {apart = apart} {names = names} {now = now} {one = one} {other = other} same
     class begun none memories =
-    subst (λ (m : Memory). (more : Names) × NamesMore names more × SameMemories P Allocated Entered more now one m) (sym
+    subst (λ (m : Memory). (more : Names) × NamesMore names more × SameMemories P Allocated Entered apart more now one m) (sym
     (begun_alike same class other))
     (second_begins_it class (plain_starts same class) begun none memories)

@@ -171,7 +171,7 @@ pub record AtBeginning (P Q : Program) (c : Comparison) (names : Names) (one oth
   pub goes_also : other.world.halt ≡ going
   pub stands : one.world.frames ≡ Beginning class ∷ rest
   pub stands_also : other.world.frames ≡ Beginning class ∷ others
-  pub memories : SameMemories P c.allocated c.entered names [] one.world.memory other.world.memory
+  pub memories : SameMemories P c.allocated c.entered c.apart names [] one.world.memory other.world.memory
   pub seen : SameSeen c names one.world other.world
   pub frames : BeginsOn P Q c names class rest others
 
@@ -219,7 +219,7 @@ module _ {P Q : Program} {c : Comparison} (same : SamePrograms P Q) (alike : Beg
         (record { known = references_more begun.1 at.seen.known; events = at.seen.events }) at.goes at.goes_also;
   } where
     begun : (more : Names) × NamesMore names more
-        × SameMemories P c.allocated c.entered more [] (begun_memory P first one.world.memory) (begun_memory Q first other.world.memory)
+        × SameMemories P c.allocated c.entered c.apart more [] (begun_memory P first one.world.memory) (begun_memory Q first other.world.memory)
     begun = begin_both same first none at.memories
 
   -- the beginning is over in both
@@ -261,7 +261,7 @@ module _ {P Q : Program} {c : Comparison} (same : SamePrograms P Q) (alike : Beg
   -- quiet turns of the second, and what both do then
   behind_quiet :
       {names : Names} {other : Run} (at : AtBeginning P Q c names one other class rest others)
-      (by : GoesBy P Q c.allocated c.entered names one.world.memory other other other.world.frames other.world.memory)
+      (by : GoesBy P Q c.allocated c.entered c.apart names one.world.memory other other other.world.frames other.world.memory)
       → (AtBeginning P Q c by.more one (standing other (Beginning class ∷ others) by.after by.steps) class rest others
       → BothTurn P Q c by.more one (standing other (Beginning class ∷ others) by.after by.steps))
       → BothTurn P Q c names one other
@@ -294,7 +294,7 @@ module _ {P Q : Program} {c : Comparison} (same : SamePrograms P Q) (alike : Beg
       → first_unbegun Q other.world.memory (come_first Q also.header) ≡ Some first
       → IsTrue (is_begun one.world.memory first)
       → IsFalse (is_begun other.world.memory first)
-      → (by : GoesBy P Q c.allocated c.entered names one.world.memory other other other.world.frames other.world.memory)
+      → (by : GoesBy P Q c.allocated c.entered c.apart names one.world.memory other other other.world.frames other.world.memory)
       × IsTrue (is_begun by.after first)
   next_goes_by {names = names} {other = other} also first at is_also next_also begun none =
       turn_goes_by first there.0 same alike at.goes_also (ap is_library_turn at.stands_also) turned there.1 begun none at.memories where
@@ -348,7 +348,7 @@ module _ {P Q : Program} {c : Comparison} (same : SamePrograms P Q) (alike : Beg
                 none : IsFalse (is_begun other.world.memory first)
                 none = (unbegun_is Q other.world.memory (come_first Q also.header) first e).none
 
-                quiet : (by : GoesBy P Q c.allocated c.entered names one.world.memory other other other.world.frames other.world.memory)
+                quiet : (by : GoesBy P Q c.allocated c.entered c.apart names one.world.memory other other other.world.frames other.world.memory)
                     × IsTrue (is_begun by.after first)
                 quiet = next_goes_by also first at is_also e begun none
 

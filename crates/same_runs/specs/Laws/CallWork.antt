@@ -24,7 +24,7 @@ use Rattle.member_link.specs.declared.selection.CallForm.{CallForm}
 use Rattle.member_link.specs.declared.selection.CallForm.TheVariants.{Virtual, Interface, Special}
 use Rattle.same_runs.specs.Renamings.{Names, SameValue, same_int, same_long, same_float, same_double, same_null, same_reference, SameValues, no_values, and_value}
 use Rattle.same_runs.specs.SameCompletions.{same_call, same_dynamic, SameCompletions, both_ask, both_call, both_end, both_raise}
-use Rattle.same_runs.specs.SameMemories.{SameMemories}
+use Rattle.same_runs.specs.SameMemories.{Apart, SameMemories}
 use Rattle.same_runs.specs.SamePrograms.{SamePrograms}
 use Rattle.same_runs.specs.Laws.FieldWork.{begun_both}
 use Rattle.same_runs.specs.Laws.Methods.{place_is, same_code, same_no_place, same_place}
@@ -152,10 +152,10 @@ module _ {P Q : Program} (same : SamePrograms P Q) where
       ap (λ (links : Links). links.select (class_of_shape Q shape) r form) same.links
       ∙ ap (λ (receiver : Name). P.links.select receiver r form) (same_class_of same shape)
 
-module _ {P Q : Program} {Allocated Entered : ℕ → ℕ → Type 0} {names : Names} {one other : Memory}
-    (same : SamePrograms P Q) (memories : SameMemories P Allocated Entered names [] one other) where
+module _ {P Q : Program} {Allocated Entered : ℕ → ℕ → Type 0} {apart : Apart} {names : Names} {one other : Memory}
+    (same : SamePrograms P Q) (memories : SameMemories P Allocated Entered apart names [] one other) where
   abbrev Both : Completion → Completion → Type 0
-  Both completion also = SameCompletions P Allocated Entered names one other completion also
+  Both completion also = SameCompletions P Allocated Entered apart names one other completion also
 
   -- ---- arguments
 

@@ -133,7 +133,7 @@ pub record AtOperation (P Q : Program) (c : Comparison) (names : Names) (one oth
   pub enough_also : nat_le (arity also.op) (length g.stack) ≡ true
   pub same : SameOp P Q point.op also.op
   pub operands : SameValues names (operands_of (arity point.op) f) (operands_of (arity also.op) g)
-  pub memories : SameMemories P c.allocated c.entered names [] one.world.memory other.world.memory
+  pub memories : SameMemories P c.allocated c.entered c.apart names [] one.world.memory other.world.memory
   pub seen : SameSeen c names one.world other.world
   pub frames : Goes P Q c names f (less (arity point.op) f) g (less (arity also.op) g) rest others
 
@@ -178,7 +178,7 @@ module _ {P Q : Program} {c : Comparison} (same : SamePrograms P Q) (alike : Beg
   -- quiet turns of the second, and what both do then
   behind_quiet :
       {names : Names} {other : Run} (at : AtOperation P Q c names one other f g rest others point also)
-      (by : GoesBy P Q c.allocated c.entered names one.world.memory other other other.world.frames other.world.memory)
+      (by : GoesBy P Q c.allocated c.entered c.apart names one.world.memory other other other.world.frames other.world.memory)
       → (AtOperation P Q c by.more one (standing other (Method g ∷ others) by.after by.steps) f g rest others point also
       → BothTurn P Q c by.more one (standing other (Method g ∷ others) by.after by.steps))
       → BothTurn P Q c names one other
@@ -227,7 +227,7 @@ module _ {P Q : Program} {c : Comparison} (same : SamePrograms P Q) (alike : Beg
     by again (inr turned) = turned
     by again (inl must) = behind_quiet at quiet.0
         (λ then. again quiet.0.more (standing other (Method g ∷ others) quiet.0.after quiet.0.steps) still_fewer then) where
-          quiet : (by : GoesBy P Q c.allocated c.entered names one.world.memory other other other.world.frames other.world.memory)
+          quiet : (by : GoesBy P Q c.allocated c.entered c.apart names one.world.memory other other other.world.frames other.world.memory)
               × IsTrue (is_begun by.after must.class)
           quiet = operation_goes_by g others also must.class same alike at.goes_also at.stands_also at.is_also at.works_also at.enough_also
               must.is must.begun must.begun_not at.memories

@@ -9,8 +9,8 @@ use Rattle.machine_values.specs.declared.object.Constant.TheVariants.{Str, Class
 use Rattle.machine_values.specs.declared.object.Object.{Object}
 use Rattle.machine_values.specs.declared.object.Shape.TheVariants.{External}
 use Rattle.same_runs.specs.Renamings.{Names, NamesMore, SameObject, no_values}
-use Rattle.same_runs.specs.SameMemories.{HasOwnConstants, SameHeaps, fresh_constant}
-use Rattle.same_runs.specs.Laws.Heaps.{both_allocate, first_allocates, new_no_name, new_unnamed, same_or_not}
+use Rattle.same_runs.specs.SameMemories.{Apart, HasOwnConstants, SameHeaps, StaysApart, fresh_constant}
+use Rattle.same_runs.specs.Laws.Heaps.{both_allocate, each_stays, first_allocates, new_no_name, new_unnamed, same_or_not}
 use Rattle.same_runs.specs.Laws.Names.{named_too, named_here, named_other, named_too_more, names_themselves, object_more}
 use Rattle.same_runs.specs.Laws.Objects.{get_old, get_new, none_at_end}
 
@@ -189,23 +189,23 @@ own_keeping heap constant none own = record {
 -- ---- both keep a constant, or one does
 
 -- a constant of both, under names that are perhaps more
-pub record SameConstant (names : Names) (one other : Heap) (constant : Constant) : Type 0 where
+pub record SameConstant (apart : Apart) (names : Names) (one other : Heap) (constant : Constant) : Type 0 where
   pub more : Names
   pub grows : NamesMore names more
-  pub heaps : SameHeaps more (constant_made one constant).heap (constant_made other constant).heap
+  pub heaps : SameHeaps apart more (constant_made one constant).heap (constant_made other constant).heap
   pub is : more (constant_made one constant).reference ≡ Some (constant_made other constant).reference
 
 -- the second keeps a constant that the first alone had
 second_keeps :
-    {names : Names} {one other : Heap}
-    → SameHeaps names one other
+    {apart : Apart} {names : Names} {one other : Heap}
+    → SameHeaps apart names one other
     → (constant : Constant) (reference : ℕ)
     → kept_in one.constants constant ≡ Some reference
     → kept_in other.constants constant ≡ None
     → names reference ≡ None
-    → SameHeaps (named_too names reference (length other.objects)) one (keeping other constant)
+    → SameHeaps apart (named_too names reference (length other.objects)) one (keeping other constant)
 unfolding keeping
-second_keeps {names = names} {one = one} {other = other} same constant reference is none unnamed = record {
+second_keeps {apart = apart} {names = names} {one = one} {other = other} same constant reference is none unnamed = record {
   renaming = record { once = once };
   objects = objects;
   own = same.own;
@@ -234,6 +234,7 @@ second_keeps {names = names} {one = one} {other = other} same constant reference
     | inl e ↦ absurd (none-some b (sym free ∙ ap more (sym e) ∙ named_here names reference b))
     | inr differ ↦ same.fresh also at has (sym (named_other names reference b at differ) ∙ free)
   ];
+  stays = each_stays still apart same.stays;
 } where
   b : ℕ
   b = length other.objects
@@ -243,6 +244,13 @@ second_keeps {names = names} {one = one} {other = other} same constant reference
 
   grows : NamesMore names more
   grows = named_too_more names reference b unnamed
+
+  still : (item : ℕ × Object) → StaysApart names one item → StaysApart more one item
+  still item stays = record {
+    there = stays.there;
+    unnamed = named_other names reference b item.0 (λ e. stays.no_constant constant (is ∙ ap Some e)) ∙ stays.unnamed;
+    no_constant = stays.no_constant;
+  }
 
   once : (first second at : ℕ) → more first ≡ Some at → more second ≡ Some at → first ≡ second
   once first second at has has_also = elim (same_or_not reference first) [
@@ -283,16 +291,31 @@ second_keeps {names = names} {one = one} {other = other} same constant reference
         (old.0, old.1, old.2, get_old other.objects (fresh_constant constant) named old.1 old.3, object_more grows old.4)
   ]
 
+-- where an object stands before, a new one does not
+before_end : (heap : Heap) (reference : ℕ) (object : Object) → object_at heap reference ≡ Some object
+    → length heap.objects ≡ reference → ⊥
+before_end heap reference object there same = none_at_end heap.objects object (ap (slice_get heap.objects) same ∙ there)
+
+-- an object that was no constant's is not that of a new one
+not_kept : (heap : Heap) (constant : Constant) (reference : ℕ) (object : Object) → object_at heap reference ≡ Some object
+    → ((also : Constant) → kept_in heap.constants also ≡ Some reference → ⊥)
+    → (also : Constant) → kept_in (keeping heap constant).constants also ≡ Some reference → ⊥
+unfolding keeping
+not_kept heap constant reference object there none also is = elim (kept_then heap.constants also constant (length heap.objects) reference is) [
+  | inl old ↦ none also old
+  | inr new ↦ before_end heap reference object there new.2
+]
+
 -- both keep a new one
 both_keep :
-    {names : Names} {one other : Heap}
-    → SameHeaps names one other
+    {apart : Apart} {names : Names} {one other : Heap}
+    → SameHeaps apart names one other
     → (constant : Constant)
     → kept_in one.constants constant ≡ None
     → kept_in other.constants constant ≡ None
-    → SameHeaps (named_too names (length one.objects) (length other.objects)) (keeping one constant) (keeping other constant)
+    → SameHeaps apart (named_too names (length one.objects) (length other.objects)) (keeping one constant) (keeping other constant)
 unfolding keeping
-both_keep {names = names} {one = one} {other = other} same constant none none_also = record {
+both_keep {apart = apart} {names = names} {one = one} {other = other} same constant none none_also = record {
   renaming = made.renaming;
   objects = made.objects;
   own = own_keeping one constant none same.own;
@@ -318,6 +341,7 @@ both_keep {names = names} {one = one} {other = other} same constant none none_al
     | inl old ↦ made.fresh also at old free
     | inr new ↦ absurd (none-some b (sym free ∙ ap (named_too names a b) (sym new.2) ∙ named_here names a b))
   ];
+  stays = each_stays still apart same.stays;
 } where
   a : ℕ
   a = length one.objects
@@ -325,29 +349,36 @@ both_keep {names = names} {one = one} {other = other} same constant none none_al
   b : ℕ
   b = length other.objects
 
-  made : SameHeaps (named_too names a b) (external one (class_of_constant constant)).heap (external other (class_of_constant constant)).heap
+  made : SameHeaps apart (named_too names a b) (external one (class_of_constant constant)).heap (external other (class_of_constant constant)).heap
   made = both_allocate same (External (class_of_constant constant) []) [] [] no_values
 
-abbrev AreMade : Names → Made → Made → Type 0
-AreMade names first second =
-    (more : Names) × NamesMore names more × SameHeaps more first.heap second.heap × (more first.reference ≡ Some second.reference)
+  still : (item : ℕ × Object) → StaysApart names one item → StaysApart (named_too names a b) (keeping one constant) item
+  still item stays = record {
+    there = get_old one.objects (fresh_constant constant) item.0 item.1 stays.there;
+    unnamed = named_other names a b item.0 (before_end one item.0 item.1 stays.there) ∙ stays.unnamed;
+    no_constant = not_kept one constant item.0 item.1 stays.there stays.no_constant;
+  }
+
+abbrev AreMade : Apart → Names → Made → Made → Type 0
+AreMade apart names first second =
+    (more : Names) × NamesMore names more × SameHeaps apart more first.heap second.heap × (more first.reference ≡ Some second.reference)
 
 pub both_have :
-    {names : Names} {one other : Heap}
-    → SameHeaps names one other
+    {apart : Apart} {names : Names} {one other : Heap}
+    → SameHeaps apart names one other
     → (constant : Constant)
-    → SameConstant names one other constant
-both_have {names = names} {one = one} {other = other} same constant = by (kept_in one.constants constant)
+    → SameConstant apart names one other constant
+both_have {apart = apart} {names = names} {one = one} {other = other} same constant = by (kept_in one.constants constant)
     (kept_in other.constants constant) refl refl where
-      finish : (first second : Made) → constant_made one constant ≡ first → constant_made other constant ≡ second → AreMade names first second
-          → SameConstant names one other constant
+      finish : (first second : Made) → constant_made one constant ≡ first → constant_made other constant ≡ second → AreMade apart names first second
+          → SameConstant apart names one other constant
       finish first second is is_also goal =
-          let at_first = subst (λ (m : Made). AreMade names m second) (sym is) goal in
-          let both = subst (λ (m : Made). AreMade names (constant_made one constant) m) (sym is_also) at_first in
+          let at_first = subst (λ (m : Made). AreMade apart names m second) (sym is) goal in
+          let both = subst (λ (m : Made). AreMade apart names (constant_made one constant) m) (sym is_also) at_first in
           record { more = both.0; grows = both.1; heaps = both.2; is = both.3 }
 
       by : (first second : Option ℕ) → kept_in one.constants constant ≡ first → kept_in other.constants constant ≡ second
-          → SameConstant names one other constant
+          → SameConstant apart names one other constant
       by (Some reference) (Some named) is is_also =
           let was = same.kept constant named is_also in
           let same_one : was.0 ≡ reference = same_Some was.0 reference (sym was.1 ∙ is) in
@@ -380,16 +411,16 @@ both_have {names = names} {one = one} {other = other} same constant = by (kept_i
 
 -- the first alone makes a constant, which has no name
 pub first_has :
-    {names : Names} {one other : Heap}
-    → SameHeaps names one other
+    {apart : Apart} {names : Names} {one other : Heap}
+    → SameHeaps apart names one other
     → (constant : Constant)
-    → SameHeaps names (constant_made one constant).heap other
+    → SameHeaps apart names (constant_made one constant).heap other
 unfolding keeping
-first_has {names = names} {one = one} {other = other} same constant = by (kept_in one.constants constant) refl where
-  made : SameHeaps names (external one (class_of_constant constant)).heap other
+first_has {apart = apart} {names = names} {one = one} {other = other} same constant = by (kept_in one.constants constant) refl where
+  made : SameHeaps apart names (external one (class_of_constant constant)).heap other
   made = first_allocates same (External (class_of_constant constant) []) []
 
-  kept_new : kept_in one.constants constant ≡ None → SameHeaps names (keeping one constant) other
+  kept_new : kept_in one.constants constant ≡ None → SameHeaps apart names (keeping one constant) other
   kept_new none = record {
     renaming = made.renaming;
     objects = made.objects;
@@ -408,11 +439,18 @@ first_has {names = names} {one = one} {other = other} same constant = by (kept_i
           subst (λ (c : Constant). object_at (keeping one constant) at ≡ Some (fresh_constant c)) new.1
           (ap (slice_get (one.objects ++ fresh_constant constant ∷ [])) (sym new.2) ∙ get_new one.objects (fresh_constant constant))
     ];
-  }
+    stays = each_stays still apart same.stays;
+  } where
+    still : (item : ℕ × Object) → StaysApart names one item → StaysApart names (keeping one constant) item
+    still item stays = record {
+      there = get_old one.objects (fresh_constant constant) item.0 item.1 stays.there;
+      unnamed = stays.unnamed;
+      no_constant = not_kept one constant item.0 item.1 stays.there stays.no_constant;
+    }
 
-  by : (found : Option ℕ) → kept_in one.constants constant ≡ found → SameHeaps names (constant_made one constant).heap other
-  by (Some reference) is = subst (λ (m : Made). SameHeaps names m.heap other) (sym (made_kept one constant reference is)) same
-  by None none = subst (λ (m : Made). SameHeaps names m.heap other) (sym (made_new one constant none)) (kept_new none)
+  by : (found : Option ℕ) → kept_in one.constants constant ≡ found → SameHeaps apart names (constant_made one constant).heap other
+  by (Some reference) is = subst (λ (m : Made). SameHeaps apart names m.heap other) (sym (made_kept one constant reference is)) same
+  by None none = subst (λ (m : Made). SameHeaps apart names m.heap other) (sym (made_new one constant none)) (kept_new none)
 
 -- what was kept is kept where a constant is made
 pub kept_by_made : (heap : Heap) (constant also : Constant) (reference : ℕ) → kept_in heap.constants also ≡ Some reference

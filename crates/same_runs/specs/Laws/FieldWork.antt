@@ -28,7 +28,7 @@ use Rattle.member_link.specs.Machine.Worlds.{Memory, is_begun, static_value, wit
 use Rattle.member_link.specs.References.{Reference}
 use Rattle.same_runs.specs.Renamings.{Names, SameObject, SameValue, same_int, same_long, same_float, same_double, same_null, same_reference, SameValues, no_values, and_value, no_value, has_value}
 use Rattle.same_runs.specs.SameCompletions.{same_get, same_put, SameCompletions, begins_alone, both_ask, both_begin, both_end, both_give, both_raise}
-use Rattle.same_runs.specs.SameMemories.{IsComparison, SameHeaps, SameMemories}
+use Rattle.same_runs.specs.SameMemories.{Apart, IsComparison, SameHeaps, SameMemories}
 use Rattle.same_runs.specs.SamePrograms.{IsNoReference, SamePrograms}
 use Rattle.same_runs.specs.Laws.Heaps.{both_allocate, both_write, new_unnamed, value_constants}
 use Rattle.same_runs.specs.Laws.Made.{SameMade, made_both}
@@ -89,18 +89,18 @@ blanks_themselves names [] = no_values
 blanks_themselves names (field ∷ fields) = and_value (blank_itself names field.desc) (blanks_themselves names fields)
 
 -- a blank object of a class of the folder is made in both
-pub blank_object_both : {P Q : Program} {names : Names} {one other : Heap} → SamePrograms P Q → SameHeaps names one other → (number : ℕ)
-    → SameMade names one other (blank_object P one number) (blank_object Q other number)
-blank_object_both {P = P} {Q = Q} {names = names} {one = one} {other = other} same heaps number =
-    subst (λ (blank : List Value). SameMade names one other (blank_object P one number) (allocated other (shapes.Folder number) blank))
+pub blank_object_both : {P Q : Program} {apart : Apart} {names : Names} {one other : Heap} → SamePrograms P Q → SameHeaps apart names one other → (number : ℕ)
+    → SameMade apart names one other (blank_object P one number) (blank_object Q other number)
+blank_object_both {P = P} {Q = Q} {apart = apart} {names = names} {one = one} {other = other} same heaps number =
+    subst (λ (blank : List Value). SameMade apart names one other (blank_object P one number) (allocated other (shapes.Folder number) blank))
     (sym (ap (λ (name : Name). blank_values (instance_fields (headers_in Q) name)) (same_name same number)
     ∙ same_blanks same (name_of_class P number)))
     (made_both heaps (shapes.Folder number) _ _ (blanks_themselves names (instance_fields (headers_in P) (name_of_class P number))))
 
-module _ {P Q : Program} {Allocated Entered : ℕ → ℕ → Type 0} {names : Names} {one other : Memory}
-    (same : SamePrograms P Q) (memories : SameMemories P Allocated Entered names [] one other) where
+module _ {P Q : Program} {Allocated Entered : ℕ → ℕ → Type 0} {apart : Apart} {names : Names} {one other : Memory}
+    (same : SamePrograms P Q) (memories : SameMemories P Allocated Entered apart names [] one other) where
   abbrev Both : Completion → Completion → Type 0
-  Both completion also = SameCompletions P Allocated Entered names one other completion also
+  Both completion also = SameCompletions P Allocated Entered apart names one other completion also
 
   -- ---- classes that are begun first
 
@@ -188,7 +188,7 @@ module _ {P Q : Program} {Allocated Entered : ℕ → ℕ → Type 0} {names : N
         (λ also is_also. subst (λ (n : ℕ). IsTrue (is_begun other n)) (same_Some number also (sym is ∙ is_also)) begun))))
 
   pub put_both : (class field : ℕ) {value also : Value} → IsTrue (is_begun other class) → SameValue names value also
-      → SameMemories P Allocated Entered names [] (with_static one class field value) (with_static other class field also)
+      → SameMemories P Allocated Entered apart names [] (with_static one class field value) (with_static other class field also)
   put_both class field {value = value} {also = also} begun is = record {
     heaps = memories.heaps;
     statics = record {

@@ -8,7 +8,7 @@ use Rattle.member_link.specs.Machine.Beginnings.{come_first, first_unbegun}
 use Rattle.member_link.specs.Machine.Programs.{Program, RunClass, folder_number, name_of_class, number_of_first}
 use Rattle.member_link.specs.Machine.Worlds.{Memory, is_begun}
 use Rattle.same_runs.specs.Renamings.{Names}
-use Rattle.same_runs.specs.SameMemories.{HasFirstBegun, IsBegunAlone, IsInert, SameMemories}
+use Rattle.same_runs.specs.SameMemories.{Apart, HasFirstBegun, IsBegunAlone, IsInert, SameMemories}
 use Rattle.same_runs.specs.Laws.QuietBeginnings.{BeginAlike, IsUnbegun, unbegun_is}
 
 -- ---- none is left
@@ -54,10 +54,10 @@ module _ (P : Program) (memory : Memory) where
 -- ---- a beginning is over
 
 -- A beginning of the first alone that is over: its class is none of those that are begun just now.
-pub first_is_over : {P : Program} {Allocated Entered : ℕ → ℕ → Type 0} {names : Names} {now : List ℕ} {one other : Memory} (class : ℕ)
+pub first_is_over : {P : Program} {Allocated Entered : ℕ → ℕ → Type 0} {apart : Apart} {names : Names} {now : List ℕ} {one other : Memory} (class : ℕ)
     → HasFirstBegun P one class
-    → SameMemories P Allocated Entered names (class ∷ now) one other
-    → SameMemories P Allocated Entered names now one other
+    → SameMemories P Allocated Entered apart names (class ∷ now) one other
+    → SameMemories P Allocated Entered apart names now one other
 first_is_over {P = P} {now = now} {one = one} class first memories = record {
   heaps = memories.heaps;
   statics = record {

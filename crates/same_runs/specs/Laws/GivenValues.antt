@@ -13,7 +13,7 @@ use Rattle.member_link.specs.Machine.Programs.{Program}
 use Rattle.member_link.specs.Machine.Shapes.{value_conforms}
 use Rattle.member_link.specs.Machine.Worlds.{Memory, World}
 use Rattle.same_runs.specs.Renamings.{Names, SameReferences, no_references, and_reference, SameUnit, no_value, has_value, SameObject, SameValue, same_int, same_long, same_float, same_double, same_null, same_reference, SameValues, no_values, and_value}
-use Rattle.same_runs.specs.SameMemories.{SameMemories}
+use Rattle.same_runs.specs.SameMemories.{Apart, SameMemories}
 use Rattle.same_runs.specs.SamePrograms.{SamePrograms}
 use Rattle.same_runs.specs.Laws.FieldWork.{conforms_same}
 use Rattle.same_runs.specs.Laws.OperandWork.{kind_same}
@@ -68,8 +68,8 @@ values_given {names = names} {ones = ones} {others = others} (value ∷ rest) kn
       by (Some v) (Some w) is is_also (has_value here) (Some more) (Some also) e e_also (are_given same) = rw (is, is_also, e, e_also)
           (are_given (and_value here same))
 
-module _ {P Q : Program} {Allocated Entered : ℕ → ℕ → Type 0} {names : Names} {one other : Memory}
-    (same : SamePrograms P Q) (memories : SameMemories P Allocated Entered names [] one other) where
+module _ {P Q : Program} {Allocated Entered : ℕ → ℕ → Type 0} {apart : Apart} {names : Names} {one other : Memory}
+    (same : SamePrograms P Q) (memories : SameMemories P Allocated Entered apart names [] one other) where
   pub conforms_both : (type : FieldType) {value also : Value} → SameValue names value also
       → value_conforms Q other.heap type also ≡ value_conforms P one.heap type value
   conforms_both (types.Named name) same_int = refl
@@ -106,8 +106,8 @@ pub data SameObjects (names : Names) : Option Object → Option Object → Type 
   no_object : SameObjects names None None
   one_object : {object also : Object} → SameObject names object also → SameObjects names (Some object) (Some also)
 
-pub objects_known : {P : Program} {Allocated Entered : ℕ → ℕ → Type 0} {names : Names} (first second : World) {reference named : Option ℕ}
-    → SameMemories P Allocated Entered names [] first.memory second.memory
+pub objects_known : {P : Program} {Allocated Entered : ℕ → ℕ → Type 0} {apart : Apart} {names : Names} (first second : World) {reference named : Option ℕ}
+    → SameMemories P Allocated Entered apart names [] first.memory second.memory
     → SameKnown names reference named
     → SameObjects names (known_object first reference) (known_object second named)
 objects_known first second memories not_known = no_object

@@ -1,13 +1,13 @@
 -- Heaps of two runs stay the same where both or one of them change.
 use Rattle.std.proofs.Common.{◌≡◌, ◌+◌, ◌-◌, ℕ, zero, suc, List, [], ◌∷◌, ◌++◌, length, slice_get, slice_set, Option, Some, None, refl, sym, ap, subst, ◌∙◌, inl, inr, ◌⊎◌, arith}
+use Rattle.std.specs.List.{AllByRecursion}
 use Rattle.std.proofs.lemmas.Option.{none-some, same_Some}
 use Rattle.machine_values.specs.Heaps.{Heap, object_at, allocated, with_object, with_value, with_monitor, monitor_count, entered, left, kept_in, constant_in}
-use Rattle.machine_values.specs.declared.object.Constant.{Constant}
 use Rattle.machine_values.specs.declared.object.Object.{Object}
 use Rattle.machine_values.specs.declared.object.Shape.{Shape}
 use Rattle.machine_values.specs.declared.value.Value.{Value}
 use Rattle.same_runs.specs.Renamings.{Names, NamesMore, SameObject, SameValue, SameValues, no_values, and_value}
-use Rattle.same_runs.specs.SameMemories.{HasOwnConstants, SameHeaps, fresh_constant}
+use Rattle.same_runs.specs.SameMemories.{Apart, HasOwnConstants, SameHeaps, StaysApart, fresh_constant}
 use Rattle.same_runs.specs.Laws.Names.{named_too, named_here, named_other, named_too_more, object_more}
 use Rattle.same_runs.specs.Laws.Objects.{get_old, get_new, none_at_end, set_here, set_other}
 
@@ -16,8 +16,8 @@ same_or_not m n = grind (arith)
 
 -- ---- references that have no name
 
-pub new_unnamed : {names : Names} {one other : Heap} → SameHeaps names one other → names (length one.objects) ≡ None
-new_unnamed {names = names} {one = one} same = go (names (length one.objects)) refl where
+pub new_unnamed : {apart : Apart} {names : Names} {one other : Heap} → SameHeaps apart names one other → names (length one.objects) ≡ None
+new_unnamed {apart = apart} {names = names} {one = one} same = go (names (length one.objects)) refl where
   go : (found : Option ℕ) → names (length one.objects) ≡ found → names (length one.objects) ≡ None
   go None is = is
   go (Some named) is =
@@ -25,11 +25,23 @@ new_unnamed {names = names} {one = one} same = go (names (length one.objects)) r
       absurd (none_at_end one.objects there.0 there.2)
 
 -- no reference has a new one for its name
-pub new_no_name : {names : Names} {one other : Heap} → SameHeaps names one other → (reference : ℕ)
+pub new_no_name : {apart : Apart} {names : Names} {one other : Heap} → SameHeaps apart names one other → (reference : ℕ)
     → names reference ≡ Some (length other.objects) → ⊥
 new_no_name {other = other} same reference is =
     let there = same.objects reference (length other.objects) is in
     none_at_end other.objects there.1 there.3
+
+-- ---- objects that are apart
+
+-- what is apart stays so, each by itself
+pub each_stays :
+    {names more : Names} {one after : Heap}
+    → ((apart : ℕ × Object) → StaysApart names one apart → StaysApart more after apart)
+    → (apart : Apart)
+    → AllByRecursion (StaysApart names one) apart
+    → AllByRecursion (StaysApart more after) apart
+each_stays keeps [] all = tt
+each_stays keeps (first ∷ apart) all = (keeps first all.0, each_stays keeps apart all.1)
 
 -- ---- constants of a heap whose objects change
 
@@ -59,13 +71,13 @@ own_allocated heap shape values own =
 -- ---- both allocate, or one does
 
 pub both_allocate :
-    {names : Names} {one other : Heap}
-    → SameHeaps names one other
+    {apart : Apart} {names : Names} {one other : Heap}
+    → SameHeaps apart names one other
     → (shape : Shape) (values also : List Value)
     → SameValues (named_too names (length one.objects) (length other.objects)) values also
-    → SameHeaps (named_too names (length one.objects) (length other.objects)) (allocated one shape values).heap
+    → SameHeaps apart (named_too names (length one.objects) (length other.objects)) (allocated one shape values).heap
     (allocated other shape also).heap
-both_allocate {names = names} {one = one} {other = other} same shape values also are = record {
+both_allocate {apart = apart} {names = names} {one = one} {other = other} same shape values also are = record {
   renaming = record { once = once };
   objects = objects;
   own = own_allocated one shape values same.own;
@@ -77,6 +89,7 @@ both_allocate {names = names} {one = one} {other = other} same shape values also
   fresh = λ constant reference is none.
       get_old one.objects (record { shape = shape; values = values; monitor = 0 }) reference (fresh_constant constant)
       (same.fresh constant reference is (no_old_name reference none));
+  stays = each_stays still apart same.stays;
 } where
   a : ℕ
   a = length one.objects
@@ -100,6 +113,13 @@ both_allocate {names = names} {one = one} {other = other} same shape values also
     | inl e ↦ absurd (none-some b (sym none ∙ ap more (sym e) ∙ named_here names a b))
     | inr differ ↦ sym (named_other names a b reference differ) ∙ none
   ]
+
+  still : (item : ℕ × Object) → StaysApart names one item → StaysApart more (allocated one shape values).heap item
+  still item stays = record {
+    there = get_old one.objects (record { shape = shape; values = values; monitor = 0 }) item.0 item.1 stays.there;
+    unnamed = named_other names a b item.0 (λ e. none_at_end one.objects item.1 (ap (slice_get one.objects) e ∙ stays.there)) ∙ stays.unnamed;
+    no_constant = stays.no_constant;
+  }
 
   once : (first second reference : ℕ) → more first ≡ Some reference → more second ≡ Some reference → first ≡ second
   once first second reference is is_also = elim (same_or_not a first) [
@@ -149,11 +169,11 @@ both_allocate {names = names} {one = one} {other = other} same shape values also
 
 -- the first alone allocates: its object has no name
 pub first_allocates :
-    {names : Names} {one other : Heap}
-    → SameHeaps names one other
+    {apart : Apart} {names : Names} {one other : Heap}
+    → SameHeaps apart names one other
     → (shape : Shape) (values : List Value)
-    → SameHeaps names (allocated one shape values).heap other
-first_allocates {names = names} {one = one} {other = other} same shape values = record {
+    → SameHeaps apart names (allocated one shape values).heap other
+first_allocates {apart = apart} {names = names} {one = one} {other = other} same shape values = record {
   renaming = same.renaming;
   objects = λ reference named is.
       let old = same.objects reference named is in
@@ -165,15 +185,22 @@ first_allocates {names = names} {one = one} {other = other} same shape values = 
   fresh = λ constant reference is none.
       get_old one.objects (record { shape = shape; values = values; monitor = 0 }) reference (fresh_constant constant)
       (same.fresh constant reference is none);
-}
+  stays = each_stays still apart same.stays;
+} where
+  still : (item : ℕ × Object) → StaysApart names one item → StaysApart names (allocated one shape values).heap item
+  still item stays = record {
+    there = get_old one.objects (record { shape = shape; values = values; monitor = 0 }) item.0 item.1 stays.there;
+    unnamed = stays.unnamed;
+    no_constant = stays.no_constant;
+  }
 
 -- the second alone allocates: no reference has the new one for its name
 pub second_allocates :
-    {names : Names} {one other : Heap}
-    → SameHeaps names one other
+    {apart : Apart} {names : Names} {one other : Heap}
+    → SameHeaps apart names one other
     → (shape : Shape) (values : List Value)
-    → SameHeaps names one (allocated other shape values).heap
-second_allocates {names = names} {one = one} {other = other} same shape values = record {
+    → SameHeaps apart names one (allocated other shape values).heap
+second_allocates {apart = apart} {names = names} {one = one} {other = other} same shape values = record {
   renaming = same.renaming;
   objects = λ reference named is.
       let old = same.objects reference named is in
@@ -183,11 +210,12 @@ second_allocates {names = names} {one = one} {other = other} same shape values =
   kept = same.kept;
   named = same.named;
   fresh = same.fresh;
+  stays = same.stays;
 }
 
 -- ---- an object changes
 
-own_changed : (heap : Heap) (reference : ℕ) (object new : Object) → object_at heap reference ≡ Some object → HasOwnConstants heap
+pub own_changed : (heap : Heap) (reference : ℕ) (object new : Object) → object_at heap reference ≡ Some object → HasOwnConstants heap
     → HasOwnConstants (with_object heap reference new)
 own_changed heap reference object new there own = own_kept refl stays own where
   stays : (at : ℕ) (old : Object) → object_at heap at ≡ Some old
@@ -199,15 +227,15 @@ own_changed heap reference object new there own = own_kept refl stays own where
 
 -- an object of the first and the one under its name change alike
 pub both_change :
-    {names : Names} {one other : Heap}
-    → SameHeaps names one other
+    {apart : Apart} {names : Names} {one other : Heap}
+    → SameHeaps apart names one other
     → (reference named : ℕ) (object also new new_also : Object)
     → names reference ≡ Some named
     → object_at one reference ≡ Some object
     → object_at other named ≡ Some also
     → SameObject names new new_also
-    → SameHeaps names (with_object one reference new) (with_object other named new_also)
-both_change {names = names} {one = one} {other = other} same reference named object also new new_also is there there_also alike = record {
+    → SameHeaps apart names (with_object one reference new) (with_object other named new_also)
+both_change {apart = apart} {names = names} {one = one} {other = other} same reference named object also new new_also is there there_also alike = record {
   renaming = same.renaming;
   objects = objects;
   own = own_changed one reference object new there same.own;
@@ -216,7 +244,15 @@ both_change {names = names} {one = one} {other = other} same reference named obj
   named = same.named;
   fresh = λ constant at kept none.
       set_other one.objects reference at new (λ e. none-some named (sym none ∙ ap names (sym e) ∙ is)) ∙ same.fresh constant at kept none;
+  stays = each_stays still apart same.stays;
 } where
+  still : (item : ℕ × Object) → StaysApart names one item → StaysApart names (with_object one reference new) item
+  still item stays = record {
+    there = set_other one.objects reference item.0 new (λ e. none-some named (sym stays.unnamed ∙ ap names (sym e) ∙ is)) ∙ stays.there;
+    unnamed = stays.unnamed;
+    no_constant = stays.no_constant;
+  }
+
   objects :
       (at name : ℕ)
       → names at ≡ Some name
@@ -244,28 +280,6 @@ both_change {names = names} {one = one} {other = other} same reference named obj
         )
   ]
 
--- an object of the first that has no name changes, and is no constant
-pub first_changes :
-    {names : Names} {one other : Heap}
-    → SameHeaps names one other
-    → (reference : ℕ) (object new : Object)
-    → names reference ≡ None
-    → object_at one reference ≡ Some object
-    → ((constant : Constant) → kept_in one.constants constant ≡ Some reference → ⊥)
-    → SameHeaps names (with_object one reference new) other
-first_changes {names = names} {one = one} {other = other} same reference object new none there no_constant = record {
-  renaming = same.renaming;
-  objects = λ at name has.
-      let old = same.objects at name has in
-      (old.0, old.1, set_other one.objects reference at new (λ e. none-some name (sym none ∙ ap names e ∙ has)) ∙ old.2, old.3, old.4);
-  own = own_changed one reference object new there same.own;
-  own_also = same.own_also;
-  kept = same.kept;
-  named = same.named;
-  fresh = λ constant at kept unnamed.
-      set_other one.objects reference at new (λ e. no_constant constant (kept ∙ ap Some (sym e))) ∙ same.fresh constant at kept unnamed;
-}
-
 -- ---- values and monitors
 
 with_value_there : (heap : Heap) (reference index : ℕ) (value : Value) (object : Object) → object_at heap reference ≡ Some object
@@ -291,40 +305,40 @@ values_set (and_value first rest) same zero = and_value same rest
 values_set (and_value first rest) same (suc index) = and_value first (values_set rest same index)
 
 pub both_write :
-    {names : Names} {one other : Heap} {value also : Value}
-    → SameHeaps names one other
+    {apart : Apart} {names : Names} {one other : Heap} {value also : Value}
+    → SameHeaps apart names one other
     → (reference named index : ℕ)
     → names reference ≡ Some named
     → SameValue names value also
-    → SameHeaps names (with_value one reference index value) (with_value other named index also)
-both_write {names = names} {one = one} {other = other} {value = value} {also = also} same reference named index is alike =
+    → SameHeaps apart names (with_value one reference index value) (with_value other named index also)
+both_write {apart = apart} {names = names} {one = one} {other = other} {value = value} {also = also} same reference named index is alike =
     let old = same.objects reference named is in
-    subst (λ (h : Heap). SameHeaps names h (with_value other named index also))
+    subst (λ (h : Heap). SameHeaps apart names h (with_value other named index also))
     (sym (with_value_there one reference index value old.0 old.2))
-    (subst (SameHeaps names (with_object one reference (record old.0 { values = slice_set old.0.values index value })))
+    (subst (SameHeaps apart names (with_object one reference (record old.0 { values = slice_set old.0.values index value })))
     (sym (with_value_there other named index also old.1 old.3))
     (both_change same reference named old.0 old.1 (record old.0 { values = slice_set old.0.values index value })
     (record old.1 { values = slice_set old.1.values index also })
     is old.2 old.3 (record { shape = old.4.shape; values = values_set old.4.values alike index; monitor = old.4.monitor })))
 
 both_monitor :
-    {names : Names} {one other : Heap}
-    → SameHeaps names one other
+    {apart : Apart} {names : Names} {one other : Heap}
+    → SameHeaps apart names one other
     → (reference named count : ℕ)
     → names reference ≡ Some named
-    → SameHeaps names (with_monitor one reference count) (with_monitor other named count)
-both_monitor {names = names} {one = one} {other = other} same reference named count is =
+    → SameHeaps apart names (with_monitor one reference count) (with_monitor other named count)
+both_monitor {apart = apart} {names = names} {one = one} {other = other} same reference named count is =
     let old = same.objects reference named is in
-    subst (λ (h : Heap). SameHeaps names h (with_monitor other named count)) (sym (with_monitor_there one reference count old.0 old.2))
-    (subst (SameHeaps names (with_object one reference (record old.0 { monitor = count })))
+    subst (λ (h : Heap). SameHeaps apart names h (with_monitor other named count)) (sym (with_monitor_there one reference count old.0 old.2))
+    (subst (SameHeaps apart names (with_object one reference (record old.0 { monitor = count })))
     (sym (with_monitor_there other named count old.1 old.3))
     (both_change same reference named old.0 old.1 (record old.0 { monitor = count }) (record old.1 { monitor = count })
     is old.2 old.3 (record { shape = old.4.shape; values = old.4.values; monitor = refl })))
 
 -- a monitor is entered as often as that of the object under its name
 pub same_monitor :
-    {names : Names} {one other : Heap}
-    → SameHeaps names one other
+    {apart : Apart} {names : Names} {one other : Heap}
+    → SameHeaps apart names one other
     → (reference named : ℕ)
     → names reference ≡ Some named
     → monitor_count other named ≡ monitor_count one reference
@@ -333,24 +347,24 @@ same_monitor {one = one} {other = other} same reference named is =
     monitor_there other named old.1 old.3 ∙ old.4.monitor ∙ sym (monitor_there one reference old.0 old.2)
 
 pub both_enter :
-    {names : Names} {one other : Heap}
-    → SameHeaps names one other
+    {apart : Apart} {names : Names} {one other : Heap}
+    → SameHeaps apart names one other
     → (reference named : ℕ)
     → names reference ≡ Some named
-    → SameHeaps names (entered one reference) (entered other named)
-both_enter {names = names} {one = one} {other = other} same reference named is =
-    subst (λ (count : ℕ). SameHeaps names (entered one reference) (with_monitor other named (count + 1)))
+    → SameHeaps apart names (entered one reference) (entered other named)
+both_enter {apart = apart} {names = names} {one = one} {other = other} same reference named is =
+    subst (λ (count : ℕ). SameHeaps apart names (entered one reference) (with_monitor other named (count + 1)))
     (sym (same_monitor same reference named is))
     (both_monitor same reference named (monitor_count one reference + 1) is)
 
 pub both_leave :
-    {names : Names} {one other : Heap}
-    → SameHeaps names one other
+    {apart : Apart} {names : Names} {one other : Heap}
+    → SameHeaps apart names one other
     → (reference named : ℕ)
     → names reference ≡ Some named
-    → SameHeaps names (left one reference) (left other named)
-both_leave {names = names} {one = one} {other = other} same reference named is =
-    subst (λ (count : ℕ). SameHeaps names (left one reference) (with_monitor other named (count - 1)))
+    → SameHeaps apart names (left one reference) (left other named)
+both_leave {apart = apart} {names = names} {one = one} {other = other} same reference named is =
+    subst (λ (count : ℕ). SameHeaps apart names (left one reference) (with_monitor other named (count - 1)))
     (sym (same_monitor same reference named is))
     (both_monitor same reference named (monitor_count one reference - 1) is)
 

@@ -64,7 +64,7 @@ moved_is base start is_lookup_switch (same_op both) = refl
 module _ {P Q : Program} {c : Comparison} {names : Names} {first second : World} {base size : ℕ} {start : ℕ → ℕ} {below : List Value}
     {f g : MethodState} {rest rest_also : List RunFrame}
     (same : SamePrograms P Q) (compares : Compares c)
-    (memories : SameMemories P c.allocated c.entered names [] first.memory second.memory) (seen : SameSeen c names first second)
+    (memories : SameMemories P c.allocated c.entered c.apart names [] first.memory second.memory) (seen : SameSeen c names first second)
     (goes : first.halt ≡ going) (goes_also : second.halt ≡ going)
     (moves : Moves P Q c names base size start below f g rest rest_also) where
   abbrev After : World → World → Type 0

@@ -24,7 +24,7 @@ use Rattle.same_runs.specs.Laws.Units.{same_incremented, same_local, same_stored
 
 module _ {P Q : Program} {c : Comparison} {names : Names} {first second : World} {f g : MethodState} {rest rest_also : List RunFrame}
     (same : SamePrograms P Q) (compares : Compares c)
-    (memories : SameMemories P c.allocated c.entered names [] first.memory second.memory) (seen : SameSeen c names first second)
+    (memories : SameMemories P c.allocated c.entered c.apart names [] first.memory second.memory) (seen : SameSeen c names first second)
     (goes : first.halt ≡ going) (goes_also : second.halt ≡ going)
     (moves : MovesAlike P Q c names f g rest rest_also) where
   abbrev After : World → World → Type 0

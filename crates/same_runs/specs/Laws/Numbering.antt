@@ -13,7 +13,7 @@ use Rattle.member_link.specs.Machine.Programs.{Program}
 use Rattle.member_link.specs.Machine.Showing.{Numbered, asked_kind, first_of, known_number, numbered, numbered_all, numbered_option, numbered_reference}
 use Rattle.same_runs.specs.Renamings.{IsRenaming, Names, SameReferences, no_references, and_reference, SameUnit, no_value, has_value, SameValue, same_int, same_long, same_float, same_double, same_null, same_reference, SameValues, no_values, and_value}
 use Rattle.same_runs.specs.SameCompletions.{SameAsked, same_call, same_dynamic, same_get, same_put, same_compute}
-use Rattle.same_runs.specs.SameMemories.{SameHeaps}
+use Rattle.same_runs.specs.SameMemories.{Apart, SameHeaps}
 use Rattle.same_runs.specs.SamePrograms.{SamePrograms}
 use Rattle.same_runs.specs.Laws.Heaps.{same_monitor}
 use Rattle.same_runs.specs.Laws.Shapes.{same_class_of}
@@ -50,7 +50,7 @@ pub record SameNumbered (A : Type 0) (names : Names) (one other : Numbered A) : 
   pub seen : other.seen ≡ one.seen
   pub known : SameReferences names one.known other.known
 
-module _ {P Q : Program} {names : Names} {one other : Heap} (same : SamePrograms P Q) (heaps : SameHeaps names one other) where
+module _ {P Q : Program} {apart : Apart} {names : Names} {one other : Heap} (same : SamePrograms P Q) (heaps : SameHeaps apart names one other) where
   constant_same : (reference named : ℕ) → names reference ≡ Some named
       → constant_in other.constants named ≡ constant_in one.constants reference
   constant_same reference named is = by (constant_in one.constants reference) (constant_in other.constants named) refl refl where

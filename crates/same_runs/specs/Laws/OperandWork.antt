@@ -19,7 +19,7 @@ use Rattle.member_link.specs.Machine.Work.{push_constant_work}
 use Rattle.member_link.specs.Machine.Worlds.{Memory, with_heap, stuck}
 use Rattle.same_runs.specs.Renamings.{Names, SameObject, SameValue, same_int, same_long, same_float, same_double, same_null, same_reference, SameValues, no_values, and_value}
 use Rattle.same_runs.specs.SameCompletions.{SameCompletions, both_end, both_give, both_raise, both_throw}
-use Rattle.same_runs.specs.SameMemories.{IsComparison, SameMemories}
+use Rattle.same_runs.specs.SameMemories.{Apart, IsComparison, SameMemories}
 use Rattle.same_runs.specs.SamePrograms.{IsNoReference, SamePrograms}
 use Rattle.same_runs.specs.Laws.Names.{names_themselves}
 use Rattle.same_runs.specs.Laws.Heaps.{both_enter, both_leave, entered_constants, left_constants}
@@ -37,10 +37,10 @@ itself names (values.Double bits) none = same_double
 itself names values.Null none = same_null
 itself names (values.Ref reference) none = absurd none
 
-module _ {P Q : Program} {Allocated Entered : ℕ → ℕ → Type 0} {names : Names} {one other : Memory}
-    (same : SamePrograms P Q) (memories : SameMemories P Allocated Entered names [] one other) where
+module _ {P Q : Program} {Allocated Entered : ℕ → ℕ → Type 0} {apart : Apart} {names : Names} {one other : Memory}
+    (same : SamePrograms P Q) (memories : SameMemories P Allocated Entered apart names [] one other) where
   abbrev pub Both : Completion → Completion → Type 0
-  Both completion also = SameCompletions P Allocated Entered names one other completion also
+  Both completion also = SameCompletions P Allocated Entered apart names one other completion also
 
   -- ---- what is given
 

@@ -148,7 +148,7 @@ pub at_operation :
     → nat_le (arity point.op) (length f.stack) ≡ true
     → g.stack ≡ top ++ under
     → SameValues names f.stack top
-    → SameMemories P c.allocated c.entered names [] one.world.memory other.world.memory
+    → SameMemories P c.allocated c.entered c.apart names [] one.world.memory other.world.memory
     → SameSeen c names one.world other.world
     → Goes P Q c names f (less (arity point.op) f) g (less (arity also.op) g) rest others
     → AtOperation P Q c names one other f g rest others point also

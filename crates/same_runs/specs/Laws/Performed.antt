@@ -55,7 +55,7 @@ module _ {P Q : Program} {c : Comparison} (same : SamePrograms P Q) (compares : 
   -- the library sees the same event in both
   pub shown_same :
       {names : Names} (first second : World) {kind also : Numbered EventKind}
-      → SameMemories P c.allocated c.entered names [] first.memory second.memory
+      → SameMemories P c.allocated c.entered c.apart names [] first.memory second.memory
       → SameEvents c first.events second.events
       → SameNumbered EventKind names kind also
       → SameSeen c names (showing first kind) (showing second also)
@@ -80,7 +80,7 @@ module _ {P Q : Program} {c : Comparison} (same : SamePrograms P Q) (compares : 
       → SameSeen c names first second
       → first.halt ≡ going
       → second.halt ≡ going
-      → SameLanding P c.allocated c.entered c.frames c.lands more landing also
+      → SameLanding P c.allocated c.entered c.apart c.frames c.lands more landing also
       → SameAfter P c names (landed P first reference landing) (landed Q second named also)
   landed_same {more = more} reference named grows is seen goes goes_also (both_catch memories lands) =
       both_landed more grows lands memories (record { known = references_more grows seen.known; events = seen.events }) goes goes_also
@@ -104,7 +104,7 @@ module _ {P Q : Program} {c : Comparison} (same : SamePrograms P Q) (compares : 
       → SameSeen c names first second
       → first.halt ≡ going
       → second.halt ≡ going
-      → SameMemories P c.allocated c.entered more [] one other
+      → SameMemories P c.allocated c.entered c.apart more [] one other
       → Unwinds P Q c.frames c.lands more ones others
       → SameAfter P c names (thrown_in P first reference ones one) (thrown_in Q second named others other)
   thrown_same reference named one other grows is seen goes goes_also memories unwinds =
@@ -116,13 +116,13 @@ module _ {P Q : Program} {c : Comparison} (same : SamePrograms P Q) (compares : 
   pub record SameLocked (names : Names) (one other : Locked) : Type 0 where
     pub more : Names
     pub grows : NamesMore names more
-    pub memories : SameMemories P c.allocated c.entered more [] one.memory other.memory
+    pub memories : SameMemories P c.allocated c.entered c.apart more [] one.memory other.memory
     pub held : SameHeld more one.held other.held
 
   enters_both : {names : Names} {one other : Memory} (reference named : ℕ)
       → names reference ≡ Some named
-      → SameMemories P c.allocated c.entered names [] one other
-      → SameMemories P c.allocated c.entered names [] (with_entered one reference) (with_entered other named)
+      → SameMemories P c.allocated c.entered c.apart names [] one other
+      → SameMemories P c.allocated c.entered c.apart names [] (with_entered one reference) (with_entered other named)
   enters_both {names = names} {one = one} {other = other} reference named is memories =
       let still =
       memories_still (names_themselves names) (keeps_all one.heap (entered one.heap reference) (entered_constants one.heap reference))
@@ -130,12 +130,12 @@ module _ {P Q : Program} {c : Comparison} (same : SamePrograms P Q) (compares : 
       memories_counted one.allocations other.allocations (one.entries + 1) (other.entries + 1)
       memories.allocations (compares.entered one.entries other.entries 1 memories.entries) still
 
-  locks_none : {names : Names} {one other : Memory} → SameMemories P c.allocated c.entered names [] one other
+  locks_none : {names : Names} {one other : Memory} → SameMemories P c.allocated c.entered c.apart names [] one other
       → SameLocked names (record { memory = one; held = None }) (record { memory = other; held = None })
   locks_none {names = names} memories = record { more = names; grows = names_themselves names; memories = memories; held = none_held }
 
   locked_by_same : {names : Names} {one other : Memory} {ones others : List Value} (class : Name) (locking : Locking)
-      → SameMemories P c.allocated c.entered names [] one other
+      → SameMemories P c.allocated c.entered c.apart names [] one other
       → SameValues names ones others
       → SameLocked names (locked_by one class locking ones) (locked_by other class locking others)
   locked_by_same class no_lock memories are = locks_none memories
@@ -167,7 +167,7 @@ module _ {P Q : Program} {c : Comparison} (same : SamePrograms P Q) (compares : 
   -- a method of both that is called enters the same monitor
   pub locked_same : {names : Names} {one other : Memory} {ones others : List Value} (at : MethodAt) (method : RunMethod)
       → run_method P at ≡ Some method
-      → SameMemories P c.allocated c.entered names [] one other
+      → SameMemories P c.allocated c.entered c.apart names [] one other
       → SameValues names ones others
       → SameLocked names (locked P one at ones) (locked Q other at others)
   locked_same {names = names} {one = one} {other = other} {ones = ones} {others = others} at method is memories are =
@@ -180,7 +180,7 @@ module _ {P Q : Program} {c : Comparison} (same : SamePrograms P Q) (compares : 
   -- a throwable of the machine is made in both, and thrown
   pub raised_same :
       {names : Names} {first second : World} {ones others : List RunFrame} (class : Name)
-      → SameMemories P c.allocated c.entered names [] first.memory second.memory
+      → SameMemories P c.allocated c.entered c.apart names [] first.memory second.memory
       → SameSeen c names first second
       → first.halt ≡ going
       → second.halt ≡ going
@@ -208,7 +208,7 @@ pub record MustBegin (one other : Memory) (completion : Completion) : Type 0 whe
 module _ {P Q : Program} {c : Comparison} {names : Names} {first second : World}
     {before taken also taken_also : MethodState} {rest rest_also : List RunFrame}
     (same : SamePrograms P Q) (compares : Compares c)
-    (memories : SameMemories P c.allocated c.entered names [] first.memory second.memory) (seen : SameSeen c names first second)
+    (memories : SameMemories P c.allocated c.entered c.apart names [] first.memory second.memory) (seen : SameSeen c names first second)
     (goes : first.halt ≡ going) (goes_also : second.halt ≡ going)
     (frames : Goes P Q c names before taken also taken_also rest rest_also) where
   abbrev After : Completion → Completion → Type 0
@@ -236,7 +236,7 @@ module _ {P Q : Program} {c : Comparison} {names : Names} {first second : World}
       {one other : Completion}
       → ((at : MethodAt) (values : List Value) → one ≡ calls at values → (method : RunMethod) × (run_method P at ≡ Some method))
       → (one ≡ ends going → c.frames names first.frames second.frames)
-      → SameCompletions P c.allocated c.entered names first.memory second.memory one other
+      → SameCompletions P c.allocated c.entered c.apart names first.memory second.memory one other
       → MustBegin first.memory second.memory other
       ⊎ SameAfter P c names (perform P first before taken rest one) (perform Q second also taken_also rest_also other)
   performs_same known stay (both_give {ones = ones} {others = others} more grows now are) =

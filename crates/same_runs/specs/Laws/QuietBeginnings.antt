@@ -24,7 +24,7 @@ use Rattle.member_link.specs.Machine.Work.{arity, work}
 use Rattle.member_link.specs.Machine.Worlds.{Memory, World, going, is_begun}
 use Rattle.member_link.specs.References.{Reference}
 use Rattle.same_runs.specs.Renamings.{Names, NamesMore}
-use Rattle.same_runs.specs.SameMemories.{BeginsQuietly, SameMemories}
+use Rattle.same_runs.specs.SameMemories.{Apart, BeginsQuietly, SameMemories}
 use Rattle.same_runs.specs.SamePrograms.{SamePrograms}
 use Rattle.same_runs.specs.SameWorlds.{Compares, Comparison, SameSeen}
 use Rattle.same_runs.specs.Simulations.{Quietly, at_once, turn_first}
@@ -68,11 +68,11 @@ hierarchies_begin_alike P Q same tree links = record {
 
 -- a class that the first has begun alone begins quietly
 pub alone_quietly :
-    {P : Program} {Allocated Entered : ℕ → ℕ → Type 0} {names : Names} {one other : Memory} (class : ℕ) (found : RunClass)
+    {P : Program} {Allocated Entered : ℕ → ℕ → Type 0} {apart : Apart} {names : Names} {one other : Memory} (class : ℕ) (found : RunClass)
     → slice_get P.classes class ≡ Some found
     → IsTrue (is_begun one class)
     → IsFalse (is_begun other class)
-    → SameMemories P Allocated Entered names [] one other
+    → SameMemories P Allocated Entered apart names [] one other
     → BeginsQuietly P one class
 alone_quietly class found is begun none memories =
     let alone = memories.statics.alone class begun none in
@@ -237,7 +237,7 @@ turn_ends R r class rest memory steps found goes is none no_code = rw (goes, is,
 -- ---- beginnings that go by
 
 -- From a run with a beginning on top to one without it, by turns that show nothing: more classes are begun, and memories are the same.
-pub record GoesBy (P Q : Program) (Allocated Entered : ℕ → ℕ → Type 0) (names : Names) (one : Memory) (r from : Run) (rest : List RunFrame)
+pub record GoesBy (P Q : Program) (Allocated Entered : ℕ → ℕ → Type 0) (apart : Apart) (names : Names) (one : Memory) (r from : Run) (rest : List RunFrame)
     (before : Memory)
     : Type 0 where
   pub after : Memory
@@ -245,7 +245,7 @@ pub record GoesBy (P Q : Program) (Allocated Entered : ℕ → ℕ → Type 0) (
   pub quietly : Quietly Q from (standing r rest after steps)
   pub more : Names
   pub grows : NamesMore names more
-  pub memories : SameMemories P Allocated Entered more [] one after
+  pub memories : SameMemories P Allocated Entered apart more [] one after
   pub begun : (at : ℕ) → IsTrue (is_begun before at) → IsTrue (is_begun after at)
 
 -- a class of the first is one of the second
@@ -261,15 +261,15 @@ also_there {P = P} {Q = Q} same class found is = by (slice_get P.classes class) 
       by (Some one) (Some other) here here_also (at_both alike) = (other, here_also)
 
 module _ {P Q : Program} (Allocated Entered : ℕ → ℕ
-    → Type 0) (same : SamePrograms P Q) (alike : BeginAlike P Q) (one : Memory) (r : Run) (goes : r.world.halt ≡ going) where
+    → Type 0) (apart : Apart) (same : SamePrograms P Q) (alike : BeginAlike P Q) (one : Memory) (r : Run) (goes : r.world.halt ≡ going) where
   abbrev AllGoBy : ℕ → Type 0
   AllGoBy left =
       (class : ℕ) (rest : List RunFrame) (memory : Memory) (steps : ℕ) (names : Names)
       → unbegun one.begun memory < left
       → is_library_turn rest ≡ false
       → BeginsQuietly P one class
-      → SameMemories P Allocated Entered names [] one memory
-      → GoesBy P Q Allocated Entered names one r (standing r (Beginning class ∷ rest) memory steps) rest memory
+      → SameMemories P Allocated Entered apart names [] one memory
+      → GoesBy P Q Allocated Entered apart names one r (standing r (Beginning class ∷ rest) memory steps) rest memory
 
   -- nothing comes first: the beginning is over
   goes_at_once :
@@ -278,8 +278,8 @@ module _ {P Q : Program} (Allocated Entered : ℕ → ℕ
       → first_unbegun Q memory (come_first Q also.header) ≡ None
       → is_library_turn rest ≡ false
       → BeginsQuietly P one class
-      → SameMemories P Allocated Entered names [] one memory
-      → GoesBy P Q Allocated Entered names one r (standing r (Beginning class ∷ rest) memory steps) rest memory
+      → SameMemories P Allocated Entered apart names [] one memory
+      → GoesBy P Q Allocated Entered apart names one r (standing r (Beginning class ∷ rest) memory steps) rest memory
   goes_at_once class rest memory steps names also is none no_turn quiet memories = record {
     after = memory;
     steps = steps + 1;
@@ -307,8 +307,8 @@ module _ {P Q : Program} (Allocated Entered : ℕ → ℕ
       → first_unbegun Q memory (come_first Q also.header) ≡ Some first
       → is_library_turn rest ≡ false
       → BeginsQuietly P one class
-      → SameMemories P Allocated Entered names [] one memory
-      → GoesBy P Q Allocated Entered names one r (standing r (Beginning class ∷ rest) memory steps) rest memory
+      → SameMemories P Allocated Entered apart names [] one memory
+      → GoesBy P Q Allocated Entered apart names one r (standing r (Beginning class ∷ rest) memory steps) rest memory
   goes_behind left again class rest memory steps names also first low is unbegun_one no_turn quiet memories = record {
     after = second.after;
     steps = second.steps;
@@ -343,7 +343,7 @@ module _ {P Q : Program} (Allocated Entered : ℕ → ℕ
     quiet_first : BeginsQuietly P one first
     quiet_first = alone_quietly first there.0 there.1 has_begun found.none memories
 
-    made : (more : Names) × NamesMore names more × SameMemories P Allocated Entered more [] one (begun_memory Q first memory)
+    made : (more : Names) × NamesMore names more × SameMemories P Allocated Entered apart more [] one (begun_memory Q first memory)
     made = second_has_begun same first has_begun found.none memories
 
     fewer_left : unbegun one.begun (begun_memory Q first memory) < left
@@ -352,7 +352,7 @@ module _ {P Q : Program} (Allocated Entered : ℕ → ℕ
         (begins_itself Q first memory) in
         omega (arith, down, low)
 
-    before : GoesBy P Q Allocated Entered made.0 one r (standing r (Beginning first ∷ Beginning class ∷ rest)
+    before : GoesBy P Q Allocated Entered apart made.0 one r (standing r (Beginning first ∷ Beginning class ∷ rest)
         (begun_memory Q first memory) (steps + 1)) (Beginning class ∷ rest)
         (begun_memory Q first memory)
     before = again first (Beginning class ∷ rest) (begun_memory Q first memory) (steps + 1) made.0 fewer_left refl quiet_first made.2
@@ -362,7 +362,7 @@ module _ {P Q : Program} (Allocated Entered : ℕ → ℕ
         let down = fewer one.begun (begun_memory Q first memory) before.after before.begun in
         omega (arith, down, fewer_left)
 
-    second : GoesBy P Q Allocated Entered before.more one r (standing r
+    second : GoesBy P Q Allocated Entered apart before.more one r (standing r
         (Beginning class ∷ rest) before.after before.steps) rest before.after
     second = again class rest before.after before.steps before.more still_fewer no_turn quiet before.memories
 
@@ -371,36 +371,36 @@ module _ {P Q : Program} (Allocated Entered : ℕ → ℕ
   all_go_by (suc left) class rest memory steps names low no_turn quiet memories =
       by (all_go_by left) (also_there same class quiet.found quiet.is) where
         by : AllGoBy left → ((also : RunClass) × (slice_get Q.classes class ≡ Some also))
-            → GoesBy P Q Allocated Entered names one r (standing r (Beginning class ∷ rest) memory steps) rest memory
+            → GoesBy P Q Allocated Entered apart names one r (standing r (Beginning class ∷ rest) memory steps) rest memory
         by again also = at (first_unbegun Q memory (come_first Q also.0.header)) refl where
           at : (first : Option ℕ) → first_unbegun Q memory (come_first Q also.0.header) ≡ first
-              → GoesBy P Q Allocated Entered names one r (standing r (Beginning class ∷ rest) memory steps) rest memory
+              → GoesBy P Q Allocated Entered apart names one r (standing r (Beginning class ∷ rest) memory steps) rest memory
           at None none = goes_at_once class rest memory steps names also.0 also.1 none no_turn quiet memories
           at (Some first) is = goes_behind left again class rest memory steps names also.0 first low also.1 is no_turn quiet memories
 
 -- The beginning of a class that the first has begun goes by in the second, with those of the classes that come first.
 pub beginning_goes_by :
-    {P Q : Program} {Allocated Entered : ℕ → ℕ → Type 0} {names : Names} {one : Memory} {r : Run} (class : ℕ) (rest : List RunFrame)
+    {P Q : Program} {Allocated Entered : ℕ → ℕ → Type 0} {apart : Apart} {names : Names} {one : Memory} {r : Run} (class : ℕ) (rest : List RunFrame)
     → SamePrograms P Q
     → BeginAlike P Q
     → r.world.halt ≡ going
     → r.world.frames ≡ Beginning class ∷ rest
     → is_library_turn rest ≡ false
     → BeginsQuietly P one class
-    → SameMemories P Allocated Entered names [] one r.world.memory
-    → GoesBy P Q Allocated Entered names one r r rest r.world.memory
-beginning_goes_by {P = P} {Q = Q} {Allocated = Allocated} {Entered = Entered} {names = names} {one = one} {r = r} class rest same alike
+    → SameMemories P Allocated Entered apart names [] one r.world.memory
+    → GoesBy P Q Allocated Entered apart names one r r rest r.world.memory
+beginning_goes_by {P = P} {Q = Q} {Allocated = Allocated} {Entered = Entered} {apart = apart} {names = names} {one = one} {r = r} class rest same alike
     goes stands no_turn quiet memories =
-    subst (λ (frames : List RunFrame). GoesBy P Q Allocated Entered names one r
+    subst (λ (frames : List RunFrame). GoesBy P Q Allocated Entered apart names one r
     (standing r frames r.world.memory r.world.steps) rest r.world.memory) (sym stands)
-    (all_go_by Allocated Entered same alike one r goes (suc
+    (all_go_by Allocated Entered apart same alike one r goes (suc
     (unbegun one.begun r.world.memory)) class rest r.world.memory r.world.steps names
     (let less : unbegun one.begun r.world.memory < suc (unbegun one.begun r.world.memory) = omega arith in less) no_turn quiet memories)
 
 -- Where the next turn of the second begins a class that the first has begun before, quiet turns lead back to the same frames, with that
 -- class begun.
 pub turn_goes_by :
-    {P Q : Program} {Allocated Entered : ℕ → ℕ → Type 0} {names : Names} {one : Memory} {r : Run} (class : ℕ) (found : RunClass)
+    {P Q : Program} {Allocated Entered : ℕ → ℕ → Type 0} {apart : Apart} {names : Names} {one : Memory} {r : Run} (class : ℕ) (found : RunClass)
     → SamePrograms P Q
     → BeginAlike P Q
     → r.world.halt ≡ going
@@ -409,9 +409,9 @@ pub turn_goes_by :
     → slice_get P.classes class ≡ Some found
     → IsTrue (is_begun one class)
     → IsFalse (is_begun r.world.memory class)
-    → SameMemories P Allocated Entered names [] one r.world.memory
-    → (by : GoesBy P Q Allocated Entered names one r r r.world.frames r.world.memory) × IsTrue (is_begun by.after class)
-turn_goes_by {P = P} {Q = Q} {Allocated = Allocated} {Entered = Entered} {names = names} {one = one} {r = r} class found same alike goes
+    → SameMemories P Allocated Entered apart names [] one r.world.memory
+    → (by : GoesBy P Q Allocated Entered apart names one r r r.world.frames r.world.memory) × IsTrue (is_begun by.after class)
+turn_goes_by {P = P} {Q = Q} {Allocated = Allocated} {Entered = Entered} {apart = apart} {names = names} {one = one} {r = r} class found same alike goes
     no_turn turned is begun none memories = (
       record {
         after = rest.after;
@@ -428,13 +428,13 @@ turn_goes_by {P = P} {Q = Q} {Allocated = Allocated} {Entered = Entered} {names 
       },
       rest.begun class (begins_itself Q class r.world.memory),
     ) where
-      made : (more : Names) × NamesMore names more × SameMemories P Allocated Entered more [] one (begun_memory Q class r.world.memory)
+      made : (more : Names) × NamesMore names more × SameMemories P Allocated Entered apart more [] one (begun_memory Q class r.world.memory)
       made = second_has_begun same class begun none memories
 
       middle : Run
       middle = standing r (Beginning class ∷ r.world.frames) (begun_memory Q class r.world.memory) (r.world.steps + 1)
 
-      rest : GoesBy P Q Allocated Entered made.0 one middle middle r.world.frames (begun_memory Q class r.world.memory)
+      rest : GoesBy P Q Allocated Entered apart made.0 one middle middle r.world.frames (begun_memory Q class r.world.memory)
       rest = beginning_goes_by class r.world.frames same alike goes refl no_turn (alone_quietly class found is begun none memories) made.2
 
 -- a class of the second is one of the first
@@ -451,7 +451,7 @@ first_there {P = P} {Q = Q} same class also is = by (slice_get P.classes class) 
 
 -- An operation of the second that begins a class first that the first has begun before: quiet turns lead back to it, with that class begun.
 pub operation_goes_by :
-    {P Q : Program} {Allocated Entered : ℕ → ℕ → Type 0} {names : Names} {one : Memory} {r : Run} (f : MethodState) (rest : List RunFrame)
+    {P Q : Program} {Allocated Entered : ℕ → ℕ → Type 0} {apart : Apart} {names : Names} {one : Memory} {r : Run} (f : MethodState) (rest : List RunFrame)
     (point : Point) (class : ℕ)
     → SamePrograms P Q
     → BeginAlike P Q
@@ -463,8 +463,8 @@ pub operation_goes_by :
     → work Q r.world.memory point.op (reverse (take (arity point.op) f.stack)) ≡ begins class
     → IsTrue (is_begun one class)
     → IsFalse (is_begun r.world.memory class)
-    → SameMemories P Allocated Entered names [] one r.world.memory
-    → (by : GoesBy P Q Allocated Entered names one r r r.world.frames r.world.memory) × IsTrue (is_begun by.after class)
+    → SameMemories P Allocated Entered apart names [] one r.world.memory
+    → (by : GoesBy P Q Allocated Entered apart names one r r r.world.frames r.world.memory) × IsTrue (is_begun by.after class)
 operation_goes_by {P = P} {Q = Q} {r = r} f rest point class same alike goes stands is worked enough begins_it begun none memories =
     let also = begun_is_there Q r.world.memory point.op (reverse (take (arity point.op) f.stack)) class begins_it in
     let found = first_there same class also.0 also.1 in
@@ -501,7 +501,7 @@ operation_goes_by {P = P} {Q = Q} {r = r} f rest point class same alike goes sta
 
 -- The second has caught up with the first: the beginning is gone, and worlds are the same.
 pub record CaughtUp (P Q : Program) (c : Comparison) (names : Names) (one : World) (r : Run) (rest : List RunFrame) : Type 0 where
-  pub by : GoesBy P Q c.allocated c.entered names one.memory r r rest r.world.memory
+  pub by : GoesBy P Q c.allocated c.entered c.apart names one.memory r r rest r.world.memory
   pub frames : c.frames by.more one.frames rest
   pub seen : SameSeen c by.more one (standing r rest by.after by.steps).world
 
@@ -516,7 +516,7 @@ pub second_catches_up :
     → is_library_turn rest ≡ false
     → BeginsQuietly P one.memory class
     → c.frames names one.frames rest
-    → SameMemories P c.allocated c.entered names [] one.memory r.world.memory
+    → SameMemories P c.allocated c.entered c.apart names [] one.memory r.world.memory
     → SameSeen c names one r.world
     → CaughtUp P Q c names one r rest
 second_catches_up {P = P} {Q = Q} {c = c} {names = names} {one = one} {r = r} class rest same alike compares goes stands no_turn quiet
@@ -525,5 +525,5 @@ second_catches_up {P = P} {Q = Q} {c = c} {names = names} {one = one} {r = r} cl
       frames = compares.frames names by.more one.frames rest by.grows frames;
       seen = record { known = references_more by.grows seen.known; events = seen.events };
     } where
-      by : GoesBy P Q c.allocated c.entered names one.memory r r rest r.world.memory
+      by : GoesBy P Q c.allocated c.entered c.apart names one.memory r r rest r.world.memory
       by = beginning_goes_by class rest same alike goes stands no_turn quiet memories

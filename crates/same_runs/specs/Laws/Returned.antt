@@ -33,7 +33,7 @@ result_same none_held (and_value is rest) = has_value is
 
 module _ {P Q : Program} {c : Comparison} (same : SamePrograms P Q) (compares : Compares c) {names : Names}
     (first second : World)
-    (memories : SameMemories P c.allocated c.entered names [] first.memory second.memory) (seen : SameSeen c names first second)
+    (memories : SameMemories P c.allocated c.entered c.apart names [] first.memory second.memory) (seen : SameSeen c names first second)
     (goes : first.halt ≡ going) (goes_also : second.halt ≡ going) where
   -- a value, or none, goes to the frame below
   pub returned_to_same : {held held_also : Option ℕ} {values also : List Value} {rest rest_also : List RunFrame}

@@ -10,7 +10,7 @@ use Rattle.member_link.specs.Machine.Beginnings.{starts_of}
 use Rattle.member_link.specs.Machine.Programs.{Program, StartValue, StaticStart, start_string, start_value}
 use Rattle.member_link.specs.Machine.Worlds.{Memory, with_heap}
 use Rattle.same_runs.specs.Renamings.{Names, NamesMore}
-use Rattle.same_runs.specs.SameMemories.{IsAsBegun, IsKeptStart, SameHeaps, SameMemories, SameStatics, start_in, started}
+use Rattle.same_runs.specs.SameMemories.{Apart, IsAsBegun, IsKeptStart, SameHeaps, SameMemories, SameStatics, start_in, started}
 use Rattle.same_runs.specs.Laws.Constants.{kept_by_made}
 use Rattle.same_runs.specs.Laws.Names.{value_more}
 
@@ -78,12 +78,12 @@ statics_still {P = P} {one = one} {heap = heap} grows keeps same = record {
 
 -- the same memories, with other heaps
 pub memories_still :
-    {P : Program} {Allocated Entered : ℕ → ℕ → Type 0} {names more : Names} {now : List ℕ} {one other : Memory} {heap also : Heap}
+    {P : Program} {Allocated Entered : ℕ → ℕ → Type 0} {apart : Apart} {names more : Names} {now : List ℕ} {one other : Memory} {heap also : Heap}
     → NamesMore names more
     → KeepsConstants one.heap heap
-    → SameHeaps more heap also
-    → SameMemories P Allocated Entered names now one other
-    → SameMemories P Allocated Entered more now (with_heap one heap) (with_heap other also)
+    → SameHeaps apart more heap also
+    → SameMemories P Allocated Entered apart names now one other
+    → SameMemories P Allocated Entered apart more now (with_heap one heap) (with_heap other also)
 memories_still grows keeps heaps same = record {
   heaps = heaps;
   statics = statics_still grows keeps same.statics;
@@ -114,12 +114,12 @@ statics_counted {P = P} {one = one} allocations also entries entries_also same =
 
 -- the same memories, with counts that compare
 pub memories_counted :
-    {P : Program} {Allocated Entered : ℕ → ℕ → Type 0} {names : Names} {now : List ℕ} {one other : Memory}
+    {P : Program} {Allocated Entered : ℕ → ℕ → Type 0} {apart : Apart} {names : Names} {now : List ℕ} {one other : Memory}
     → (allocations also entries entries_also : ℕ)
     → Allocated allocations also
     → Entered entries entries_also
-    → SameMemories P Allocated Entered names now one other
-    → SameMemories P Allocated Entered names now (record one { allocations = allocations; entries = entries })
+    → SameMemories P Allocated Entered apart names now one other
+    → SameMemories P Allocated Entered apart names now (record one { allocations = allocations; entries = entries })
     (record other { allocations = also; entries = entries_also })
 memories_counted allocations also entries entries_also allocated entered same = record {
   heaps = same.heaps;

@@ -12,7 +12,7 @@ use Rattle.member_link.specs.Machine.Shapes.{is_instance}
 use Rattle.member_link.specs.Machine.Worlds.{Memory}
 use Rattle.same_runs.specs.Renamings.{Names, SameHeld, none_held, one_held, SameObject}
 use Rattle.same_runs.specs.SameFrames.{SameCatches, no_catches, and_catch, SameLanding, both_catch, both_leave, both_nowhere, both_reach_library, Unwinds, in_beginnings, in_both, in_first, in_library, in_none, catches_at, caught}
-use Rattle.same_runs.specs.SameMemories.{SameMemories}
+use Rattle.same_runs.specs.SameMemories.{Apart, SameMemories}
 use Rattle.same_runs.specs.SamePrograms.{SamePrograms}
 use Rattle.same_runs.specs.Laws.Heaps.{left_constants}
 use Rattle.same_runs.specs.Laws.Heaps as heaps
@@ -30,21 +30,21 @@ handler_by P heap f reference = by (point_at P f.at f.place) refl where
 
 -- a monitor that both hold is left
 pub unlocked_same :
-    {P : Program} {Allocated Entered : ℕ → ℕ → Type 0} {names : Names} {one other : Memory} {held also : Option ℕ}
-    → SameMemories P Allocated Entered names [] one other
+    {P : Program} {Allocated Entered : ℕ → ℕ → Type 0} {apart : Apart} {names : Names} {one other : Memory} {held also : Option ℕ}
+    → SameMemories P Allocated Entered apart names [] one other
     → SameHeld names held also
-    → SameMemories P Allocated Entered names [] (unlocked one held) (unlocked other also)
+    → SameMemories P Allocated Entered apart names [] (unlocked one held) (unlocked other also)
 unlocked_same memories none_held = memories
 unlocked_same {names = names} {one = one} memories (one_held {reference = reference} {named = named} is) =
     memories_still (names_themselves names) (keeps_all one.heap (left one.heap reference) (left_constants one.heap reference))
     (heaps.both_leave memories.heaps reference named is) memories
 
-module _ {P Q : Program} {Allocated Entered : ℕ → ℕ → Type 0} {Lands : Names → List RunFrame → List RunFrame
+module _ {P Q : Program} {Allocated Entered : ℕ → ℕ → Type 0} {apart : Apart} {Lands : Names → List RunFrame → List RunFrame
     → Type 0} {names : Names} (same : SamePrograms P Q) where
   -- the handlers of both catch an object, or neither's do
   handlers_same :
       {one other : Memory} {f g : MethodState} {ones others : List RunFrame} {catches also : List Catch} (reference named : ℕ)
-      → SameMemories P Allocated Entered names [] one other
+      → SameMemories P Allocated Entered apart names [] one other
       → names reference ≡ Some named
       → SameCatches Lands names f g ones others catches also
       → ((handler_for P one.heap catches reference ≡ None) × (handler_for Q other.heap also named ≡ None))
@@ -82,9 +82,9 @@ module _ {P Q : Program} {Allocated Entered : ℕ → ℕ → Type 0} {Lands : N
   pub unwind_same :
       {SameFrames : Names → List RunFrame → List RunFrame → Type 0} {ones others : List RunFrame} (reference named : ℕ) (one other : Memory)
       → Unwinds P Q SameFrames Lands names ones others
-      → SameMemories P Allocated Entered names [] one other
+      → SameMemories P Allocated Entered apart names [] one other
       → names reference ≡ Some named
-      → SameLanding P Allocated Entered SameFrames Lands names (unwind P reference ones one) (unwind Q named others other)
+      → SameLanding P Allocated Entered apart SameFrames Lands names (unwind P reference ones one) (unwind Q named others other)
   unwind_same reference named one other (in_library frames) memories is = both_reach_library memories frames
   unwind_same reference named one other in_beginnings memories is = both_nowhere
   unwind_same reference named one other in_none memories is = both_nowhere
@@ -99,9 +99,9 @@ module _ {P Q : Program} {Allocated Entered : ℕ → ℕ → Type 0} {Lands : N
             (past (is_initialiser ends.method)
             (unwind_same reference named (unlocked one f.held) (unlocked other g.held) rest (unlocked_same memories held) is))
       ] where
-        past : (b : Bool) → SameLanding P Allocated Entered SameFrames Lands names (unwind P reference ones (unlocked one f.held))
+        past : (b : Bool) → SameLanding P Allocated Entered apart SameFrames Lands names (unwind P reference ones (unlocked one f.held))
             (unwind Q named others (unlocked other g.held))
-            → SameLanding P Allocated Entered SameFrames Lands names
+            → SameLanding P Allocated Entered apart SameFrames Lands names
             (if b then leaves_initialiser one ones else unwind P reference ones (unlocked one f.held))
             (if b then leaves_initialiser other others else unwind Q named others (unlocked other g.held))
         past true more = both_leave memories

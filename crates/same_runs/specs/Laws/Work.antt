@@ -15,7 +15,7 @@ use Rattle.member_link.specs.References.{Reference}
 use Rattle.member_link.specs.Rows.ArithmeticRows.{float_operations, operation_in}
 use Rattle.same_runs.specs.Renamings.{Names, SameValues}
 use Rattle.same_runs.specs.SameCompletions.{SameCompletions, both_end}
-use Rattle.same_runs.specs.SameMemories.{IsComparison, SameMemories}
+use Rattle.same_runs.specs.SameMemories.{Apart, IsComparison, SameMemories}
 use Rattle.same_runs.specs.SamePrograms.{IsInBoth, SameBar, SameOp, same_initialiser, same_op, same_store, SamePrograms}
 use Rattle.same_runs.specs.Laws.ArithmeticWork.{asks_same, computes, divides}
 use Rattle.same_runs.specs.Laws.ArrayWork.{lengths, loads, makes_array, makes_arrays, stores}
@@ -24,11 +24,11 @@ use Rattle.same_runs.specs.Laws.FieldWork.{gets_field, gets_static, makes_object
 use Rattle.same_runs.specs.Laws.InitialiserStarts.{start_of_initialiser}
 use Rattle.same_runs.specs.Laws.OperandWork.{casts, enters, gives_value, itself, leaves, pushes_constant, tests, throws_same}
 
-module _ {P Q : Program} {Allocated Entered : ℕ → ℕ → Type 0} {names : Names} {one other : Memory}
+module _ {P Q : Program} {Allocated Entered : ℕ → ℕ → Type 0} {apart : Apart} {names : Names} {one other : Memory}
     (same : SamePrograms P Q) (allocated : IsComparison Allocated) (entered : IsComparison Entered)
-    (memories : SameMemories P Allocated Entered names [] one other) where
+    (memories : SameMemories P Allocated Entered apart names [] one other) where
   abbrev Both : Completion → Completion → Type 0
-  Both completion also = SameCompletions P Allocated Entered names one other completion also
+  Both completion also = SameCompletions P Allocated Entered apart names one other completion also
 
   same_field : (r : Reference) → Q.links.field r ≡ P.links.field r
   same_field r = ap (λ (links : Links). links.field r) same.links
