@@ -10,10 +10,11 @@ use Rattle.machine_values.specs.declared.frame.RunFrame.TheVariants.{Library, Be
 use Rattle.machine_values.specs.declared.value.Value.{Value}
 use Rattle.member_link.specs.Machine.Acting.{Waiting, waiting_in}
 use Rattle.member_link.specs.Machine.Beginnings.{frame_with}
+use Rattle.member_link.specs.Machine.Completions.{Completion, gives, raises, throws}
 use Rattle.member_link.specs.Machine.Performing.{is_initialiser, resumed}
 use Rattle.member_link.specs.Machine.Programs.{Program, RunMethod, run_method}
 use Rattle.member_link.specs.Machine.Stepping.{is_library_turn}
-use Rattle.member_link.specs.Machine.Worlds.{World, going}
+use Rattle.member_link.specs.Machine.Worlds.{Memory, World, going}
 use Rattle.same_runs.specs.Renamings.{Names, NamesMore, SameHeld, SameReferences, SameValues}
 use Rattle.same_runs.specs.SameFrames.{EndSame, Unwinds}
 use Rattle.same_runs.specs.SameMemories.{Apart, BeginsQuietly, SameMemories}
@@ -102,11 +103,19 @@ pub data SameAfter (P : Program) (c : Comparison) (names : Names) (one other : W
 
 -- ---- what a theorem says of the frames of an operation that is in both
 
--- The frames before an operation, and the same less its operands: what goes together behind each way that it may end.
-pub record Goes (P Q : Program) (c : Comparison) (names : Names) (before taken also taken_also : MethodState)
-    (rest rest_also : List RunFrame)
+-- an operation comes to an object that is thrown
+abbrev pub IsThrowing : Completion → Type 0
+IsThrowing (raises class) = Unit {0}
+IsThrowing (throws reference) = Unit {0}
+IsThrowing w = ⊥
+
+-- The frames before an operation, and the same less its operands: what goes together behind each way that it may end. By `w`, what the
+-- operation comes to in the first run, frames go on only behind values that it gives, and objects are thrown only where it throws one.
+pub record Goes (P Q : Program) (c : Comparison) (names : Names) (w : Completion)
+    (before taken also taken_also : MethodState) (rest rest_also : List RunFrame)
     : Type 0 where
-  pub given : (more : Names) (ones others : List Value)
+  pub given : (more : Names) (memory : Memory) (ones others : List Value)
+      → w ≡ gives memory ones
       → NamesMore names more
       → SameValues more ones others
       → c.frames more (Method (resumed taken ones) ∷ rest) (Method (resumed taken_also others) ∷ rest_also)
@@ -124,12 +133,14 @@ pub record Goes (P Q : Program) (c : Comparison) (names : Names) (before taken a
       → c.frames more (Method (frame_with P at (units_of_values ones) held) ∷ Method taken ∷ rest)
       (Method (frame_with Q at (units_of_values others) held_also) ∷ Method taken_also ∷ rest_also)
   pub unwinds : (more : Names)
+      → IsThrowing w
       → NamesMore names more
       → Unwinds P Q c.frames c.lands more (Method taken ∷ rest) (Method taken_also ∷ rest_also)
 
 -- ---- what a theorem says of frames with the library's on top
 
--- Frames of methods that wait for the library, below its own: they wait for the same, or none does.
+-- Frames of methods that wait for the library, below its own: they wait for the same, or none does. Objects are thrown only where the
+-- library may throw one.
 pub data SameWaiting (P Q : Program) (c : Comparison) (names : Names)
     : Option Waiting → Option Waiting → Type 0 where
   none_waits : SameWaiting P Q c names None None
@@ -140,6 +151,7 @@ pub data SameWaiting (P Q : Program) (c : Comparison) (names : Names)
       → SameValues more ones others
       → c.frames more (Method (resumed one.frame ones) ∷ one.rest) (Method (resumed other.frame others) ∷ other.rest))
       → ((more : Names)
+      → IsTrue one.pending.may_throw
       → NamesMore names more
       → Unwinds P Q c.frames c.lands more (Method one.frame ∷ one.rest) (Method other.frame ∷ other.rest))
       → SameWaiting P Q c names (Some one) (Some other)

@@ -25,9 +25,9 @@ use Rattle.member_link.specs.Machine.Ops.{Op, no_operation, meaningless, push_va
 use Rattle.member_link.specs.Machine.Programs.{Point, Program, point_at}
 use Rattle.member_link.specs.Machine.Runs.{Run}
 use Rattle.member_link.specs.Machine.Stepping.{op_step}
-use Rattle.member_link.specs.Machine.Work.{arity}
+use Rattle.member_link.specs.Machine.Work.{arity, work}
 use Rattle.same_runs.specs.Laws.BothBegin.{counted}
-use Rattle.same_runs.specs.Laws.CaughtUp.{less}
+use Rattle.same_runs.specs.Laws.CaughtUp.{less, operands_of}
 use Rattle.same_runs.specs.Laws.Moved.{moved_is, moved_same}
 use Rattle.same_runs.specs.Laws.Operations.{WorksOnOperands, same_arity}
 use Rattle.same_runs.specs.Laws.Returned.{return_step_same, returned_same}
@@ -154,14 +154,15 @@ module _ (u : Setup) (basis : Basis u) (facts : FlatFacts u) {names : Names} {on
       (step_goes_on u basis at is)))
 
   works_on : WorksOnOperands point.op → Keeps P Q (Related u) measure one other
-  works_on work =
+  works_on working =
       keeps_both u basis at is measure
-      (both_work_on u basis at is also in_flat.top in_flat.below is_also work same in_flat.stack in_flat.in_place.same
-      (subst (λ (n : ℕ). Goes P Q (comparison u) names f (less (arity point.op) f) g (less n g) rest others) (sym (same_arity same))
+      (both_work_on u basis at is also in_flat.top in_flat.below is_also working same in_flat.stack in_flat.in_place.same
+      (subst (λ (n : ℕ). Goes P Q (comparison u) names (work P one.world.memory point.op (operands_of (arity point.op) f)) f
+      (less (arity point.op) f) g (less n g) rest others) (sym (same_arity same))
       (flat_goes facts basis.same (arity point.op) in_flat waits_here
-      (leb-true (arity point.op) (length f.stack) (has_operands u basis at is work)) points below))) where
+      (leb-true (arity point.op) (length f.stack) (has_operands u basis at is working)) points below))) where
         same : SameOp P Q point.op stands.also
-        same = subst (λ (op : Op). SameOp P Q op stands.also) (moved_works base start point.op work) stands.same
+        same = subst (λ (op : Op). SameOp P Q op stands.also) (moved_works base start point.op working) stands.same
 
   -- the host ends
   ends_host : in_flat.chain ≡ [] → Family point.op → Keeps P Q (Related u) measure one other

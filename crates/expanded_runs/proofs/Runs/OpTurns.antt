@@ -12,10 +12,10 @@ use Rattle.member_link.specs.Machine.Ops.{Op, no_operation, meaningless, push_va
 use Rattle.member_link.specs.Machine.Programs.{Point, Program, point_at}
 use Rattle.member_link.specs.Machine.Runs.{Run, turn}
 use Rattle.member_link.specs.Machine.Stepping.{ends_stuck, is_library_turn, op_step, point_step, work_step}
-use Rattle.member_link.specs.Machine.Work.{arity}
+use Rattle.member_link.specs.Machine.Work.{arity, work}
 use Rattle.member_link.specs.Machine.Worlds.{World, going, stuck}
 use Rattle.same_runs.specs.Laws.BothBegin.{counted}
-use Rattle.same_runs.specs.Laws.CaughtUp.{BothTurn, less, operation_kept, turned_going}
+use Rattle.same_runs.specs.Laws.CaughtUp.{BothTurn, less, operands_of, operation_kept, turned_going}
 use Rattle.same_runs.specs.Laws.Operations.{WorksOnOperands, at_operation, step_works}
 use Rattle.same_runs.specs.Renamings.{Names, SameValues}
 use Rattle.same_runs.specs.SameMemories.{SameMemories}
@@ -169,7 +169,8 @@ module _ (u : Setup) (basis : Basis u) {names : Names} {one other : Run} {f g : 
       → SameOp P Q point.op also.op
       → g.stack ≡ top ++ below
       → SameValues names f.stack top
-      → Goes P Q (comparison u) names f (less (arity point.op) f) g (less (arity also.op) g) rest others
+      → Goes P Q (comparison u) names (work P one.world.memory point.op (operands_of (arity point.op) f)) f (less (arity point.op) f) g
+      (less (arity also.op) g) rest others
       → BothTurn P Q (comparison u) names one other
   both_work_on also top below is_also work same stack are goes =
       operation_kept basis.same basis.alike basis.compares one

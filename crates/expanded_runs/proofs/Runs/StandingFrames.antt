@@ -19,6 +19,7 @@ use Rattle.machine_values.specs.declared.frame.RunFrame.TheVariants.{Library, Me
 use Rattle.machine_values.specs.declared.value.Value.{Value}
 use Rattle.member_link.specs.Machine.Acting.{Pending, pending_of, waiting_in}
 use Rattle.member_link.specs.Machine.Codes.{method_code}
+use Rattle.member_link.specs.Machine.Completions.{Completion}
 use Rattle.member_link.specs.Machine.Ops.{Op, no_operation}
 use Rattle.member_link.specs.Machine.Performing.{is_initialiser, resumed}
 use Rattle.member_link.specs.Machine.Programs.{Point, Program, RunMethod, code_run, point_at, run_method}
@@ -114,35 +115,35 @@ module _ {u : Setup} (facts : FlatFacts u) (same : SamePrograms (before u) (afte
   -- ---- operations on operands
 
   -- behind each way in which one ends, where its frame waits with its operands and without
-  goes_by : {names : Names} {f g : MethodState} {rest rest_also : List RunFrame} (taken : ℕ)
+  goes_by : {names : Names} {w : Completion} {f g : MethodState} {rest rest_also : List RunFrame} (taken : ℕ)
       → SameStanding u true names (Method f ∷ rest) (Method g ∷ rest_also)
       → SameStanding u true names (Method (less taken f) ∷ rest) (Method (less taken g) ∷ rest_also)
       → AtPoints u (Method f ∷ rest)
-      → Goes P Q (comparison u) names f (less taken f) g (less taken g) rest rest_also
+      → Goes P Q (comparison u) names w f (less taken f) g (less taken g) rest rest_also
   goes_by taken stand taken_stand at = record {
-    given = λ more ones others grows are. resumed_same (standing_more grows taken_stand) are;
+    given = λ more memory ones others is grows are. resumed_same (standing_more grows taken_stand) are;
     begins = λ more class grows. settled (beginnings_stand (standing_free (standing_more grows stand)));
     asks = λ more grows. settled (libraries_stand none_held (standing_more grows taken_stand));
     called = λ more to method ones others held held_also grows is are held_same.
         begins_same facts to (same_arguments are) held_same (standing_any (is_awaited u to) (standing_more grows taken_stand));
-    unwinds = λ more grows.
+    unwinds = λ more throwing grows.
         stands_unwind facts same (standing_more grows taken_stand) (record { point = at.0.point; is = at.0.is }, at.1);
   }
 
-  pub own_goes : {names : Names} {f g : MethodState} {rest rest_also : List RunFrame} (taken : ℕ)
+  pub own_goes : {names : Names} {w : Completion} {f g : MethodState} {rest rest_also : List RunFrame} (taken : ℕ)
       → InOwn u names f g
       → AtPoints u (Method f ∷ rest)
       → SameStanding u (is_awaited u g.at) names rest rest_also
-      → Goes P Q (comparison u) names f (less taken f) g (less taken g) rest rest_also
+      → Goes P Q (comparison u) names w f (less taken f) g (less taken g) rest rest_also
   own_goes taken own at rest = goes_by taken (own_stand own rest) (own_stand (taken_own taken own) rest) at
 
-  pub flat_goes : {names : Names} {f g : MethodState} {waiting : List MethodState} {ones others : List RunFrame} (taken : ℕ)
+  pub flat_goes : {names : Names} {w : Completion} {f g : MethodState} {waiting : List MethodState} {ones others : List RunFrame} (taken : ℕ)
       (i : InFlat u names f waiting g)
       → WaitsInFlat u i.expanded.host i.p f.at f.place
       → taken ≤ length f.stack
       → AtPoints u (Method f ∷ map Method waiting ++ ones)
       → SameStanding u (is_awaited u g.at) names ones others
-      → Goes P Q (comparison u) names f (less taken f) g (less taken g) (map Method waiting ++ ones) others
+      → Goes P Q (comparison u) names w f (less taken f) g (less taken g) (map Method waiting ++ ones) others
   flat_goes taken i waits enough at rest =
       goes_by taken (flat_stands i (λ told. waits) rest) (flat_stands (taken_flat taken i enough) (λ told. waits) rest) at
 
@@ -244,7 +245,7 @@ module _ {u : Setup} (facts : FlatFacts u) (same : SamePrograms (before u) (afte
         by None = none_waits
         by (Some pending) =
             both_wait refl (λ more ones others grows are. resumed_same (standing_more grows stand) are)
-            (λ more grows. stands_unwind facts same (standing_more grows stand) at)
+            (λ more may_throw grows. stands_unwind facts same (standing_more grows stand) at)
 
   library_waits : {names : Names} {rest rest_also : List RunFrame} (made made_also : Option ℕ)
       → SameStanding u true names rest rest_also

@@ -1,7 +1,7 @@
 -- An action of the library changes both worlds alike.
 use Rattle.std.proofs.Common.{◌≡◌, ◌+◌, ◌&&◌, nat_le, ℕ, ℤ, pos, negsuc, Bool, true, false, not, List, [], ◌∷◌, slice_get, is_some, Option, Some, None, if◌then◌else◌, refl, sym, ap, subst, ◌∙◌, inl, inr}
 use Rattle.std.specs.List.{list_any}
-use Rattle.std.proofs.lemmas.Bool.{false≢true}
+use Rattle.std.proofs.lemmas.Bool.{and_parts, false≢true}
 use Rattle.class_model.specs.Descriptors.{parameters_of, type_of}
 use Rattle.class_model.specs.Members.{has, STATIC}
 use Rattle.class_model.specs.Names.{init}
@@ -321,7 +321,7 @@ module _ {P Q : Program} {c : Comparison} {names : Names} {first second : World}
         by false e = rw (e, tests_same ∙ e) faults
         by true e = rw (e, tests_same ∙ e)
             (thrown_same same compares reference named first.memory second.memory (names_themselves names) there seen goes goes_also memories
-            (unwinds names (names_themselves names)))
+            (unwinds names (and_parts waiting.pending.may_throw (is_throwable P first reference) e).0 (names_themselves names)))
 
   -- ---- calls
 

@@ -5,6 +5,7 @@ use Rattle.machine_values.specs.Frames.{MethodState}
 use Rattle.machine_values.specs.declared.frame.RunFrame.{RunFrame}
 use Rattle.machine_values.specs.declared.frame.RunFrame.TheVariants.{Method}
 use Rattle.machine_values.specs.declared.value.Value.{Value}
+use Rattle.member_link.specs.Machine.Completions.{Completion}
 use Rattle.member_link.specs.Machine.Performing.{perform}
 use Rattle.member_link.specs.Machine.Programs.{Point, Program, point_at}
 use Rattle.member_link.specs.Machine.Runs.{Run, turn, turn_by}
@@ -34,18 +35,18 @@ after_fewer grows (second_begins later class rest grows_later is no_turn quiet f
 after_fewer grows (both_over later seen halted same) = both_over later seen halted same
 
 -- what goes together behind an operation does so under more names
-pub goes_more : {P Q : Program} {c : Comparison} {names more : Names} {before taken also taken_also : MethodState}
+pub goes_more : {P Q : Program} {c : Comparison} {names more : Names} {w : Completion} {before taken also taken_also : MethodState}
     {rest rest_also : List RunFrame}
     → NamesMore names more
-    → Goes P Q c names before taken also taken_also rest rest_also
-    → Goes P Q c more before taken also taken_also rest rest_also
+    → Goes P Q c names w before taken also taken_also rest rest_also
+    → Goes P Q c more w before taken also taken_also rest rest_also
 goes_more grows frames = record {
-  given = λ later ones others then are. frames.given later ones others (more_and_more grows then) are;
+  given = λ later memory ones others is then are. frames.given later memory ones others is (more_and_more grows then) are;
   begins = λ later class then. frames.begins later class (more_and_more grows then);
   asks = λ later then. frames.asks later (more_and_more grows then);
   called = λ later at method ones others held held_also then is are same_held.
       frames.called later at method ones others held held_also (more_and_more grows then) is are same_held;
-  unwinds = λ later then. frames.unwinds later (more_and_more grows then);
+  unwinds = λ later throwing then. frames.unwinds later throwing (more_and_more grows then);
 }
 
 -- ---- a turn of both
@@ -135,7 +136,8 @@ pub record AtOperation (P Q : Program) (c : Comparison) (names : Names) (one oth
   pub operands : SameValues names (operands_of (arity point.op) f) (operands_of (arity also.op) g)
   pub memories : SameMemories P c.allocated c.entered c.apart names [] one.world.memory other.world.memory
   pub seen : SameSeen c names one.world other.world
-  pub frames : Goes P Q c names f (less (arity point.op) f) g (less (arity also.op) g) rest others
+  pub frames : Goes P Q c names (work P one.world.memory point.op (operands_of (arity point.op) f)) f (less (arity point.op) f) g
+      (less (arity also.op) g) rest others
 
 module _ {P Q : Program} {c : Comparison} (same : SamePrograms P Q) (alike : BeginAlike P Q) (compares : Compares c) {f g : MethodState}
     {rest others : List RunFrame} {point also : Point} (one : Run) where
@@ -148,7 +150,7 @@ module _ {P Q : Program} {c : Comparison} (same : SamePrograms P Q) (alike : Beg
   performed {names = names} {other = other} at = by
       (operation_performed {first = counted one} {second = counted other} {before = f} {taken = less (arity point.op) f} {also = g}
       {taken_also = less (arity also.op) g} {rest = rest} {rest_also = others} same compares at.memories
-      (record { known = at.seen.known; events = at.seen.events }) at.goes at.goes_also at.frames at.same at.operands) where
+      (record { known = at.seen.known; events = at.seen.events }) at.goes at.goes_also at.frames refl at.same at.operands) where
         counted : Run → World
         counted r = record r.world { steps = r.world.steps + 1 }
 

@@ -10,7 +10,7 @@ use Rattle.member_link.specs.Machine.Ops.{Op, no_operation, meaningless, push_va
 use Rattle.member_link.specs.Machine.Programs.{Point, Program, point_at}
 use Rattle.member_link.specs.Machine.Runs.{Run}
 use Rattle.member_link.specs.Machine.Stepping.{op_step, work_step}
-use Rattle.member_link.specs.Machine.Work.{arity}
+use Rattle.member_link.specs.Machine.Work.{arity, work}
 use Rattle.member_link.specs.Machine.Worlds.{World, going}
 use Rattle.same_runs.specs.Renamings.{Names, SameValues, no_values, and_value}
 use Rattle.same_runs.specs.SameMemories.{SameMemories}
@@ -150,7 +150,8 @@ pub at_operation :
     → SameValues names f.stack top
     → SameMemories P c.allocated c.entered c.apart names [] one.world.memory other.world.memory
     → SameSeen c names one.world other.world
-    → Goes P Q c names f (less (arity point.op) f) g (less (arity also.op) g) rest others
+    → Goes P Q c names (work P one.world.memory point.op (operands_of (arity point.op) f)) f (less (arity point.op) f) g
+    (less (arity also.op) g) rest others
     → AtOperation P Q c names one other f g rest others point also
 at_operation {P = P} {Q = Q} {c = c} {names = names} {f = f} {g = g} {rest = rest} {others = others} {point = point} {also = also} top under
     goes goes_also stands stands_also is is_also works same enough stack are memories seen frames = record {

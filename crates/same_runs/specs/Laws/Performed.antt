@@ -25,7 +25,7 @@ use Rattle.same_runs.specs.SameCompletions.{SameCompletions, both_give, both_rai
 use Rattle.same_runs.specs.SameFrames.{SameLanding, both_catch, both_leave, both_nowhere, both_reach_library, Unwinds}
 use Rattle.same_runs.specs.SameMemories.{SameMemories}
 use Rattle.same_runs.specs.SamePrograms.{SameOp, SamePrograms}
-use Rattle.same_runs.specs.SameWorlds.{Comparison, Compares, Goes, SameEvent, SameEvents, no_events, and_event, SameSeen, SameAfter, both_go, both_landed, both_over}
+use Rattle.same_runs.specs.SameWorlds.{Comparison, Compares, Goes, IsThrowing, SameEvent, SameEvents, no_events, and_event, SameSeen, SameAfter, both_go, both_landed, both_over}
 use Rattle.same_runs.specs.Laws.Begun.{begin_both}
 use Rattle.same_runs.specs.Laws.Completed.{called_there, ends_over, work_is_possible}
 use Rattle.same_runs.specs.Laws.Constants.{both_have}
@@ -205,12 +205,12 @@ pub record MustBegin (one other : Memory) (completion : Completion) : Type 0 whe
   pub begun : IsTrue (is_begun one class)
   pub begun_not : IsFalse (is_begun other class)
 
-module _ {P Q : Program} {c : Comparison} {names : Names} {first second : World}
+module _ {P Q : Program} {c : Comparison} {names : Names} {first second : World} {w : Completion}
     {before taken also taken_also : MethodState} {rest rest_also : List RunFrame}
     (same : SamePrograms P Q) (compares : Compares c)
     (memories : SameMemories P c.allocated c.entered c.apart names [] first.memory second.memory) (seen : SameSeen c names first second)
     (goes : first.halt ≡ going) (goes_also : second.halt ≡ going)
-    (frames : Goes P Q c names before taken also taken_also rest rest_also) where
+    (frames : Goes P Q c names w before taken also taken_also rest rest_also) where
   abbrev After : Completion → Completion → Type 0
   After one other = SameAfter P c names (perform P first before taken rest one) (perform Q second also taken_also rest_also other)
 
@@ -234,51 +234,54 @@ module _ {P Q : Program} {c : Comparison} {names : Names} {first second : World}
   -- first program. A completion that ends a run as one that goes on, which no operation comes to, leaves the frames as they are.
   pub performs_same :
       {one other : Completion}
+      → w ≡ one
       → ((at : MethodAt) (values : List Value) → one ≡ calls at values → (method : RunMethod) × (run_method P at ≡ Some method))
       → (one ≡ ends going → c.frames names first.frames second.frames)
       → SameCompletions P c.allocated c.entered c.apart names first.memory second.memory one other
       → MustBegin first.memory second.memory other
       ⊎ SameAfter P c names (perform P first before taken rest one) (perform Q second also taken_also rest_also other)
-  performs_same known stay (both_give {ones = ones} {others = others} more grows now are) =
-      inr (both_go more grows (frames.given more ones others grows are) now
+  performs_same is_one known stay (both_give {memory = memory} {ones = ones} {others = others} more grows now are) =
+      inr (both_go more grows (frames.given more memory ones others is_one grows are) now
       (record { known = references_more grows seen.known; events = seen.events }) goes goes_also)
-  performs_same known stay (both_raise {class = class}) = inr (raised_same same compares class memories seen goes goes_also frames.unwinds)
-  performs_same known stay (both_throw {reference = reference} {named = named} is) =
+  performs_same is_one known stay (both_raise {class = class}) = inr (raised_same same compares class memories seen goes goes_also
+      (λ more. frames.unwinds more (subst IsThrowing (sym is_one) tt)))
+  performs_same is_one known stay (both_throw {reference = reference} {named = named} is) =
       inr (thrown_same same compares reference named first.memory second.memory (names_themselves names) is seen goes goes_also memories
-      (frames.unwinds names (names_themselves names)))
-  performs_same known stay (both_begin {class = class} none) = inr (begins_both class none)
-  performs_same known stay (both_call {at = at} {ones = ones} are) =
+      (frames.unwinds names (subst IsThrowing (sym is_one) tt) (names_themselves names)))
+  performs_same is_one known stay (both_begin {class = class} none) = inr (begins_both class none)
+  performs_same is_one known stay (both_call {at = at} {ones = ones} are) =
       let method = known at ones refl in
       inr (calls_both at method.0 method.1 are)
-  performs_same known stay (both_ask {asked = asked} {also = asked_also} is) =
+  performs_same is_one known stay (both_ask {asked = asked} {also = asked_also} is) =
       inr (both_go names (names_themselves names) (frames.asks names (names_themselves names)) memories
       (shown_same same compares (record first { frames = Library None ∷ Method taken ∷ rest })
       (record second { frames = Library None ∷ Method taken_also ∷ rest_also })
       memories seen.events (asked_numbered same memories.heaps seen.known is)) goes goes_also)
-  performs_same known stay (both_end {halt = going}) =
+  performs_same is_one known stay (both_end {halt = going}) =
       inr (both_go names (names_themselves names) (stay refl) memories (record { known = seen.known; events = seen.events }) refl refl)
-  performs_same known stay (both_end {halt = stopped}) =
+  performs_same is_one known stay (both_end {halt = stopped}) =
       inr (both_over names (record { known = seen.known; events = seen.events }) (λ impossible. cc impossible) refl)
-  performs_same known stay (both_end {halt = faulted}) =
+  performs_same is_one known stay (both_end {halt = faulted}) =
       inr (both_over names (record { known = seen.known; events = seen.events }) (λ impossible. cc impossible) refl)
-  performs_same known stay (both_end {halt = init_threw}) =
+  performs_same is_one known stay (both_end {halt = init_threw}) =
       inr (both_over names (record { known = seen.known; events = seen.events }) (λ impossible. cc impossible) refl)
-  performs_same known stay (both_end {halt = array_too_long}) =
+  performs_same is_one known stay (both_end {halt = array_too_long}) =
       inr (both_over names (record { known = seen.known; events = seen.events }) (λ impossible. cc impossible) refl)
-  performs_same known stay (both_end {halt = stuck}) =
+  performs_same is_one known stay (both_end {halt = stuck}) =
       inr (both_over names (record { known = seen.known; events = seen.events }) (λ impossible. cc impossible) refl)
-  performs_same known stay (begins_alone {class = class} begun none) =
+  performs_same is_one known stay (begins_alone {class = class} begun none) =
       inl (record { class = class; is = refl; begun = begun; begun_not = none })
 
   -- The same operation with the same operands changes both worlds alike; or the second has to begin a class first that the first has begun.
   pub operation_performed :
       {op also_op : Op} {ones others : List Value}
+      → w ≡ work P first.memory op ones
       → SameOp P Q op also_op
       → SameValues names ones others
       → MustBegin first.memory second.memory (work Q second.memory also_op others)
       ⊎ SameAfter P c names (perform P first before taken rest (work P first.memory op ones))
       (perform Q second also taken_also rest_also (work Q second.memory also_op others))
-  operation_performed {op = op} {ones = ones} is are =
+  operation_performed {op = op} {ones = ones} is_one is are =
       let possible = work_is_possible P first.memory op ones in
-      performs_same (called_there possible) (λ over. absurd (ends_over possible over))
+      performs_same is_one (called_there possible) (λ over. absurd (ends_over possible over))
       (work_same same (record { both = compares.allocated }) (record { both = compares.entered }) memories is are)
