@@ -1,6 +1,6 @@
 -- Frames of two runs as an object that is thrown goes through them. Which frames go together a theorem says itself, by two relations: of frames
 -- that stand in both, and of those in which an object has landed in a handler.
-use Rattle.std.specs.Prelude.{◌≡◌, ℕ, false, List, [], ◌∷◌, Option, Some, None}
+use Rattle.std.specs.Prelude.{◌≡◌, ℕ, false, List, [], ◌∷◌, Option, Some, None, IsFalse}
 use Rattle.class_tree.specs.Headers.{Name}
 use Rattle.machine_values.specs.Frames.{MethodState}
 use Rattle.machine_values.specs.declared.frame.RunFrame.{RunFrame}
@@ -57,6 +57,8 @@ pub record PassesOn (P : Program) (f : MethodState) : Type 0 where
   pub holds_none : f.held ≡ None
   pub catches_none : catches_at P f ≡ []
 
+-- An object that is thrown passes frames one by one, up to the library's. Out of a class initialiser no object goes further: the run is over,
+-- and of the frames below that of one nothing is asked.
 pub data Unwinds (P Q : Program) (SameFrames Lands : Names → List RunFrame → List RunFrame → Type 0)
     (names : Names)
     : List RunFrame → List RunFrame → Type 0 where
@@ -64,11 +66,11 @@ pub data Unwinds (P Q : Program) (SameFrames Lands : Names → List RunFrame →
       → SameFrames names (Library None ∷ ones) (Library None ∷ others)
       → Unwinds P Q SameFrames Lands names (Library made ∷ ones) (Library made_also ∷ others)
   in_both : {f g : MethodState} {ones others : List RunFrame}
-      → EndSame P Q f g
+      (ends : EndSame P Q f g)
       → SameHeld names f.held g.held
       → SameCatches Lands names f g ones others (catches_at P f) (catches_at Q g)
       → SameFrames names ones others
-      → Unwinds P Q SameFrames Lands names ones others
+      → (IsFalse (is_initialiser ends.method) → Unwinds P Q SameFrames Lands names ones others)
       → Unwinds P Q SameFrames Lands names (Method f ∷ ones) (Method g ∷ others)
   in_first : {f : MethodState} {ones others : List RunFrame}
       → PassesOn P f

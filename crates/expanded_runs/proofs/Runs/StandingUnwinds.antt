@@ -86,7 +86,7 @@ module _ {u : Setup} (facts : FlatFacts u) (same : SamePrograms (before u) (afte
       let method = method_of_code P f.at code.0 code.1 in
       in_both (ends_same same f g method.0 method.1 own.at) own.held
       (subst (SameCatches (SameTop u) names f g ones others (catches_at P f)) same_catches (own_catches own rest (catches_at P f)))
-      (settled (standing_free rest)) unwinds where
+      (settled (standing_free rest)) (λ no. unwinds) where
         same_catches : catches_at P f ≡ catches_at Q g
         same_catches = catches_are P f at.point at.is ∙ sym (catches_are Q g at.point (own_point facts own ∙ at.is))
 
@@ -156,7 +156,7 @@ module _ {u : Setup} (facts : FlatFacts u) (same : SamePrograms (before u) (afte
     host_unwinds f top placed in_place is_placed catches =
         in_both (ends_same same f g method.0 (ap (run_method P) in_place.at ∙ method.1) (sym e.own ∙ sym in_place.at)) in_place.held
         (subst (SameCatches (SameTop u) names f g ones others (catches_at P f)) same_catches (host_catches in_place (catches_at P f)))
-        (settled (standing_free rest)) unwinds where
+        (settled (standing_free rest)) (λ no. unwinds) where
           code : code_at P e.host.at ≡ Some (method_code u.links e.host.scope)
           code = facts.host_code g.at flat is_flat e
 

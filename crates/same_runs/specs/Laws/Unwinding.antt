@@ -1,5 +1,5 @@
 -- An object that is thrown in both runs ends at the same place.
-use Rattle.std.proofs.Common.{◌≡◌, ℕ, Bool, true, false, List, [], ◌∷◌, Option, Some, None, if◌then◌else◌, refl, ap, ◌∙◌, inl, inr, ◌⊎◌}
+use Rattle.std.proofs.Common.{◌≡◌, ℕ, Bool, true, false, List, [], ◌∷◌, Option, Some, None, if◌then◌else◌, IsFalse, refl, ap, ◌∙◌, inl, inr, ◌⊎◌}
 use Rattle.machine_values.specs.Frames.{MethodState}
 use Rattle.machine_values.specs.Heaps.{Heap, left, object_at}
 use Rattle.machine_values.specs.declared.frame.RunFrame.{RunFrame}
@@ -96,13 +96,15 @@ module _ {P Q : Program} {Allocated Entered : ℕ → ℕ → Type 0} {apart : A
       elim (handlers_same reference named memories is catches) [
         | inr found ↦ rw (handler_by P one.heap f reference, handler_by Q other.heap g named, found.2, found.3) (both_catch memories found.4)
         | inl none ↦ rw (handler_by P one.heap f reference, handler_by Q other.heap g named, none.0, none.1, ends.is, ends.is_also, ends.same)
-            (past (is_initialiser ends.method)
-            (unwind_same reference named (unlocked one f.held) (unlocked other g.held) rest (unlocked_same memories held) is))
+            (past (is_initialiser ends.method) refl
+            (λ no. unwind_same reference named (unlocked one f.held) (unlocked other g.held) (rest no) (unlocked_same memories held) is))
       ] where
-        past : (b : Bool) → SameLanding P Allocated Entered apart SameFrames Lands names (unwind P reference ones (unlocked one f.held))
-            (unwind Q named others (unlocked other g.held))
+        past : (b : Bool) → is_initialiser ends.method ≡ b
+            → (IsFalse (is_initialiser ends.method)
+            → SameLanding P Allocated Entered apart SameFrames Lands names (unwind P reference ones (unlocked one f.held))
+            (unwind Q named others (unlocked other g.held)))
             → SameLanding P Allocated Entered apart SameFrames Lands names
             (if b then leaves_initialiser one ones else unwind P reference ones (unlocked one f.held))
             (if b then leaves_initialiser other others else unwind Q named others (unlocked other g.held))
-        past true more = both_leave memories
-        past false more = more
+        past true e more = both_leave memories
+        past false e more = more e
