@@ -4,6 +4,7 @@ pub mod BothWays
 pub mod Objects
 pub mod Names
 pub mod Heaps
+pub mod Apart
 pub mod Made
 pub mod Constants
 pub mod Programs
