@@ -44,6 +44,7 @@ pub mod FirstAbove
 pub mod FirstBeginnings
 pub mod BothBegin
 pub mod Operations
+pub mod QuietMoves
 pub mod AloneTurn
 pub mod Moves
 pub mod LongerStacks

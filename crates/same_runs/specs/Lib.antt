@@ -13,3 +13,4 @@ pub mod SameFrames
 pub mod SameWorlds
 pub mod Laws
 pub mod SameMoves
+pub mod QuietMoves

@@ -11,7 +11,7 @@ use Rattle.class_model.specs.declared.instr.Placed.{Placed}
 use Rattle.expanded_code.specs.Expanded.{Argument, arguments, tests_receiver}
 use Rattle.expanded_code.specs.Expansions.{Coded, Expansion}
 use Rattle.expanded_runs.proofs.Runs.Entries.{GoesTo, Stores}
-use Rattle.expanded_runs.proofs.Runs.EntryLaws.{fit_units, stores_quietly, turns_quietly, units_of_arguments}
+use Rattle.expanded_runs.proofs.Runs.EntryLaws.{fit_units, stores_quietly, units_of_arguments}
 use Rattle.expanded_runs.proofs.Runs.FlatFacts.{FlatFacts}
 use Rattle.expanded_runs.proofs.Runs.FlatOps.{EntryStands, OpAt, catches_in}
 use Rattle.expanded_runs.proofs.Runs.OpTurns.{AtMethod, keeps_both, turned_by_op}
@@ -53,6 +53,7 @@ use Rattle.same_runs.specs.Laws.Moves.{same_kind, same_reversed}
 use Rattle.same_runs.specs.Laws.Operations.{step_works, taken_same}
 use Rattle.same_runs.specs.Laws.Performed.{raised_same}
 use Rattle.same_runs.specs.Laws.QuietBeginnings.{quietly_then, standing}
+use Rattle.same_runs.specs.Laws.QuietMoves.{turns_quietly}
 use Rattle.same_runs.specs.Laws.ShiftedUnits.{local_has, shifted_local}
 use Rattle.same_runs.specs.Laws.Stored.{Has}
 use Rattle.same_runs.specs.Renamings.{Names, NamesMore, SameValue, SameValues, and_value, no_values, same_null, same_reference}

@@ -1,5 +1,5 @@
 -- Quiet turns of flat code around a callee: the arguments are stored, the last one first, and the result is narrowed.
-use Rattle.std.proofs.Common.{◌≡◌, ◌⊎◌, inl, inr, ◌+◌, ◌-◌, ◌≤◌, ◌%◌, ◌^◌, ℕ, zero, suc, ℤ, pos, Bool, true, false, List, [], ◌∷◌, ◌++◌, bit_and, drop, length, nat_le, replicate, reverse, slice_get, take, Option, Some, None, if◌then◌else◌, IsTrue, refl, sym, ap, subst, ◌∙◌, arith}
+use Rattle.std.proofs.Common.{◌≡◌, ◌⊎◌, inl, inr, ◌+◌, ◌-◌, ◌≤◌, ◌%◌, ◌^◌, ℕ, zero, suc, ℤ, pos, Bool, true, false, List, [], ◌∷◌, ◌++◌, bit_and, drop, length, nat_le, replicate, reverse, slice_get, take, Option, Some, None, IsTrue, refl, sym, ap, subst, ◌∙◌, arith}
 use Rattle.std.specs.Int.{cast_signed, cast_unsigned, int_bit_and, w8, w16, w32}
 use Rattle.std.proofs.lemmas.Bool.{false≢true, le-leb}
 use Rattle.std.proofs.lemmas.List.{append_assoc, length-append, length-replicate, length-reverse, reverse-append}
@@ -19,7 +19,6 @@ use Rattle.expanded_runs.proofs.Runs.FlatOps.{narrowing_ops}
 use Rattle.expanded_runs.proofs.Runs.ReplacedCalls.{FitArguments}
 use Rattle.machine_values.specs.Frames.{MethodState}
 use Rattle.machine_values.specs.Values.{has_kind, narrowed, units_of_values}
-use Rattle.machine_values.specs.declared.event.End.TheVariants as ends
 use Rattle.machine_values.specs.declared.frame.RunFrame.{RunFrame}
 use Rattle.machine_values.specs.declared.frame.RunFrame.TheVariants.{Method}
 use Rattle.machine_values.specs.declared.value.Value.{Value}
@@ -29,49 +28,19 @@ use Rattle.member_link.specs.Machine.Locals.{stored, width_of}
 use Rattle.member_link.specs.Machine.Ops.{Op, pure_arithmetic, push_value, store_local}
 use Rattle.member_link.specs.Machine.Performing.{resumed}
 use Rattle.member_link.specs.Machine.Programs.{Catch, Point, Program, point_at}
-use Rattle.member_link.specs.Machine.Runs.{Run, shown, turn, turn_by}
-use Rattle.member_link.specs.Machine.Stepping.{is_library_turn, op_step, point_step, with_top, work_step}
+use Rattle.member_link.specs.Machine.Runs.{Run}
+use Rattle.member_link.specs.Machine.Stepping.{op_step, with_top, work_step}
 use Rattle.member_link.specs.Machine.Work.{arity, work}
-use Rattle.member_link.specs.Machine.Worlds.{Memory, World, going}
+use Rattle.member_link.specs.Machine.Worlds.{World, going}
 use Rattle.member_link.specs.Scope.{Scope, own_descriptor}
 use Rattle.same_runs.specs.Laws.Objects.{get_new, get_old}
 use Rattle.same_runs.specs.Laws.QuietBeginnings.{quietly_then, standing}
+use Rattle.same_runs.specs.Laws.QuietMoves.{turns_quietly}
 use Rattle.same_runs.specs.Laws.Stored.{Has, IsStored, Units, stored_is, stores}
 use Rattle.same_runs.specs.Laws.Units.{same_arguments, same_size}
 use Rattle.same_runs.specs.Renamings.{Names, SameUnits, SameValue, and_unit, has_value, no_units, no_value}
 use Rattle.same_runs.specs.SameMoves.{KeepsOutside, ShiftedUnits}
-use Rattle.same_runs.specs.Simulations.{Quietly, at_once, turn_first}
-
--- ---- a quiet turn
-
--- a run that goes on shows its events alone
-shows_running : (r : Run) (frames : List RunFrame) (memory : Memory) (steps : ℕ) → r.world.halt ≡ going → is_library_turn frames ≡ false
-    → shown (standing r frames memory steps) ≡ record { events = r.world.events; end = ends.Running }
-shows_running r frames memory steps goes none = rw (goes, none) refl
-
--- An operation after which the top frame goes on as another one, and the memory is as before.
-pub turns_quietly :
-    {Q : Program} {others : List RunFrame} (r : Run) (f after : MethodState) (steps : ℕ) (point : Point)
-    → r.world.halt ≡ going
-    → point_at Q f.at f.place ≡ Some point
-    → ((w : World) → w.memory ≡ r.world.memory → op_step Q w f others point.op ≡ with_top w others after)
-    → Quietly Q (standing r (Method f ∷ others) r.world.memory steps) (standing r (Method after ∷ others) r.world.memory (steps + 1))
-turns_quietly {Q = Q} {others = others} r f after steps point goes is worked =
-    turn_first
-    (ap shown turned ∙ shows_running r (Method after ∷ others) r.world.memory (steps + 1) goes refl
-    ∙ sym (shows_running r (Method f ∷ others) r.world.memory steps goes refl))
-    (subst (λ (later : Run). Quietly Q later (standing r (Method after ∷ others) r.world.memory (steps + 1))) (sym turned) at_once) where
-      before : Run
-      before = standing r (Method f ∷ others) r.world.memory steps
-
-      counted : World
-      counted = (standing r (Method f ∷ others) r.world.memory (steps + 1)).world
-
-      turned : turn Q before ≡ standing r (Method after ∷ others) r.world.memory (steps + 1)
-      turned =
-          ap (turn_by Q before) goes
-          ∙ ap (λ (found : Option Point). record before { world = point_step Q counted f others found }) is
-          ∙ ap (λ (later : World). record before { world = later }) (worked counted refl)
+use Rattle.same_runs.specs.Simulations.{Quietly, at_once}
 
 -- ---- units of values
 

@@ -212,7 +212,7 @@ quietly_then at_once more = more
 quietly_then (turn_first same rest) more = turn_first same (quietly_then rest more)
 
 -- a run that goes on shows its events alone
-shows_running : (r : Run) (frames : List RunFrame) (memory : Memory) (steps : ℕ) → r.world.halt ≡ going → is_library_turn frames ≡ false
+pub shows_running : (r : Run) (frames : List RunFrame) (memory : Memory) (steps : ℕ) → r.world.halt ≡ going → is_library_turn frames ≡ false
     → shown (standing r frames memory steps) ≡ record { events = r.world.events; end = ends.Running }
 shows_running r frames memory steps goes none = rw (goes, none) refl
 
