@@ -45,6 +45,7 @@ pub mod FirstBeginnings
 pub mod BothBegin
 pub mod Operations
 pub mod QuietMoves
+pub mod QuietCalls
 pub mod AloneTurn
 pub mod Moves
 pub mod LongerStacks
