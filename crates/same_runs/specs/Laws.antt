@@ -12,6 +12,7 @@ pub mod Layouts
 pub mod Methods
 pub mod Shapes
 pub mod Statics
+pub mod Compared
 pub mod Written
 pub mod Starts
 pub mod OperandWork
@@ -46,6 +47,7 @@ pub mod BothBegin
 pub mod Operations
 pub mod QuietMoves
 pub mod QuietCalls
+pub mod Raised
 pub mod AloneTurn
 pub mod Moves
 pub mod LongerStacks

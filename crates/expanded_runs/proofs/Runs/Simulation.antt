@@ -25,7 +25,7 @@ use Rattle.expanded_runs.proofs.Runs.SameStanding.{Holds, InFlat, SameStanding, 
 use Rattle.expanded_runs.proofs.Runs.Setup.{Setup, after, before}
 use Rattle.expanded_runs.proofs.Runs.StandingCodes.{standing_of}
 use Rattle.expanded_runs.proofs.Runs.Standings.{Stands}
-use Rattle.expanded_runs.proofs.Runs.Together.{Basis, Over, Related, Together, NoTurnBelow, beginning_keeps, depth, keeps_behind, over_keeps, weight}
+use Rattle.expanded_runs.proofs.Runs.Together.{Basis, Over, Related, Together, NoTurnBelow, beginning_keeps, depth, over_keeps, weight}
 use Rattle.machine_values.specs.Frames.{MethodState}
 use Rattle.machine_values.specs.declared.action.Action.{Action}
 use Rattle.machine_values.specs.declared.frame.RunFrame.{RunFrame}
@@ -36,6 +36,7 @@ use Rattle.member_link.specs.Machine.Runs.{Run, begins_with, shown}
 use Rattle.member_link.specs.Machine.Stepping.{is_library_turn}
 use Rattle.member_link.specs.Machine.Worlds.{World, start}
 use Rattle.same_runs.specs.EqualRuns.{EqualRuns}
+use Rattle.same_runs.specs.Laws.QuietCalls.{quiet_keeps}
 use Rattle.same_runs.specs.Laws.Simulated.{ends_over_same, ends_same, events_equal, shows_equal, simulated_equally}
 use Rattle.same_runs.specs.Renamings.{Names, no_references, none_held as no_held}
 use Rattle.same_runs.specs.SameMemories.{HasOwnConstants, SameMemories}
@@ -196,8 +197,8 @@ module _ (u : Setup) (parts : Parts u) where
   keeps : (measure : ℕ) (one other : Run) → Related u measure one other → Keeps P Q (Related u) measure one other
   keeps measure one other related = by related.state where
     by : Together u measure one related.waits ⊎ Over u one related.waits → Keeps P Q (Related u) measure one other
-    by (inl t) = keeps_behind u parts.basis related.quietly (together_keeps measure one related.waits t)
-    by (inr over) = keeps_behind u parts.basis related.quietly (over_keeps u parts.basis measure one related.waits over)
+    by (inl t) = quiet_keeps related.quietly (together_keeps measure one related.waits t)
+    by (inr over) = quiet_keeps related.quietly (over_keeps u parts.basis measure one related.waits over)
 
   -- ---- what is shown
 

@@ -218,16 +218,6 @@ module _ (u : Setup) (basis : Basis u) where
         (record { waits = other; quietly = at_once; state = inr over })));
   }
 
-  -- quiet turns first
-  pub keeps_behind : {measure : ℕ} {one other waits : Run} → Quietly Q other waits → Keeps P Q (Related u) measure one waits
-      → Keeps P Q (Related u) measure one other
-  keeps_behind quietly keeps = record {
-    waits = keeps.waits;
-    quietly = quietly_then quietly keeps.quietly;
-    measure_then = keeps.measure_then;
-    goes_on = keeps.goes_on;
-  }
-
   -- ---- turns of the first alone
 
   -- the first takes a turn, and is related to where the second goes on quietly to
