@@ -48,6 +48,7 @@ pub mod Operations
 pub mod QuietMoves
 pub mod QuietCalls
 pub mod Raised
+pub mod Settled
 pub mod AloneTurn
 pub mod Moves
 pub mod LongerStacks

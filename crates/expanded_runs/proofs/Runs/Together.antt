@@ -13,11 +13,12 @@ use Rattle.member_link.specs.Machine.Worlds.{Halt, Memory, World, going, stuck}
 use Rattle.same_runs.specs.Laws.AloneTurn.{AloneTurn, beginning_alone, begins_deeper, begins_fewer, is_over, unbegun_in}
 use Rattle.same_runs.specs.Laws.BothBegin.{counted}
 use Rattle.same_runs.specs.Laws.CaughtUp.{BothTurn, turn_keeps}
-use Rattle.same_runs.specs.Laws.QuietBeginnings.{BeginAlike, CaughtUp, quietly_then, second_catches_up, standing}
+use Rattle.same_runs.specs.Laws.QuietBeginnings.{BeginAlike}
+use Rattle.same_runs.specs.Laws.Settled.{SameSettled, SettlesTo, settled_going, settled_landed, settled_over, settles}
 use Rattle.same_runs.specs.Renamings.{Names}
 use Rattle.same_runs.specs.SameMemories.{IsInert, SameMemories}
 use Rattle.same_runs.specs.SamePrograms.{SamePrograms}
-use Rattle.same_runs.specs.SameWorlds.{Compares, SameAfter, both_go, both_landed, both_over, second_begins, SameSeen}
+use Rattle.same_runs.specs.SameWorlds.{Compares, SameAfter, SameSeen}
 use Rattle.same_runs.specs.Simulations.{Keeps, Quietly, at_once}
 use Rattle.typed_runs.specs.TypedWorlds.{StaysTyped, TypedWorld}
 
@@ -172,26 +173,30 @@ module _ (u : Setup) (basis : Basis u) where
       → other.actions ≡ one.actions
       → other.used ≡ one.used
       → (later : ℕ) × Related u later one other
-  after_both one other (both_go more grows frames memories seen goes goes_also) typed actions used =
-      let now = together more one other (basis.settles more one.world other.world.frames typed frames) memories seen goes goes_also actions used typed in
-      (now.0, record { waits = other; quietly = at_once; state = inl now.1 })
-  after_both one other (both_landed more grows frames memories seen goes goes_also) typed actions used =
-      let now = together more one other (basis.settles more one.world other.world.frames typed frames) memories seen goes goes_also actions used typed in
-      (now.0, record { waits = other; quietly = at_once; state = inl now.1 })
-  after_both one other (second_begins more class rest grows is no_turn quiet frames memories seen goes goes_also) typed actions used =
-      let now = together caught.by.more one (standing other rest caught.by.after caught.by.steps)
-      (basis.settles caught.by.more one.world rest typed caught.frames) caught.by.memories caught.seen goes goes_also actions used typed in
-      (now.0, record { waits = standing other rest caught.by.after caught.by.steps; quietly = caught.by.quietly; state = inl now.1 }) where
-        caught : CaughtUp P Q (comparison u) more one.world other rest
-        caught = second_catches_up class rest basis.same basis.alike basis.compares goes_also is no_turn quiet frames memories seen
-  after_both one other (both_over more seen over same) typed actions used = (
-    0,
-    record {
-      waits = other;
-      quietly = at_once;
-      state = inr (record { names = more; seen = seen; over = over; same = same; actions = actions; used = used });
-    },
-  )
+  after_both {names = names} one other then typed actions used = by (settles basis.same basis.alike basis.compares then) where
+    settled : (waits : Run) → Quietly Q other waits → waits.actions ≡ other.actions → waits.used ≡ other.used
+        → SameSettled P (comparison u) names one.world waits.world
+        → (later : ℕ) × Related u later one other
+    settled waits quietly left taken (settled_going more grows frames memories seen goes goes_also) =
+        let now = together more one waits (basis.settles more one.world waits.world.frames typed frames) memories seen goes goes_also
+        (left ∙ actions) (taken ∙ used) typed in
+        (now.0, record { waits = waits; quietly = quietly; state = inl now.1 })
+    settled waits quietly left taken (settled_landed more grows frames memories seen goes goes_also) =
+        let now = together more one waits (basis.settles more one.world waits.world.frames typed frames) memories seen goes goes_also
+        (left ∙ actions) (taken ∙ used) typed in
+        (now.0, record { waits = waits; quietly = quietly; state = inl now.1 })
+    settled waits quietly left taken (settled_over more seen over same) = (
+      0,
+      record {
+        waits = waits;
+        quietly = quietly;
+        state =
+            inr (record { names = more; seen = seen; over = over; same = same; actions = left ∙ actions; used = taken ∙ used });
+      },
+    )
+
+    by : SettlesTo P Q (comparison u) names one.world other → (later : ℕ) × Related u later one other
+    by to = settled to.waits to.quietly to.actions to.used to.same
 
   -- a turn of both keeps runs related
   pub both_keep : {names : Names} {measure : ℕ} {one other : Run}
