@@ -38,6 +38,7 @@ pub mod Acted
 pub mod Returned
 pub mod Simulated
 pub mod ReplacedPrograms
+pub mod BothReplaced
 pub mod ClearedFlags
 pub mod FlatPrograms
 pub mod CaughtUp

@@ -101,11 +101,11 @@ fields_same r class number (field ∷ fields) =
     (refl, refl, static_stays field.flags (r.cleared class number), fields_same r class (suc number) fields)
 
 -- a method runs other code only where it has code
-body_member : (method : RunMethod) (body : Option Code) → (with_body method body).member ≡ method.member
+pub body_member : (method : RunMethod) (body : Option Code) → (with_body method body).member ≡ method.member
 body_member method None = refl
 body_member method (Some code) = refl
 
-body_code : (method : RunMethod) (body : Option Code) → is_some (code_run (with_body method body)) ≡ is_some (code_run method)
+pub body_code : (method : RunMethod) (body : Option Code) → is_some (code_run (with_body method body)) ≡ is_some (code_run method)
 body_code method None = refl
 body_code method (Some code) = by (has method.member.flags NATIVE) refl method.code refl where
   by : (native : Bool) → has method.member.flags NATIVE ≡ native → (old : Option Code) → method.code ≡ old
@@ -121,7 +121,7 @@ methods_same r class number (method ∷ methods) =
     let body = r.body (record { class = class; method = number }) in
     (body_member method body, body_code method body, methods_same r class (suc number) methods)
 
-members_same : (r : Replacement) (class number : ℕ) (methods : List RunMethod)
+pub members_same : (r : Replacement) (class number : ℕ) (methods : List RunMethod)
     → map (λ (method : RunMethod). method.member) (map_numbered (method_replaced r class) number methods)
     ≡ map (λ (method : RunMethod). method.member) methods
 members_same r class number [] = refl
