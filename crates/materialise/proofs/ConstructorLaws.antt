@@ -1,6 +1,6 @@
 -- Field constructors by the descriptors of the fields.
 use Rattle.member_link.specs.FieldConstructors.{HandlesNone, HasFieldConstructor, IsFree, constructor_descriptor, handled}
-use Rattle.std.proofs.Common.{◌≡◌, ◌≢◌, ◌↔◌, ◌≤◌, ◌++◌, ◌&&◌, ◌||◌, cond, ℕ, Bool, true, false, List, [], ◌∷◌, bytes_eq, codes, length, map, replicate, Option, Some, None, IsTrue, IsFalse, option_map, option_and_then, refl, sym, ap, subst, ◌∙◌, inl, inr}
+use Rattle.std.proofs.Common.{◌≡◌, ◌≢◌, ◌↔◌, ◌≤◌, ◌++◌, ◌&&◌, ◌||◌, cond, ℕ, Bool, true, false, List, [], ◌∷◌, bytes_eq, codes, length, map, replicate, Option, Some, None, Result, Ok, Err, IfOk, slice_get, IsTrue, IsFalse, option_map, option_and_then, refl, sym, ap, subst, ◌∙◌, inl, inr}
 use Rattle.std.specs.List.{AllByRecursion, flat_map, list_any}
 use Rattle.std.proofs.lemmas.Bool.{cases_Bool, false≢true}
 use Rattle.std.proofs.lemmas.List.Folds.{list_any-append}
@@ -11,12 +11,15 @@ use Rattle.class_model.specs.Names.{init}
 use Rattle.class_model.specs.declared.class_file.ClassFile.{ClassFile}
 use Rattle.class_model.specs.declared.header.Header.{Header}
 use Rattle.class_model.specs.declared.header.Member.{Member}
+use Rattle.class_model.specs.declared.memory.NoMemory.{NoMemory}
 use Rattle.class_model.specs.declared.pool.Const.{Const}
 use Rattle.class_tree.specs.Headers.{Name, Classes, Headers, headers_of, class_named}
+use Rattle.class_tree.specs.Hierarchy.{IsHierarchy}
 use Rattle.class_tree.specs.Layouts.{instance_fields}
 use Rattle.class_tree.specs.Names.{is_member}
-use Rattle.materialise.specs.Inner.ConstructorWords.{HasFree, descriptor_of, handled_in, handled_of, handled_of_pool, is_taken}
-use Rattle.materialise.specs.Constructors.{field_descs}
+use Rattle.class_tree.specs.declared.place.Place.TheVariants.{Folder}
+use Rattle.materialise.specs.Inner.ConstructorWords.{HasFree, IsFreeConstructor, descriptor_of, handled_in, handled_of, handled_of_pool, is_taken}
+use Rattle.materialise.specs.Constructors.{IsConstructor, IsConstructorAt, field_descs}
 use Rattle.member_link.specs.DeclaredMembers.{declared, declared_by, own_method}
 use Rattle.member_link.specs.References.{Reference}
 
@@ -152,3 +155,20 @@ module _ (classes : Classes) (class : Name) (header : Header) (is : class_named 
       fits = subst (λ (text : List ℕ). length text ≤ 65535) (sym (descriptor_is (headers_of classes) class f.dimensions)) f.fits;
     },
   )
+
+  pub constructor_found : (found : Option (List ℕ)) → IsFreeConstructor header (field_descs (headers_of classes) class) (handled_of class classes.folder) found → IsConstructor classes class found
+  unfolding constructor_is
+  constructor_found None never = λ may. never (constructor_is.0 may)
+  constructor_found (Some desc) free = (constructor_is.1 free.0, free.1 ∙ sym (descriptor_is (headers_of classes) class free.0.dimensions))
+
+-- ---- of the class of a number
+
+pub constructor_at : (classes : Classes) → IsHierarchy (headers_of classes) → (number : ℕ) (header : Header) → slice_get (headers_of classes).folder number ≡ Some header
+    → (fields handles : List (List ℕ)) → fields ≡ field_descs (headers_of classes) header.name → handles ≡ handled_of header.name classes.folder
+    → (result : Result (Option (List ℕ)) NoMemory) → IfOk result (IsFreeConstructor header fields handles) → IfOk result (IsConstructorAt classes number)
+constructor_at classes hierarchy number header at fields handles are handled (Err fault) free = tt
+constructor_at classes hierarchy number header at fields handles are handled (Ok found) free = λ other there.
+    subst (λ (h : Header). IsConstructor classes h.name found) (same_Some header other (sym at ∙ there))
+    (constructor_found classes header.name header (hierarchy.of_place (Folder number) header at).found found
+    (subst (λ (l : List (List ℕ)). IsFreeConstructor header l (handled_of header.name classes.folder) found) are
+    (subst (λ (l : List (List ℕ)). IsFreeConstructor header fields l found) handled free)))

@@ -7,7 +7,7 @@ use Rattle.class_model.specs.Characters.{left_bracket, left_parenthesis}
 use Rattle.class_model.specs.Laws.Lists.{take_item}
 use Rattle.class_model.specs.Laws.Texts.{plain_text}
 use Rattle.class_model.specs.ModifiedUtf8.{IsModifiedUtf8, IsText}
-use Rattle.materialise.specs.Inner.ConstructorWords.{IsOpened, descriptor_of}
+use Rattle.materialise.specs.Inner.ConstructorWords.{IsOpened}
 use Rattle.materialise.specs.Laws.JoinedTexts.{joined}
 
 pub none_opened : (fields : List (List ℕ)) (bytes : List ℕ) → bytes ≡ left_parenthesis ∷ [] → IsOpened (take 0 fields) bytes
@@ -28,7 +28,6 @@ brackets : (count : ℕ) → IsModifiedUtf8 (replicate count left_bracket)
 brackets zero = (plain_text [] refl).spelling
 brackets (suc count) = joined (left_bracket ∷ []) (replicate count left_bracket) (plain_text (left_bracket ∷ []) refl).spelling (brackets count)
 
-pub closed : (fields : List (List ℕ)) (count : ℕ) (bytes : List ℕ) → IsOpened fields bytes → IsModifiedUtf8 (descriptor_of fields count)
-closed fields count bytes opened =
-    let all = left_parenthesis ∷ flat_map (λ (f : List ℕ). f) fields in
-    joined (all ++ replicate count left_bracket) (codes "Z)V") (joined all (replicate count left_bracket) (subst IsModifiedUtf8 opened.same opened.text) (brackets count)) (plain_text (codes "Z)V") refl).spelling
+pub closed : (fields : List (List ℕ)) (count : ℕ) (bytes most all : List ℕ) → IsOpened fields bytes → most ≡ bytes ++ replicate count left_bracket → all ≡ most ++ codes "Z)V" → IsModifiedUtf8 all
+closed fields count bytes most all opened is whole =
+    subst IsModifiedUtf8 (sym whole) (joined most (codes "Z)V") (subst IsModifiedUtf8 (sym is) (joined bytes (replicate count left_bracket) opened.text (brackets count))) (plain_text (codes "Z)V") refl).spelling)

@@ -1,7 +1,8 @@
 -- The fewest free dimensions of field constructors.
-use Rattle.std.proofs.Common.{◌≡◌, ◌⊎◌, ◌+◌, ◌<◌, ◌≤◌, ◌≢◌, leb, ℕ, List, length, Option, Some, None, IsTrue, IsFalse, sym, subst, ◌∙◌, inl, inr, arith}
+use Rattle.std.proofs.Common.{◌≡◌, ◌⊎◌, ◌+◌, ◌<◌, ◌≤◌, ◌≢◌, leb, ℕ, List, length, Option, Some, None, Result, Ok, Err, IfOk, IsTrue, IsFalse, sym, subst, ◌∙◌, inl, inr, arith}
 use Rattle.std.proofs.lemmas.Bool.{cases_Bool, cases_eq, false≢true, leb-false, leb-true}
 use Rattle.class_model.specs.declared.header.Header.{Header}
+use Rattle.class_model.specs.declared.memory.NoMemory.{NoMemory}
 use Rattle.materialise.specs.Inner.ConstructorWords.{HasFree, IsFitting, IsFreeConstructor, descriptor_of, is_taken}
 
 -- fewer are all taken
@@ -37,6 +38,11 @@ module _ (header : Header) (fields handles : List (List ℕ)) where
         | inl more ↦ absurd (false≢true (sym free ∙ has.fewest n some (omega (arith, leb-true n has.dimensions more, differ))))
         | inr less ↦ absurd (false≢true (sym has.free ∙ taken.each has.dimensions has.some (leb-false n has.dimensions less)))
       ]
+
+  pub free_found : (n : ℕ) (bytes : List ℕ) (result : Result (Option (List ℕ)) NoMemory) → 1 ≤ n → n ≤ 8 → AreTaken header fields handles n → IsFalse (is_taken header handles (descriptor_of fields n))
+      → bytes ≡ descriptor_of fields n → IfOk result (IsFitting bytes) → IfOk result (IsFreeConstructor header fields handles)
+  free_found n bytes (Err fault) some few taken free same fits = tt
+  free_found n bytes (Ok found) some few taken free same fits = free_there n found some few taken free (subst (λ (b : List ℕ). IsFitting b found) same fits)
 
   pub none_free : (n : ℕ) → 9 ≤ n → AreTaken header fields handles n → ¬ HasFree header fields handles
   none_free n end taken has = false≢true (sym has.free ∙ taken.each has.dimensions has.some (omega (arith, has.few, end)))

@@ -1,5 +1,5 @@
-use Rattle.std.proofs.Common.{◌≡◌, sym, ap, subst, ◌∙◌, arith}
-use Rattle.materialise.proofs.FreeConstructors.{free_there, none_free, none_taken, one_taken}
+use Rattle.std.proofs.Common.{◌≡◌, sym, ap, ◌∙◌, arith}
+use Rattle.materialise.proofs.FreeConstructors.{free_found, none_free, none_taken, one_taken}
 use Rattle.materialise.specs.Inner.ConstructorWords.{descriptor_of, is_taken}
 use Rattle.materialise.proofs.field_constructors.constructor.Goals as goal
 
@@ -14,3 +14,10 @@ loop-dimensions-preserved c =
 
 pub returns : goal.returns
 returns c = none_free c.args.class.now c.args.fields.now c.args.handles.now c.loop-dimensions.dimensions (omega arith) c.loop-dimensions.invariant
+
+pub returns-then-not-is_taken : goal.returns-then-not-is_taken
+returns-then-not-is_taken c =
+    let text : c.as_slice.result.now ≡ descriptor_of c.args.fields.now c.loop-dimensions.dimensions = c.as_slice.ensures.value ∙ c.in_ok-desc.ensures.same in
+    let other : c.as_slice-then-not-is_taken.result.now ≡ descriptor_of c.args.fields.now c.loop-dimensions.dimensions = c.as_slice-then-not-is_taken.ensures.value ∙ c.in_ok-desc.ensures.same in
+    free_found c.args.class.now c.args.fields.now c.args.handles.now c.loop-dimensions.dimensions _ c.fitting.result (omega arith) (omega arith) c.loop-dimensions.invariant
+    (ap (is_taken c.args.class.now c.args.handles.now) (sym text) ∙ sym c.is_taken.ensures ∙ c.if-not-is_taken.true) other c.fitting.ensures
