@@ -11,8 +11,8 @@ use crate::known_frames::KnownFrames;
 use class_tree::Tree;
 use code_bytes::a_class_file_has_read_methods;
 use type_rules::{
-    a_method_stands_in_order, a_typed_body_goes_to_stated_frames,
-    a_typed_folder_types_each_method, a_typed_method_types_each_instruction,
+    a_method_stands_in_order, a_typed_body_goes_to_stated_frames, a_typed_folder_types_each_method,
+    a_typed_method_types_each_instruction,
 };
 
 /// A law: frames type each method with code, its instructions name instructions and local units that it has, and these units

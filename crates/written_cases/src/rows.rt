@@ -6,5 +6,4 @@ ghost use Rattle.written_cases.specs.SumOfFields.{written, wanted, bytes, wanted
 pub fn sum_of_fields_is_written()
     ensures items { written ≡ wanted }
     ensures bytes { bytes ≡ wanted_bytes }
-{
-}
+{}
