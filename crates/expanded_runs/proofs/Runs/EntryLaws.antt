@@ -1,5 +1,5 @@
 -- Quiet turns of flat code around a callee: the arguments are stored, the last one first, and the result is narrowed.
-use Rattle.std.proofs.Common.{◌≡◌, ◌⊎◌, inl, inr, ◌+◌, ◌-◌, ◌≤◌, ◌%◌, ◌^◌, ℕ, zero, suc, ℤ, pos, Bool, true, false, List, [], ◌∷◌, ◌++◌, bit_and, drop, length, nat_le, replicate, reverse, slice_get, take, Option, Some, None, IsTrue, refl, sym, ap, subst, ◌∙◌, arith}
+use Rattle.std.proofs.Common.{◌≡◌, ◌⊎◌, inl, inr, ◌+◌, ◌-◌, ◌≤◌, ◌%◌, ◌^◌, ℕ, zero, suc, ℤ, pos, Bool, true, false, List, [], ◌∷◌, ◌++◌, bit_and, drop, length, nat_le, replicate, reverse, slice_get, take, Option, Some, None, if◌then◌else◌, IsTrue, refl, sym, ap, subst, ◌∙◌, arith}
 use Rattle.std.specs.Int.{cast_signed, cast_unsigned, int_bit_and, w8, w16, w32}
 use Rattle.std.proofs.lemmas.Bool.{false≢true, le-leb}
 use Rattle.std.proofs.lemmas.List.{append_assoc, length-append, length-replicate, length-reverse, reverse-append}

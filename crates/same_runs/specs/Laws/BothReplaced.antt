@@ -12,7 +12,7 @@ use Rattle.same_runs.specs.SamePrograms.{IsAdded, SameClass, SameClasses, SameFi
 use Rattle.same_runs.specs.Laws.Handled.{same_handled}
 use Rattle.same_runs.specs.Laws.ReplacedPrograms.{ReplacesAlike, body_code, body_member, members_same, replaced_same, static_stays}
 
-module _ {r s : Replacement} where
+module _ (r s : Replacement) where
   both_fields : (class number : ℕ) (fields : List Member)
       → SameFields (map_numbered (field_cleared r class) number fields) (map_numbered (field_cleared s class) number fields)
   both_fields class number [] = tt
@@ -60,7 +60,7 @@ module _ {P : Program} {r s : Replacement} (alike : ReplacesAlike P r) (alike_al
         (map_numbered (method_replaced r number) zero class.methods ++ more)) (sym (adds_none number))
         (subst (AllByRecursion (λ (other : RunMethod). other.member.name ≡ init → other.member.desc ≡ method.member.desc → ⊥))
         (sym (append-nil (map_numbered (method_replaced r number) zero class.methods)))
-        (new_still {r = r} {s = s} number zero method class.methods added.is_new));
+        (new_still r s number zero method class.methods added.is_new));
     unhandled = same_handled (replaced_same alike) class.header.name method.member.desc ∙ added.unhandled;
   }
 
@@ -71,7 +71,7 @@ module _ {P : Program} {r s : Replacement} (alike : ReplacesAlike P r) (alike_al
     flags = refl;
     superclass = refl;
     interfaces = refl;
-    fields = both_fields {r = r} {s = s} number zero class.header.fields;
+    fields = both_fields r s number zero class.header.fields;
     starts = refl;
     plain_starts = alike.plain_starts number class is;
     handles = refl;
@@ -85,7 +85,7 @@ module _ {P : Program} {r s : Replacement} (alike : ReplacesAlike P r) (alike_al
         (map_numbered (method_replaced s number) zero class.methods)) (sym (adds_none number))
         (subst (λ (methods : List RunMethod). SameMethods methods (map_numbered (method_replaced s number) zero class.methods))
         (sym (append-nil (map_numbered (method_replaced r number) zero class.methods)))
-        (both_methods {r = r} {s = s} number zero class.methods));
+        (both_methods r s number zero class.methods));
     are_added =
         AllByRecursion-weaker (IsAdded P class) (IsAdded (replaced P r) (replaced_class r number class))
         (still_added number class) (s.added number) (alike_also.are_added number class is);

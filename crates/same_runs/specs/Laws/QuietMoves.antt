@@ -25,13 +25,13 @@ use Rattle.same_runs.specs.Laws.QuietBeginnings.{quietly_then, shows_running, st
 
 -- A turn of a run that goes on with these frames and this memory, where it is not the library's turn.
 pub turned_to :
-    {Q : Program} (r : Run) (before after : List RunFrame) (memory later : Memory) (steps : ℕ)
+    (Q : Program) (r : Run) (before after : List RunFrame) (memory later : Memory) (steps : ℕ)
     → r.world.halt ≡ going
     → is_library_turn before ≡ false
     → frames_step Q (standing r before memory (steps + 1)).world before
     ≡ record (standing r before memory (steps + 1)).world { memory = later; frames = after }
     → turn Q (standing r before memory steps) ≡ standing r after later (steps + 1)
-turned_to {Q = Q} r before after memory later steps goes none worked =
+turned_to Q r before after memory later steps goes none worked =
     turned_going Q (standing r before memory steps) before goes refl none
     ∙ ap (λ (now : World). record (standing r before memory steps) { world = now }) worked
 
@@ -49,7 +49,7 @@ quiet_turn {Q = Q} r before after memory later steps goes none none_after worked
     (ap shown turned ∙ shows_running r after later (steps + 1) goes none_after ∙ sym (shows_running r before memory steps goes none))
     (subst (λ (now : Run). Quietly Q now (standing r after later (steps + 1))) (sym turned) at_once) where
       turned : turn Q (standing r before memory steps) ≡ standing r after later (steps + 1)
-      turned = turned_to r before after memory later steps goes none worked
+      turned = turned_to Q r before after memory later steps goes none worked
 
 -- An operation after which the top frame goes on as another one, and the memory is as before.
 pub turns_quietly :
@@ -153,13 +153,13 @@ module _ (Q : Program) (w : World) (f after : MethodState) (rest : List RunFrame
 -- ---- one after the other
 
 -- what the step of the frame on top leads to
-moved_frames : {Q : Program} {others : List RunFrame} (r : Run) (code : Code) (f after : MethodState) (memory : Memory) (steps : ℕ) (point : Point)
+moved_frames : (Q : Program) (others : List RunFrame) (r : Run) (code : Code) (f after : MethodState) (memory : Memory) (steps : ℕ) (point : Point)
     → code_at Q f.at ≡ Some code
     → slice_get code.points f.place ≡ Some point
     → moved_by f point.op ≡ Some after
     → frames_step Q (standing r (Method f ∷ others) memory (steps + 1)).world (Method f ∷ others)
     ≡ record (standing r (Method f ∷ others) memory (steps + 1)).world { memory = memory; frames = Method after ∷ others }
-moved_frames {Q = Q} {others = others} r code f after memory steps point is_code here moved =
+moved_frames Q others r code f after memory steps point is_code here moved =
     ap (point_step Q counted f others) (ap (option_and_then (λ (c : Code). slice_get c.points f.place)) is_code ∙ here)
     ∙ (moved_step Q counted f after others point.op moved).0 where
       counted : World
@@ -167,15 +167,15 @@ moved_frames {Q = Q} {others = others} r code f after memory steps point is_code
 
 -- One move, jump or push, as the turn of a run.
 pub moved_turn :
-    {Q : Program} {others : List RunFrame} (r : Run) (code : Code) (f after : MethodState) (memory : Memory) (steps : ℕ) (point : Point)
+    (Q : Program) (others : List RunFrame) (r : Run) (code : Code) (f after : MethodState) (memory : Memory) (steps : ℕ) (point : Point)
     → r.world.halt ≡ going
     → code_at Q f.at ≡ Some code
     → slice_get code.points f.place ≡ Some point
     → moved_by f point.op ≡ Some after
     → turn Q (standing r (Method f ∷ others) memory steps) ≡ standing r (Method after ∷ others) memory (steps + 1)
-moved_turn {others = others} r code f after memory steps point goes is_code here moved =
-    turned_to r (Method f ∷ others) (Method after ∷ others) memory memory steps goes refl
-    (moved_frames r code f after memory steps point is_code here moved)
+moved_turn Q others r code f after memory steps point goes is_code here moved =
+    turned_to Q r (Method f ∷ others) (Method after ∷ others) memory memory steps goes refl
+    (moved_frames Q others r code f after memory steps point is_code here moved)
 
 -- So many moves, jumps and pushes are quiet turns.
 pub moves_quietly :
@@ -206,7 +206,7 @@ moves_quietly {Q = Q} {others = others} r code (suc count) f after memory steps 
           let more = again next first.1 rest in (
             more.0,
             quietly_then (quiet_turn r (Method f ∷ others) (Method next ∷ others) memory memory steps goes refl refl
-                (moved_frames r code f next memory steps point is_code here moved)) more.1,
+                (moved_frames Q others r code f next memory steps point is_code here moved)) more.1,
           )
 
       by : (found : Option Point) → slice_get code.points f.place ≡ found

@@ -38,6 +38,6 @@ raises_both {P = P} {Q = Q} {one = one} {other = other} class ones others same c
       turned = turned;
       turned_also = turned_also;
       after =
-          raised_same {first = counted one} {second = counted other} same compares class memories
+          raised_same same compares {first = counted one} {second = counted other} class memories
           (record { known = seen.known; events = seen.events }) goes goes_also unwinds;
     }
