@@ -1,4 +1,4 @@
-use Rattle.std.proofs.Common.{◌≡◌, ◌<◌, ◌≤◌, ◌++◌, ℕ, true, false, List, is_none, length, slice_get, Option, Some, None, option_map, refl, sym, ap, subst, ◌∙◌, arith}
+use Rattle.std.proofs.Common.{◌≡◌, ◌<◌, ◌≤◌, ◌++◌, ℕ, true, false, List, is_some, length, not, slice_get, Option, Some, None, option_map, refl, sym, ap, subst, ◌∙◌, arith}
 use Rattle.std.proofs.lemmas.Bool.{false≢true}
 use Rattle.std.proofs.lemmas.Option.{none-some, same_Some, slice_get-map, slice_get_read}
 use Rattle.std.specs.Option.{option_copied}
@@ -176,8 +176,8 @@ returns-then-is_none c =
     subst (λ (n : List ℕ). IsConstructor classes n c.in_ok-constructor.constructor) own_name
     (subst (λ (k : Classes). IsConstructorAt k number c.in_ok-constructor.constructor) (c.self.invariant.2 ∙ c.self.view_is) c.in_ok-constructor.ensures (header_of file) there_named) in
     not_free classes hierarchy outside name number c.requires.number file there c.args.above fields c.requires.above are
-    (by c.in_ok-constructor.constructor found (sym c.is_none.ensures ∙ c.if-is_none.true)) where
-      by : (found : Option (List ℕ)) → IsConstructor c.args.self.now c.args.class.now found → is_none found ≡ true → ¬ HasFieldConstructor c.args.self.now c.args.class.now
+    (by c.in_ok-constructor.constructor found (c.is_none.ensures ∙ ap not c.if-is_none.true)) where
+      by : (found : Option (List ℕ)) → IsConstructor c.args.self.now c.args.class.now found → is_some found ≡ false → ¬ HasFieldConstructor c.args.self.now c.args.class.now
       by None never is = never
       by (Some desc) may is = absurd cc
 
@@ -206,7 +206,7 @@ returns c =
     (subst (λ (k : Classes). IsConstructorAt k number c.in_ok-constructor.constructor) (c.self.invariant.2 ∙ c.self.view_is) c.in_ok-constructor.ensures (header_of file) there_named) in
     sound_there classes hierarchy outside name number c.requires.number file there c.args.above fields c.requires.above are
     (c.is_fit.ensures.0 c.if-not-is_fit.false) (subst (λ (l : List (List ℕ)). units_of_all l ≤ 64) c.as_slice-2.ensures (c.are_narrow.ensures.0 c.if-not-are_narrow.false))
-    (by c.in_ok-constructor.constructor found (sym c.is_none.ensures ∙ c.if-is_none.false)) where
-      by : (found : Option (List ℕ)) → IsConstructor c.args.self.now c.args.class.now found → is_none found ≡ false → HasFieldConstructor c.args.self.now c.args.class.now
+    (by c.in_ok-constructor.constructor found (c.is_none.ensures ∙ ap not c.if-is_none.false)) where
+      by : (found : Option (List ℕ)) → IsConstructor c.args.self.now c.args.class.now found → is_some found ≡ true → HasFieldConstructor c.args.self.now c.args.class.now
       by None never is = absurd cc
       by (Some desc) may is = may.0
