@@ -1,7 +1,7 @@
 -- The descriptors of the fields of a candidate class are texts of field types.
 use Rattle.member_link.specs.FieldConstructors.{constructor_descriptor, field_types}
 use Rattle.std.proofs.Common.{◌≡◌, ◌≢◌, ◌+◌, ◌≤◌, not, cond, ℕ, Bool, true, false, List, [], ◌∷◌, ◌++◌, bytes_eq, codes, filter, length, map, replicate, reverse, Option, Some, None, IfSome, IsSome, refl, sym, ap, subst, ◌∙◌, arith}
-use Rattle.std.proofs.lemmas.List.{append-nil, append_assoc, length-append}
+use Rattle.std.proofs.lemmas.List.{append-nil, length-append}
 use Rattle.std.proofs.lemmas.Option.{same_Some}
 use Rattle.std.specs.List.{AllByRecursion, flat_map}
 use Rattle.class_model.specs.Checks.{AllHold}
@@ -13,7 +13,7 @@ use Rattle.class_model.specs.Laws.ClassFiles.{fields_place, parts_hold}
 use Rattle.class_model.specs.Laws.Descriptors.{named as is_named}
 use Rattle.class_model.specs.Laws.Texts.{plain_text}
 use Rattle.class_model.specs.Members.{STATIC, Signature, field_checks, field_signature, has}
-use Rattle.class_model.specs.ModifiedUtf8.{IsCodeUnit, IsModifiedUtf8, IsText, unit_bytes}
+use Rattle.class_model.specs.ModifiedUtf8.{IsText}
 use Rattle.class_model.specs.Pool.{Constants}
 use Rattle.class_model.specs.PoolChecks.{BytesSpell, IsFieldDescriptor, text_or_empty, utf8_at}
 use Rattle.class_model.specs.Spelling.{field_bytes}
