@@ -109,5 +109,6 @@ fn judge_method(typed: &TypedFolder, at: MethodAt, found: &mut Verdicts) -> Resu
     if frames.len() > MOST_FRAMES {
         return Ok(());
     }
-    found.judge(at, are_without_this(frames.as_slice()))
+    found.judge(at, are_without_this(frames.as_slice()))?;
+    Ok(())
 }

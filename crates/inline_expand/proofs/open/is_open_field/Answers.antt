@@ -1,12 +1,18 @@
-use Rattle.std.proofs.Common.{◌≡◌, ◌||◌, false, sym, ap, subst, ◌∙◌}
+use Rattle.std.proofs.Common.{◌≡◌, ◌||◌, false, refl, sym, ap, subst, ◌∙◌}
 use Rattle.std.proofs.lemmas.Bool.{false≢true}
 use Rattle.class_model.specs.Members.{has, PROTECTED}
 use Rattle.class_tree.specs.Headers.{headers_of}
+use Rattle.expanded_code.specs.Callees.{public_field}
 use Rattle.inline_expand.proofs.OpenMembers.{opened_decides}
 use Rattle.inline_expand.proofs.open.is_open_field.Goals as goal
 use Rattle.inline_expand.specs.Inner.Open.{IsOpenToAll}
 use Rattle.member_link.specs.DeclaredMembers.{is_package_access}
 use Rattle.member_link.specs.Overriding.{package_of}
+
+pub returns-then-is_open_to_all : goal.returns-then-is_open_to_all
+returns-then-is_open_to_all c = λ field is.
+    let open_ = subst IsOpenToAll is.same_flags (c.is_open_to_all.ensures.0 c.if-is_open_to_all.true) in
+    (λ yes. public_field open_.is_public open_.unprotected, λ any. refl)
 
 pub returns-else-is_open_in_package : goal.returns-else-is_open_in_package
 returns-else-is_open_in_package c = λ field is.

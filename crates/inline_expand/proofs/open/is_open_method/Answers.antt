@@ -1,13 +1,19 @@
-use Rattle.std.proofs.Common.{◌≡◌, ◌||◌, IsTrue, sym, ap, subst, ◌∙◌}
+use Rattle.std.proofs.Common.{◌≡◌, ◌||◌, IsTrue, refl, sym, ap, subst, ◌∙◌}
 use Rattle.std.proofs.lemmas.Bool.{false≢true}
 use Rattle.class_model.specs.Members.{has, PROTECTED}
 use Rattle.class_tree.specs.Subtype.{IsArray}
+use Rattle.expanded_code.specs.Callees.{public_method}
 use Rattle.inline_expand.proofs.OpenMembers.{clone_decides}
 use Rattle.inline_expand.proofs.open.is_open_method.Goals as goal
 use Rattle.inline_expand.proofs.open.is_open_method.Goals.{else-is_open_in_package-via-then-is_open_in_package+else-is_of_package, else-is_open_in_package-via-else-is_open_in_package}
 use Rattle.inline_expand.specs.Inner.Open.{IsOpenToAll}
 use Rattle.member_link.specs.DeclaredMembers.{is_package_access}
 use Rattle.member_link.specs.Overriding.{package_of}
+
+pub returns-then-is_open_to_all : goal.returns-then-is_open_to_all
+returns-then-is_open_to_all c = λ method is.
+    let open_ = subst IsOpenToAll is.same_flags (c.is_open_to_all.ensures.0 c.if-is_open_to_all.true) in
+    (λ yes. public_method open_.is_public open_.unprotected, λ any. refl)
 
 pub returns-then-is_array : goal.returns-then-is_array
 returns-then-is_array c = λ method is.
