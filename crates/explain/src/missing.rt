@@ -100,6 +100,9 @@ impl<'a> Missing<'a> {
         if !self.names.is_empty() {
             lines.put("  scripts/library.sh LIB JAR.. adds the classes of jars to LIB\n");
         }
+        if names_java(self.names.as_slice()) {
+            lines.put("  scripts/jdk-library.sh LIB makes a library of the machine's JDK\n");
+        }
         Ok(())
     }
 }
@@ -126,6 +129,16 @@ fn put_missing_of_tree(alloc: Global, lines: &mut Lines, tree: &Tree) -> Result<
         missing.add_file(file)?;
     }
     missing.put(lines)
+}
+
+// Whether a class of a package below java is among names.
+fn names_java(names: &[Named<'_>]) -> bool {
+    for (of, _) in names {
+        if of.starts_with(b"java/") {
+            return true;
+        }
+    }
+    false
 }
 
 // Packages, a line for each, with the names of their classes; a last line says how many are left out.
