@@ -7,7 +7,13 @@ The checker then names each item of each module before it elaborates it, and the
 does anew is named, so take out/incremental away first to see all of it. An item of `F.Proof` is a goal of the function F, which the search
 closes where no answer stands in proofs/; `F.Lts` is the generated proof of F's borrows, which grows steeply with the places and steps of
 its body. Times are by the clock: on a busy machine what took under a second says nothing.
+
+    python3 ../../scripts/slow_proofs.py FOLDER/out/incremental [HOW_MANY]
+
+tells the same of a check that runs or ran with one job, in whatever clone, from what it kept: the times at which the modules were written. A pause of
+the check, as between two runs, counts for the module behind it.
 """
+import os
 import re
 import sys
 import time
@@ -22,8 +28,22 @@ def function_of(module):
     return re.sub(r"\.(Code|Lts)(\..*)?$|\.[A-Z][A-Za-z0-9-]*$", "", module)
 
 
-def main():
-    many = int(sys.argv[1]) if len(sys.argv) > 1 else 40
+def times_kept(folder):
+    """How long each module took that a check kept, by when it was written."""
+    written = []
+    for place, _, names in os.walk(folder):
+        written += [(os.stat(os.path.join(place, name)).st_mtime, name) for name in names if name.endswith(".oantt")]
+    written.sort()
+    modules, functions = defaultdict(float), defaultdict(float)
+    for (before, _), (at, name) in zip(written, written[1:]):
+        module = re.sub(r"(\.decls)?\.oantt$", "", name)
+        modules[module] += at - before
+        functions[function_of(module)] += at - before
+    return modules, functions
+
+
+def times_told():
+    """How long each item took of a check whose lines come on standard input; other lines are printed."""
     items, functions = defaultdict(float), defaultdict(float)
     last, began = None, time.monotonic()
     for line in sys.stdin:
@@ -40,6 +60,14 @@ def main():
             if not line.startswith("antt: cache:"):
                 print(line, end="")
         began = now
+    return items, functions
+
+
+def main():
+    words = sys.argv[1:]
+    folder = words.pop(0) if words and os.path.isdir(words[0]) else None
+    many = int(words[0]) if words else 40
+    items, functions = times_kept(folder) if folder else times_told()
     for title, found in (("functions and files", functions), ("items", items)):
         print(f"\nthe slowest {title}, in seconds:")
         for key, seconds in sorted(found.items(), key=lambda it: -it[1])[:many]:
