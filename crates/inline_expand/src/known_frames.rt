@@ -75,7 +75,7 @@ fn judge_folder(tree: &Tree, typed: &TypedFolder, found: &mut Verdicts) -> Resul
     requires { AreKnown typed.now found.old }
     ensures { OnOk result (AreKnown typed.now found.new) }
 {
-    let folder = tree.folder();
+    let folder = tree.folder().as_slice();
     for class in 0..folder.len() {
         judge_class(typed, class, folder[class].methods.len(), found)?;
     }

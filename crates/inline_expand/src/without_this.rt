@@ -1,6 +1,6 @@
 //! Frames without an uninitialised this.
 ghost use Rattle.std.specs.Prelude.{◌≡◌, ◌↔◌, IsTrue, Some};
-ghost use Rattle.std.specs.List.{slice_get};
+ghost use Rattle.std.specs.Option.{option_copied};
 ghost use Rattle.class_model.specs.declared.frame.VType.{VType};
 ghost use Rattle.expanded_code.specs.Callees.{IsWithoutThis};
 ghost use Rattle.inline_expand.specs.Inner.KnownFrames.{AreWithoutThis};
