@@ -13,7 +13,7 @@ use Rattle.flow_code.specs.FlatCode.{FlatCode}
 use Rattle.flow_code.specs.declared.point.FlatInstr.{FlatInstr}
 use Rattle.flow_code.specs.declared.point.FlatInstr.TheVariants.{Of, NullTest}
 use Rattle.member_link.specs.Declarations.{site_of}
-use Rattle.member_link.specs.Scope.{Scope}
+use Rattle.member_link.specs.Scope.{Scope, scope_at}
 use Rattle.member_link.specs.Targets.{HasForm}
 use Rattle.member_link.specs.Uses.{instr_use_checks}
 use Rattle.same_runs.specs.TypedFlats.{TypesFlat}
@@ -36,6 +36,8 @@ abbrev pub IsReadyItem : Classes → ℕ → FlatInstr → Type 0
 IsReadyItem classes locals (Of class instr) = IsReadyInstr classes locals class instr
 IsReadyItem classes locals (NullTest local) = Unit {0}
 
+-- The flat code is that of the method of this scope.
 pub record IsReadyCode (classes : Classes) (s : Scope) (flat : FlatCode) : Type 0 where
+  pub host : scope_at classes flat.host ≡ Some s
   pub typed : TypesFlat classes s flat
   pub points : AllByRecursion (λ point. IsReadyItem classes flat.locals point.instr) flat.points
