@@ -1,9 +1,11 @@
 -- The conditions of a callee, part by part.
-use Rattle.std.proofs.Common.{◌≡◌, ◌+◌, ◌-◌, ◌<◌, ◌≤◌, ℕ, List, ◌∷◌, drop, slice_get, Some, None, Result, Ok, Err, IfOk, sym, ap, subst, ◌∙◌, arith}
+use Rattle.std.proofs.Common.{◌≡◌, ◌↔◌, Bool, IsTrue, ◌+◌, ◌-◌, ◌<◌, ◌≤◌, ℕ, List, ◌∷◌, drop, slice_get, Some, None, Result, Ok, Err, IfOk, sym, ap, subst, ◌∙◌, arith}
 use Rattle.std.proofs.lemmas.List.{drop-drop, drop_all}
 use Rattle.std.specs.List.{AllByRecursion}
 use Rattle.class_model.specs.Descriptors.{SpellsDescriptor, kind_of, parameters_of, units_of}
 use Rattle.class_model.specs.Laws.Lists.{drop_item, none_behind}
+use Rattle.class_model.specs.Header.{header_of}
+use Rattle.class_model.specs.declared.class_file.ClassFile.{ClassFile}
 use Rattle.class_model.specs.declared.descriptor.Descriptor.{Descriptor}
 use Rattle.class_model.specs.declared.descriptor.FieldType.{FieldType}
 use Rattle.class_model.specs.declared.descriptor.FieldType.TheVariants as sorts
@@ -11,9 +13,11 @@ use Rattle.class_model.specs.declared.frame.Frame.{Frame}
 use Rattle.class_model.specs.declared.frame.VType.{VType}
 use Rattle.class_model.specs.declared.instr.Placed.{Placed}
 use Rattle.class_model.specs.declared.memory.NoMemory.{NoMemory}
-use Rattle.class_tree.specs.Headers.{Headers}
-use Rattle.expanded_code.specs.Callees.{LeavesResult, SayAtMost, SaysAtMost}
+use Rattle.class_tree.specs.Headers.{Name, Classes, Headers, headers_of}
+use Rattle.expanded_code.specs.Callees.{LeavesResult, MayStandIn, SayAtMost, SaysAtMost}
+use Rattle.inline_expand.specs.Inner.Standing.{AreOpen, IsQuietIfStatic, StandsAlone, TakesDeclared}
 use Rattle.member_link.specs.Laws.ResultTexts.{result_spelled}
+use Rattle.member_link.specs.Scope.{Scope, instructions}
 use Rattle.member_link.specs.Signatures.{result_of}
 
 -- ---- loops
@@ -92,3 +96,35 @@ module _ (headers : Headers) (types : List FieldType) (units : List VType) (from
               before.to (subst (λ (all : List FieldType). SayAtMost headers all (drop unit units)) (sym (drop_item types index type at)) here);
           back = λ all. (split all).1;
         }
+
+-- ---- all conditions
+
+-- What is asked of the code alone, of what it names and of its parameters holds: the last condition decides.
+pub stands_by : (classes : Classes) (host : ClassFile) (s : Scope) (frames : List Frame)
+    → StandsAlone host s frames
+    → (own : Name)
+    → own ≡ (header_of host).name
+    → (instrs : List Placed)
+    → instrs ≡ instructions s
+    → AreOpen s own instrs
+    → TakesDeclared (headers_of classes) s frames
+    → (result : Result Bool NoMemory)
+    → IfOk result (λ quiet. IsTrue quiet ↔ IsQuietIfStatic (headers_of classes) s)
+    → IfOk result (λ stands. IsTrue stands ↔ MayStandIn classes host s frames)
+stands_by classes host s frames alone own is_own instrs are_its open_ takes (Err fault) told = tt
+stands_by classes host s frames alone own is_own instrs are_its open_ takes (Ok passed) told = (
+  λ yes. record {
+    version = alone.form.version;
+    quiet = told.0 yes;
+    short = alone.form.short;
+    no_handlers = alone.form.no_handlers;
+    plain = alone.plain.plain;
+    no_monitor = alone.form.no_monitor;
+    returns = alone.plain.returns;
+    parameters = takes;
+    special = alone.plain.special;
+    without_this = alone.own_this;
+    access = subst (λ (name : Name). AreOpen s name (instructions s)) is_own (subst (λ (code : List Placed). AreOpen s own code) are_its open_);
+  },
+  λ stands. told.1 stands.quiet,
+)

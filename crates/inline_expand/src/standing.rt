@@ -9,7 +9,7 @@ ghost use Rattle.class_tree.specs.Headers.{headers_of};
 ghost use Rattle.code_bytes.specs.Codes.{IsReadMethod};
 ghost use Rattle.expanded_code.specs.Callees.{IsNoHandle, IsPlain, LeavesResult, MayStandIn, NamesInitialiser, ResultSaysAtMost, SayAtMost, SaysAtMost};
 ghost use Rattle.flow_code.specs.TypedFrames.{typed_frames_at};
-ghost use Rattle.inline_expand.specs.Inner.Standing.{AreOpen, ArePlain, HasForm, HasOwnThis, HasPlainCode, IsInitialiserAt, IsQuietIfStatic, NameInitialisers, ReturnAlone, TakesDeclared};
+ghost use Rattle.inline_expand.specs.Inner.Standing.{AreOpen, ArePlain, HasForm, HasOwnThis, HasPlainCode, IsInitialiserAt, IsQuietIfStatic, NameInitialisers, ReturnAlone, StandsAlone, TakesDeclared};
 ghost use Rattle.member_link.specs.Rows.Operands.{lowest_of};
 ghost use Rattle.member_link.specs.Scope.{Scope, instructions, own_descriptor, scope_at};
 ghost use Rattle.member_link.specs.Signatures.{result_of};
@@ -55,10 +55,7 @@ pub(crate) fn may_stand_in(
 {
     let callee = &method.host;
     let frames = method.frames;
-    if !has_form(host, callee) || !has_plain_code(callee, frames) {
-        return Ok(false);
-    }
-    if !has_own_this(known, method) {
+    if !stands_alone(host, known, method) {
         return Ok(false);
     }
     let own = name_of(alloc, host)?;
@@ -133,6 +130,17 @@ fn has_plain_code(callee: &Host<'_>, frames: &[Frame]) -> bool
 {
     let instrs = callee.instrs();
     are_plain(callee, instrs) && name_initialisers(callee, instrs) && return_alone(instrs, frames)
+}
+
+// Whether a method has what is asked of its code alone, and the version of a host's class.
+fn stands_alone(host: &ClassFile, known: &KnownFrames<'_>, method: &CodedMethod<'_>) -> bool
+    requires { typed_frames_at known.now method.now.at ≡ Some method.now.frames.now }
+    ensures { IsTrue result
+        ↔ StandsAlone host.now method.now.host method.now.frames.now }
+{
+    has_form(host, &method.host)
+        && has_plain_code(&method.host, method.frames)
+        && has_own_this(known, method)
 }
 
 // Whether a method is an instance initialiser, or no frame of it has an uninitialised this.

@@ -46,6 +46,12 @@ pub record HasPlainCode (s : Scope) (frames : List Frame) : Type 0 where
 abbrev pub HasOwnThis : Scope → List Frame → Type 0
 HasOwnThis s frames = IsFalse (is_init s) → AreWithoutThis frames
 
+-- what is asked of a method's code alone, but for the version of the host's class
+pub record StandsAlone (host : ClassFile) (s : Scope) (frames : List Frame) : Type 0 where
+  pub form : HasForm host s
+  pub plain : HasPlainCode s frames
+  pub own_this : HasOwnThis s frames
+
 -- the member that a constant refers to is named as an instance initialiser
 abbrev pub IsInitialiserAt : Scope → ℕ → Type 0
 IsInitialiserAt s index =
