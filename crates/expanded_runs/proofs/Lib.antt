@@ -1,6 +1,7 @@
 mod AloneCode
 mod AloneProgram
 mod FlatPlaces
+mod Plans
 mod RenumberedArithmetic
 mod RenumberedArrays
 mod RenumberedEntry

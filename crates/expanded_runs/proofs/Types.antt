@@ -1,7 +1,7 @@
 -- The typed points of expanded code type it.
 mod FlatParts
-mod Units
-mod FrameFacts
+pub mod Units
+pub mod FrameFacts
 mod Starts
 mod Edges
 pub mod OwnPoints
@@ -47,7 +47,7 @@ mod StatedUnits
 mod EachFrame
 mod TypedUnits
 mod StandingUnits
-mod FirstFrames
+pub mod FirstFrames
 mod ArrayKinds
 mod StackDepths
 mod ThisWithin

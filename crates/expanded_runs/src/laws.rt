@@ -1,22 +1,25 @@
 //! Laws of flat code: functions that do nothing, whose contracts say what always holds.
 ghost use Rattle.same_runs.specs.ClearedFields.{ReplacesByFlats};
 ghost use Rattle.same_runs.specs.TypedFlats.{TypesFlat};
-ghost use Rattle.std.specs.Prelude.{◌≡◌, Some};
+ghost use Rattle.std.specs.Prelude.{◌≡◌, ℕ, Some, length};
 ghost use Rattle.class_model.specs.declared.class_file.MethodAt.{MethodAt};
 ghost use Rattle.class_tree.specs.Headers.{Classes, headers_of};
 ghost use Rattle.class_tree.specs.Trees.{IsTree};
 ghost use Rattle.expanded_code.specs.AloneAnswers.{IsFlatAlone};
-ghost use Rattle.expanded_code.specs.ExpandAnswers.{IsExpanded, IsNoHost};
+ghost use Rattle.expanded_code.specs.ExpandAnswers.{IsExpanded, IsNoHost, IsWide};
 ghost use Rattle.expanded_runs.specs.AlonePrograms.{AreAlone};
 ghost use Rattle.expanded_runs.specs.ExpandedPrograms.{AreExpanded};
-ghost use Rattle.flow_code.specs.FlatCode.{FlatCode};
+ghost use Rattle.flow_code.specs.FlatCode.{FlatCode, point_at};
 ghost use Rattle.flow_code.specs.TypedFrames.{FolderFrames};
+ghost use Rattle.flow_code.specs.declared.point.Point.{Point};
 ghost use Rattle.member_link.specs.Linked.{IsLinked};
 ghost use Rattle.member_link.specs.Machine.Classes.{program_of};
 ghost use Rattle.member_link.specs.Machine.Links.{AreLinksOf};
 ghost use Rattle.member_link.specs.Machine.Programs.{Links};
 ghost use Rattle.member_link.specs.Machine.Replaced.{Replacement, replaced};
 ghost use Rattle.member_link.specs.Scope.{Scope, scope_at};
+ghost use Rattle.plan_flow.specs.Narrow.{IsNarrow};
+ghost use Rattle.plan_flow.specs.Plans.{FlowsInside};
 ghost use Rattle.same_runs.specs.EqualRuns.{EqualRuns};
 ghost use Rattle.same_runs.specs.FlatBodies.{body_of_flat, typed_points};
 ghost use Rattle.same_runs.specs.Flats.{Flats, flat_program};
@@ -130,4 +133,63 @@ pub fn an_expanded_flat_code_is_typed()
     type_rules::frames_type_a_body_by_its_places();
     type_rules::a_typed_body_goes_to_stated_frames();
     typed_runs::a_step_stays_typed();
+}
+
+/// Plans can be made of the expanded flat code of a host (`least_plan`): there is a point, and a next one behind each from which control falls
+/// through; the typed frame of each point has all local units of the flat code; and where the flat code has no more sites and units than written code
+/// may have (`IsWide`), its numbers fit those of plans.
+pub fn an_expanded_flat_code_can_be_planned()
+    ensures flows { (classes : Classes) (typed : FolderFrames) (at : MethodAt) (flat : FlatCode)
+        → IsTree classes
+        → TypesFolder classes typed
+        → IsExpanded classes typed at flat
+        → FlowsInside flat }
+    ensures locals { (classes : Classes) (typed : FolderFrames) (at : MethodAt) (flat : FlatCode)
+        → IsTree classes
+        → TypesFolder classes typed
+        → IsExpanded classes typed at flat
+        → (number : ℕ) (point : Point)
+        → point_at flat number ≡ Some point
+        → length point.typed.locals ≡ flat.locals }
+    ensures narrow { (classes : Classes) (typed : FolderFrames) (at : MethodAt) (flat : FlatCode)
+        → IsTree classes
+        → TypesFolder classes typed
+        → IsExpanded classes typed at flat
+        → ¬ IsWide flat
+        → IsNarrow flat }
+{
+    code_bytes::a_class_file_has_read_methods();
+    type_rules::a_typed_folder_types_each_method();
+    type_rules::a_typed_method_types_each_instruction();
+    type_rules::a_method_stands_in_order();
+    type_rules::frames_type_a_body_by_its_places();
+    type_rules::a_typed_body_goes_to_stated_frames();
+}
+
+/// The same of the flat code of a method by itself, whose numbers fit in any case.
+pub fn a_flat_code_alone_can_be_planned()
+    ensures flows { (classes : Classes) (typed : FolderFrames) (at : MethodAt) (flat : FlatCode)
+        → IsTree classes
+        → TypesFolder classes typed
+        → IsFlatAlone classes typed at flat
+        → FlowsInside flat }
+    ensures locals { (classes : Classes) (typed : FolderFrames) (at : MethodAt) (flat : FlatCode)
+        → IsTree classes
+        → TypesFolder classes typed
+        → IsFlatAlone classes typed at flat
+        → (number : ℕ) (point : Point)
+        → point_at flat number ≡ Some point
+        → length point.typed.locals ≡ flat.locals }
+    ensures narrow { (classes : Classes) (typed : FolderFrames) (at : MethodAt) (flat : FlatCode)
+        → IsTree classes
+        → TypesFolder classes typed
+        → IsFlatAlone classes typed at flat
+        → IsNarrow flat }
+{
+    code_bytes::a_class_file_has_read_methods();
+    type_rules::a_typed_folder_types_each_method();
+    type_rules::a_typed_method_types_each_instruction();
+    type_rules::a_method_stands_in_order();
+    type_rules::frames_type_a_body_by_its_places();
+    type_rules::a_typed_body_goes_to_stated_frames();
 }

@@ -1,0 +1,9 @@
+pub mod FewHandlers
+pub mod FewTargets
+pub mod FlatEnds
+pub mod FlatPoints
+pub mod PlannedFlats
+pub mod RowsGoOn
+pub mod TakenClasses
+pub mod TakenParts
+pub mod TakenPools
