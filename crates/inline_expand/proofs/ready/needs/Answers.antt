@@ -9,7 +9,10 @@ use Rattle.inline_expand.proofs.ready.needs.Goals as goal
 pub may_stand_in-requires : goal.may_stand_in-requires
 may_stand_in-requires c =
     let short = subst (IsShortCoded c.args.host.tree.now c.args.host.typed.now c.args.at) c.in-Some.is c.in_ok-method.ensures in
-    c.a_method_of_a_tree_was_read.ensures c.in-Some.method.at c.in-Some.method.host short.1.is_scope
+    record {
+      read = c.a_method_of_a_tree_was_read.ensures c.in-Some.method.at c.in-Some.method.host short.1.is_scope;
+      known = short.1.are_frames;
+    }
 
 pub returns : goal.returns
 returns c =
