@@ -1,11 +1,7 @@
--- int f(int a) { P p = new P(a, 2); return p.x + p.y(); }, with P's constructor and y() in place of their calls.
-use Rattle.std.specs.Prelude.{◌==◌, ℕ, suc, zero, pos, Bool, true, false, List, [], ◌∷◌, ◌++◌, bytes_eq, codes, map, Option, Some, None, if◌then◌else◌}
-use Rattle.std.specs.List.{flat_map}
+-- static int f(int a) { P p = new P(a, 2); return p.x + p.y(); }, with P's constructor and y() in place of their calls: nothing is made.
+use Rattle.std.specs.Prelude.{ℕ, List, [], ◌∷◌, codes, Some, pos, None}
 use Rattle.class_model.specs.Pool.{Constants}
 use Rattle.class_model.specs.declared.class_file.ClassFile.{ClassFile}
-use Rattle.class_model.specs.declared.class_file.CodePart.{CodePart}
-use Rattle.class_model.specs.declared.class_file.Field.{Field}
-use Rattle.class_model.specs.declared.class_file.Method.{Method}
 use Rattle.class_model.specs.declared.descriptor.FieldType.TheVariants as fields
 use Rattle.class_model.specs.declared.descriptor.Kind.TheVariants as kinds
 use Rattle.class_model.specs.declared.frame.VType.{VType}
@@ -14,249 +10,168 @@ use Rattle.class_model.specs.declared.instr.Imm.TheVariants as imms
 use Rattle.class_model.specs.declared.instr.Instr.TheVariants.{Const, GetField, Goto, Invoke, Load, New, Pure, PutField, Return, Shuffle, Store}
 use Rattle.class_model.specs.declared.opcodes.TheConstants.{DUP, IADD, INVOKESPECIAL}
 use Rattle.class_model.specs.declared.pool.Const.TheVariants.{Class, Fieldref, Methodref, NameAndType, Utf8}
-use Rattle.class_tree.specs.Headers.{Classes, Name}
-use Rattle.code_bytes.specs.Forms.{instr_bytes}
-use Rattle.flow_code.specs.FlatCode.{FlatCode}
-use Rattle.flow_code.specs.declared.point.FlatInstr.{FlatInstr}
 use Rattle.flow_code.specs.declared.point.FlatInstr.TheVariants.{Of, NullTest}
-use Rattle.flow_code.specs.declared.point.Point.{Point}
-use Rattle.making_code.specs.Items.{WItem, carried, item, load, plain, store}
-use Rattle.making_code.specs.Units.{field_unit}
-use Rattle.member_link.specs.Machine.Programs.{Links, abstract_method}
-use Rattle.plan_flow.specs.PlanScope.{PlanScope}
-use Rattle.plan_flow.specs.Written.Blocks.{blocks_of}
-use Rattle.plan_flow.specs.Written.Finish.{Finished, finish}
-use Rattle.plan_flow.specs.Written.Routes.{Route, RouteEdge, Routes}
-use Rattle.plan_flow.specs.Written.WrittenCode.{short, written_items}
-use Rattle.plan_flow.specs.Written.WrittenConstants.{indexed_items}
-use Rattle.plan_flow.specs.declared.edge.EdgeKind.TheVariants as edges
-use Rattle.virtual_state.specs.States.{State}
-use Rattle.virtual_state.specs.declared.slot.Slot.{Slot}
-use Rattle.virtual_state.specs.declared.slot.Slot.TheVariants.{Plain, Virt, Unusable}
+use Rattle.plan_flow.specs.Written.WrittenCode.{short}
+use Rattle.plan_flow.specs.Written.WrittenConstants.{IndexedItem}
+use Rattle.virtual_state.specs.declared.slot.Slot.TheVariants.{Plain}
+use Rattle.written_cases.specs.CaseWords.{Case, CasePoint, Held, Wanted, jump, next, planned, uncaught}
+use Rattle.written_cases.specs.PointClass.{p_file}
 
--- ---- the classes
+-- ---- the class of the method
 
-abbrev p_pool : Constants
-p_pool =
+abbrev pub pool : Constants
+pool =
     None
-    ∷ Some (Class 2)
-    ∷ Some (Utf8 (codes "P"))
-    ∷ Some (Class 4)
+    ∷ Some (Utf8 (codes "T"))
+    ∷ Some (Class 1)
     ∷ Some (Utf8 (codes "java/lang/Object"))
-    ∷ Some (Utf8 (codes "x"))
-    ∷ Some (Utf8 (codes "I"))
-    ∷ Some (Utf8 (codes "y"))
-    ∷ Some (Fieldref 1 9)
-    ∷ Some (NameAndType 5 6)
-    ∷ Some (Fieldref 1 11)
-    ∷ Some (NameAndType 7 6)
-    ∷ Some (Methodref 3 13)
-    ∷ Some (NameAndType 14 15)
+    ∷ Some (Class 3)
     ∷ Some (Utf8 (codes "<init>"))
     ∷ Some (Utf8 (codes "()V"))
-    ∷ []
-
-abbrev p_file : ClassFile
-p_file = record {
-  major = 52;
-  minor = 0;
-  pool = p_pool;
-  flags = 32;
-  this_class = 1;
-  super_class = 3;
-  interfaces = [];
-  fields = record { flags = 0; name = 5; desc = 6; attrs = [] }
-      ∷ record { flags = 0; name = 7; desc = 6; attrs = [] }
-      ∷ [];
-  methods = [];
-  attrs = [];
-}
-
-abbrev t_pool : Constants
-t_pool =
-    None
-    ∷ Some (Class 2)
-    ∷ Some (Utf8 (codes "T"))
-    ∷ Some (Class 4)
-    ∷ Some (Utf8 (codes "java/lang/Object"))
-    ∷ Some (Class 6)
+    ∷ Some (Utf8 (codes "Code"))
+    ∷ Some (NameAndType 5 6)
+    ∷ Some (Methodref 4 8)
+    ∷ Some (Utf8 (codes "f"))
+    ∷ Some (Utf8 (codes "(I)I"))
     ∷ Some (Utf8 (codes "P"))
-    ∷ Some (Fieldref 5 8)
-    ∷ Some (NameAndType 9 10)
+    ∷ Some (Class 12)
+    ∷ Some (Utf8 (codes "(II)V"))
+    ∷ Some (NameAndType 5 14)
+    ∷ Some (Methodref 13 15)
     ∷ Some (Utf8 (codes "x"))
     ∷ Some (Utf8 (codes "I"))
+    ∷ Some (NameAndType 17 18)
+    ∷ Some (Fieldref 13 19)
+    ∷ Some (Utf8 (codes "y"))
+    ∷ Some (Utf8 (codes "()I"))
+    ∷ Some (NameAndType 21 22)
+    ∷ Some (Methodref 13 23)
     ∷ []
 
-abbrev t_file : ClassFile
-t_file = record {
+abbrev pub file : ClassFile
+file = record {
   major = 52;
   minor = 0;
-  pool = t_pool;
-  flags = 32;
-  this_class = 1;
-  super_class = 3;
+  pool = pool;
+  flags = 33;
+  this_class = 2;
+  super_class = 4;
   interfaces = [];
   fields = [];
-  methods = [];
+  methods = record { flags = 0; name = 5; desc = 6; attrs = [] }
+      ∷ record { flags = 8; name = 10; desc = 11; attrs = [] }
+      ∷ [];
   attrs = [];
 }
 
-abbrev classes : Classes
-classes = record { folder = p_file ∷ t_file ∷ []; library = [] }
+-- ---- the flat code with its plan
 
-abbrev links : Links
-links = record {
-  below = λ one other. bytes_eq one other;
-  field = λ field. Some field;
-  method = λ method. Some method;
-  select = λ class method form. abstract_method;
-}
-
--- ---- the flat code
+abbrev Fresh : VType
+Fresh = Uninit 0
 
 abbrev P : VType
 P = Object (codes "P")
 
-abbrev U : VType
-U = Uninit 0
+abbrev at_start : List VType
+at_start = Int ∷ Top ∷ Top ∷ Top ∷ Top ∷ Top ∷ []
 
--- a point of class P, or of T
-abbrev point : FlatInstr → List VType → List VType → Point
-point instr locals stack =
-    record { instr = instr; typed = record { locals = locals; stack = stack }; handlers = [] }
+abbrev passing_y : List VType
+passing_y = Int ∷ Top ∷ Top ∷ Top ∷ Int ∷ Top ∷ []
 
--- the locals: those of the host, of the constructor, and of y()
-abbrev at_call : List VType
-at_call = Int ∷ Top ∷ Top ∷ Top ∷ Top ∷ Top ∷ []
+abbrev passing_both : List VType
+passing_both = Int ∷ Top ∷ Top ∷ Int ∷ Int ∷ Top ∷ []
 
 abbrev in_constructor : List VType
-in_constructor = Int ∷ Top ∷ U ∷ Int ∷ Int ∷ Top ∷ []
+in_constructor = Int ∷ Top ∷ Fresh ∷ Int ∷ Int ∷ Top ∷ []
 
-abbrev with_p : List VType
-with_p = Int ∷ P ∷ Top ∷ Top ∷ Top ∷ Top ∷ []
+abbrev behind_object_init : List VType
+behind_object_init = Int ∷ Top ∷ P ∷ Int ∷ Int ∷ Top ∷ []
+
+abbrev with_point : List VType
+with_point = Int ∷ P ∷ Top ∷ Top ∷ Top ∷ Top ∷ []
 
 abbrev in_y : List VType
 in_y = Int ∷ P ∷ Top ∷ Top ∷ Top ∷ P ∷ []
 
-abbrev pub points : List Point
+-- the object, and where it is
+abbrev held : List ℕ → Held
+held places = record { site = 0; fields = Plain ∷ Plain ∷ []; depth = 0; places = places }
+
+abbrev pub points : List CasePoint
 points =
-    point (Of 1 (New 5)) at_call []
-    ∷ point (Of 1 (Shuffle DUP)) at_call (U ∷ [])
-    ∷ point (Of 1 (Load kinds.Int 0)) at_call (U ∷ U ∷ [])
-    ∷ point (Of 1 (Const (imms.Int (pos 2)))) at_call (U ∷ U ∷ Int ∷ [])
-    ∷ point (Of 1 (Store kinds.Int 4)) at_call (U ∷ U ∷ Int ∷ Int ∷ [])
-    ∷ point (Of 1 (Store kinds.Int 3)) (Int ∷ Top ∷ Top ∷ Top ∷ Int ∷ Top ∷ []) (U ∷ U ∷ Int ∷ [])
-    ∷ point (Of 1 (Store kinds.Ref 2)) (Int ∷ Top ∷ Top ∷ Int ∷ Int ∷ Top ∷ []) (U ∷ U ∷ [])
-    ∷ point (Of 0 (Load kinds.Ref 2)) in_constructor (U ∷ [])
-    ∷ point (Of 0 (Invoke INVOKESPECIAL 12 0)) in_constructor (U ∷ U ∷ [])
-    ∷ point (Of 0 (Load kinds.Ref 2)) in_constructor (U ∷ [])
-    ∷ point (Of 0 (Load kinds.Int 3)) in_constructor (U ∷ U ∷ [])
-    ∷ point (Of 0 (PutField 8)) in_constructor (U ∷ U ∷ Int ∷ [])
-    ∷ point (Of 0 (Load kinds.Ref 2)) in_constructor (U ∷ [])
-    ∷ point (Of 0 (Load kinds.Int 4)) in_constructor (U ∷ U ∷ [])
-    ∷ point (Of 0 (PutField 10)) in_constructor (U ∷ U ∷ Int ∷ [])
-    ∷ point (Of 0 (Goto 16)) in_constructor (U ∷ [])
-    ∷ point (Of 1 (Store kinds.Ref 1)) at_call (P ∷ [])
-    ∷ point (Of 1 (Load kinds.Ref 1)) with_p []
-    ∷ point (Of 1 (GetField 7)) with_p (P ∷ [])
-    ∷ point (Of 1 (Load kinds.Ref 1)) with_p (Int ∷ [])
-    ∷ point (Of 1 (Store kinds.Ref 5)) with_p (Int ∷ P ∷ [])
-    ∷ point (NullTest 5) in_y (Int ∷ [])
-    ∷ point (Of 0 (Load kinds.Ref 5)) in_y (Int ∷ [])
-    ∷ point (Of 0 (GetField 10)) in_y (Int ∷ P ∷ [])
-    ∷ point (Of 0 (Goto 25)) in_y (Int ∷ Int ∷ [])
-    ∷ point (Of 1 (Pure IADD)) with_p (Int ∷ Int ∷ [])
-    ∷ point (Of 1 (Return (Some kinds.Int))) with_p (Int ∷ [])
+    planned (Of 1 (New 13)) at_start [] [] (next 1 ∷ [])
+    ∷ planned (Of 1 (Shuffle DUP)) at_start (Fresh ∷ []) (held (6 ∷ []) ∷ []) (next 2 ∷ [])
+    ∷ planned (Of 1 (Load kinds.Int 0)) at_start (Fresh ∷ Fresh ∷ []) (held (6 ∷ 7 ∷ []) ∷ []) (next 3 ∷ [])
+    ∷ planned (Of 1 (Const (imms.Int (pos 2)))) at_start (Fresh ∷ Fresh ∷ Int ∷ []) (held (6 ∷ 7 ∷ []) ∷ []) (next 4 ∷ [])
+    ∷ planned (Of 1 (Store kinds.Int 4)) at_start (Fresh ∷ Fresh ∷ Int ∷ Int ∷ []) (held (6 ∷ 7 ∷ []) ∷ []) (next 5 ∷ [])
+    ∷ planned (Of 1 (Store kinds.Int 3)) passing_y (Fresh ∷ Fresh ∷ Int ∷ []) (held (6 ∷ 7 ∷ []) ∷ []) (next 6 ∷ [])
+    ∷ planned (Of 1 (Store kinds.Ref 2)) passing_both (Fresh ∷ Fresh ∷ []) (held (6 ∷ 7 ∷ []) ∷ []) (next 7 ∷ [])
+    ∷ planned (Of 0 (Load kinds.Ref 2)) in_constructor (Fresh ∷ []) (held (2 ∷ 6 ∷ []) ∷ []) (next 8 ∷ [])
+    ∷ planned (Of 0 (Invoke INVOKESPECIAL 13 0)) in_constructor (Fresh ∷ Fresh ∷ []) (held (2 ∷ 6 ∷ 7 ∷ []) ∷ []) (next 9 ∷ [])
+    ∷ planned (Of 0 (Load kinds.Ref 2)) behind_object_init (Fresh ∷ []) (held (2 ∷ 6 ∷ []) ∷ []) (next 10 ∷ [])
+    ∷ planned (Of 0 (Load kinds.Int 3)) behind_object_init (Fresh ∷ P ∷ []) (held (2 ∷ 6 ∷ 7 ∷ []) ∷ []) (next 11 ∷ [])
+    ∷ planned (Of 0 (PutField 15)) behind_object_init (Fresh ∷ P ∷ Int ∷ []) (held (2 ∷ 6 ∷ 7 ∷ []) ∷ []) (next 12 ∷ [])
+    ∷ planned (Of 0 (Load kinds.Ref 2)) behind_object_init (Fresh ∷ []) (held (2 ∷ 6 ∷ []) ∷ []) (next 13 ∷ [])
+    ∷ planned (Of 0 (Load kinds.Int 4)) behind_object_init (Fresh ∷ P ∷ []) (held (2 ∷ 6 ∷ 7 ∷ []) ∷ []) (next 14 ∷ [])
+    ∷ planned (Of 0 (PutField 17)) behind_object_init (Fresh ∷ P ∷ Int ∷ []) (held (2 ∷ 6 ∷ 7 ∷ []) ∷ []) (next 15 ∷ [])
+    ∷ planned (Of 0 (Goto 16)) behind_object_init (Fresh ∷ []) (held (2 ∷ 6 ∷ []) ∷ []) (jump 0 16 ∷ [])
+    ∷ planned (Of 1 (Store kinds.Ref 1)) at_start (P ∷ []) (held (6 ∷ []) ∷ []) (next 17 ∷ [])
+    ∷ planned (Of 1 (Load kinds.Ref 1)) with_point [] (held (1 ∷ []) ∷ []) (next 18 ∷ [])
+    ∷ planned (Of 1 (GetField 20)) with_point (P ∷ []) (held (1 ∷ 6 ∷ []) ∷ []) (next 19 ∷ [])
+    ∷ planned (Of 1 (Load kinds.Ref 1)) with_point (Int ∷ []) (held (1 ∷ []) ∷ []) (next 20 ∷ [])
+    ∷ planned (Of 1 (Store kinds.Ref 5)) with_point (Int ∷ P ∷ []) (held (1 ∷ 7 ∷ []) ∷ []) (next 21 ∷ [])
+    ∷ planned (NullTest 5) in_y (Int ∷ []) (held (1 ∷ 5 ∷ []) ∷ []) (next 22 ∷ [])
+    ∷ planned (Of 0 (Load kinds.Ref 5)) in_y (Int ∷ []) (held (1 ∷ 5 ∷ []) ∷ []) (next 23 ∷ [])
+    ∷ planned (Of 0 (GetField 17)) in_y (Int ∷ P ∷ []) (held (1 ∷ 5 ∷ 7 ∷ []) ∷ []) (next 24 ∷ [])
+    ∷ planned (Of 0 (Goto 25)) in_y (Int ∷ Int ∷ []) (held (1 ∷ 5 ∷ []) ∷ []) (jump 0 25 ∷ [])
+    ∷ planned (Of 1 (Pure IADD)) with_point (Int ∷ Int ∷ []) (held (1 ∷ []) ∷ []) (next 26 ∷ [])
+    ∷ planned (Of 1 (Return (Some kinds.Int))) with_point (Int ∷ []) (held (1 ∷ []) ∷ []) []
     ∷ []
 
-abbrev pub flat : FlatCode
-flat = record {
-  host = record { class = 1; method = 0 };
+abbrev pub this : Case
+this = record {
+  folder = p_file ∷ file ∷ [];
+  class = 1;
+  method = 1;
   locals = 6;
-  points = points;
   sites = record { at = 0; class = codes "P"; fields = fields.Int ∷ fields.Int ∷ [] } ∷ [];
+  points = points;
+  constructor = λ class. codes "(II[Z)V";
+  form = short;
 }
-
-abbrev pub scope : PlanScope
-scope = record { classes = classes; links = links; flat = flat }
-
--- ---- its plan: the object is virtual throughout
-
-abbrev slot_of : VType → Slot
-slot_of Int = Plain
-slot_of Top = Unusable
-slot_of other = Virt 0
-
-abbrev state_of : Point → State
-state_of point = record {
-  slots = map slot_of (point.typed.locals ++ point.typed.stack);
-  objects = record { site = 0; fields = Plain ∷ Plain ∷ []; depth = 0 } ∷ [];
-}
-
-abbrev edge_of : ℕ → FlatInstr → State → List RouteEdge
-edge_of at (Of class (Goto to)) state =
-    record { by = edges.Jump 0; to = to; state = state; made = []; order = [] } ∷ []
-edge_of at (Of class (Return kind)) state = []
-edge_of at instr state =
-    record { by = edges.Next; to = suc at; state = state; made = []; order = [] } ∷ []
-
-abbrev routes_from : ℕ → List Point → Routes
-routes_from at [] = []
-routes_from at (point ∷ points) =
-    Some (record {
-      state = state_of point;
-      made = [];
-      order = [];
-      edges = edge_of at point.instr (state_of point);
-    }) ∷ routes_from (suc at) points
-
-abbrev pub blocks : List Finished
-blocks = finish flat (blocks_of scope (routes_from 0 points))
 
 -- ---- what is written
 
-abbrev pub written : List WItem
-written = written_items short blocks
-
-abbrev pub wanted : List WItem
-wanted = map item
-    (plain (Const (imms.Int (pos 0)))
-    ∷ store kinds.Int (field_unit 0 0)
-    ∷ plain (Const (imms.Int (pos 0)))
-    ∷ store kinds.Int (field_unit 0 1)
-    ∷ carried 1 (Load kinds.Int 0)
-    ∷ carried 1 (Const (imms.Int (pos 2)))
-    ∷ carried 1 (Store kinds.Int 4)
-    ∷ carried 1 (Store kinds.Int 3)
-    ∷ carried 0 (Load kinds.Int 3)
-    ∷ store kinds.Int (field_unit 0 0)
-    ∷ carried 0 (Load kinds.Int 4)
-    ∷ store kinds.Int (field_unit 0 1)
-    ∷ load kinds.Int (field_unit 0 0)
-    ∷ load kinds.Int (field_unit 0 1)
-    ∷ carried 1 (Pure IADD)
-    ∷ carried 1 (Return (Some kinds.Int))
-    ∷ [])
+abbrev pub items : List IndexedItem
+items =
+    uncaught (Const (imms.Int (pos 0)))
+    ∷ uncaught (Store kinds.Int 6)
+    ∷ uncaught (Const (imms.Int (pos 0)))
+    ∷ uncaught (Store kinds.Int 7)
+    ∷ uncaught (Load kinds.Int 0)
+    ∷ uncaught (Const (imms.Int (pos 2)))
+    ∷ uncaught (Store kinds.Int 4)
+    ∷ uncaught (Store kinds.Int 3)
+    ∷ uncaught (Load kinds.Int 3)
+    ∷ uncaught (Store kinds.Int 6)
+    ∷ uncaught (Load kinds.Int 4)
+    ∷ uncaught (Store kinds.Int 7)
+    ∷ uncaught (Load kinds.Int 6)
+    ∷ uncaught (Load kinds.Int 7)
+    ∷ uncaught (Pure IADD)
+    ∷ uncaught (Return (Some kinds.Int))
+    ∷ []
 
 abbrev pub bytes : List ℕ
 bytes =
-    flat_map (λ one. instr_bytes 0 one.instr)
-    (indexed_items scope (λ class. []) t_pool short blocks)
-
--- iconst_0, istore 6, iconst_0, istore 7, iload_0, iconst_2, istore 4, istore_3, iload_3, istore 6, iload 4, istore 7, iload 6, iload 7, iadd,
--- ireturn
-abbrev pub wanted_bytes : List ℕ
-wanted_bytes =
-    3 ∷ 54 ∷ 6
-    ∷ 3 ∷ 54 ∷ 7
-    ∷ 26
-    ∷ 5
-    ∷ 54 ∷ 4
-    ∷ 62
-    ∷ 29 ∷ 54 ∷ 6
-    ∷ 21 ∷ 4 ∷ 54 ∷ 7
-    ∷ 21 ∷ 6
-    ∷ 21 ∷ 7
-    ∷ 96
-    ∷ 172
+    3 ∷ 54 ∷ 6 ∷ 3 ∷ 54 ∷ 7 ∷ 26 ∷ 5 ∷ 54 ∷ 4 ∷ 62 ∷ 29 ∷ 54 ∷ 6 ∷ 21 ∷ 4 ∷ 54 ∷ 7
+    ∷ 21 ∷ 6 ∷ 21 ∷ 7 ∷ 96 ∷ 172
     ∷ []
+
+abbrev pub wanted : Wanted
+wanted = record {
+  items = items;
+  pool = pool;
+  places = [];
+  units = 13;
+}

@@ -1,0 +1,199 @@
+-- static int s(int n) { P p = new P(n, 0); synchronized (p) { return p.x; } }: the monitor is that of no other thread. The handler of what
+-- leaves it is not reached.
+use Rattle.std.specs.Prelude.{ℕ, List, [], ◌∷◌, codes, Some, pos, None}
+use Rattle.class_model.specs.Pool.{Constants}
+use Rattle.class_model.specs.declared.class_file.ClassFile.{ClassFile}
+use Rattle.class_model.specs.declared.descriptor.FieldType.TheVariants as fields
+use Rattle.class_model.specs.declared.descriptor.Kind.TheVariants as kinds
+use Rattle.class_model.specs.declared.frame.VType.{VType}
+use Rattle.class_model.specs.declared.frame.VType.TheVariants.{Int, Object, Top, Uninit}
+use Rattle.class_model.specs.declared.instr.Imm.TheVariants as imms
+use Rattle.class_model.specs.declared.instr.Instr.TheVariants.{Const, Enter, GetField, Goto, Invoke, Leave, Load, New, PutField, Return, Shuffle, Store, Throw}
+use Rattle.class_model.specs.declared.opcodes.TheConstants.{DUP, INVOKESPECIAL}
+use Rattle.class_model.specs.declared.pool.Const.TheVariants.{Class, Fieldref, Methodref, NameAndType, Utf8}
+use Rattle.flow_code.specs.declared.handlers.FlatHandler.{FlatHandler}
+use Rattle.flow_code.specs.declared.point.FlatInstr.TheVariants.{Of}
+use Rattle.plan_flow.specs.Written.WrittenCode.{short}
+use Rattle.plan_flow.specs.Written.WrittenConstants.{IndexedItem}
+use Rattle.virtual_state.specs.declared.slot.Slot.TheVariants.{Plain}
+use Rattle.written_cases.specs.CaseWords.{Case, CasePoint, Held, Wanted, jump, next, planned, uncaught, unreached, within}
+use Rattle.written_cases.specs.PointClass.{p_file}
+
+-- ---- the class of the method
+
+abbrev pub pool : Constants
+pool =
+    None
+    ∷ Some (Utf8 (codes "T"))
+    ∷ Some (Class 1)
+    ∷ Some (Utf8 (codes "java/lang/Object"))
+    ∷ Some (Class 3)
+    ∷ Some (Utf8 (codes "<init>"))
+    ∷ Some (Utf8 (codes "()V"))
+    ∷ Some (Utf8 (codes "Code"))
+    ∷ Some (NameAndType 5 6)
+    ∷ Some (Methodref 4 8)
+    ∷ Some (Utf8 (codes "s"))
+    ∷ Some (Utf8 (codes "(I)I"))
+    ∷ Some (Utf8 (codes "P"))
+    ∷ Some (Class 12)
+    ∷ Some (Utf8 (codes "(II)V"))
+    ∷ Some (NameAndType 5 14)
+    ∷ Some (Methodref 13 15)
+    ∷ Some (Utf8 (codes "x"))
+    ∷ Some (Utf8 (codes "I"))
+    ∷ Some (NameAndType 17 18)
+    ∷ Some (Fieldref 13 19)
+    ∷ Some (Utf8 (codes "java/lang/Throwable"))
+    ∷ Some (Class 21)
+    ∷ Some (Utf8 (codes "StackMapTable"))
+    ∷ []
+
+abbrev pub file : ClassFile
+file = record {
+  major = 52;
+  minor = 0;
+  pool = pool;
+  flags = 33;
+  this_class = 2;
+  super_class = 4;
+  interfaces = [];
+  fields = [];
+  methods = record { flags = 0; name = 5; desc = 6; attrs = [] }
+      ∷ record { flags = 8; name = 10; desc = 11; attrs = [] }
+      ∷ [];
+  attrs = [];
+}
+
+-- ---- the flat code with its plan
+
+abbrev Fresh : VType
+Fresh = Uninit 0
+
+abbrev P : VType
+P = Object (codes "P")
+
+abbrev Any : VType
+Any = Object (codes "java/lang/Object")
+
+abbrev Thrown : VType
+Thrown = Object (codes "java/lang/Throwable")
+
+abbrev at_start : List VType
+at_start = Int ∷ Top ∷ Top ∷ Top ∷ Top ∷ Top ∷ Top ∷ []
+
+abbrev passing_y : List VType
+passing_y = Int ∷ Top ∷ Top ∷ Top ∷ Top ∷ Top ∷ Int ∷ []
+
+abbrev passing_both : List VType
+passing_both = Int ∷ Top ∷ Top ∷ Top ∷ Top ∷ Int ∷ Int ∷ []
+
+abbrev in_constructor : List VType
+in_constructor = Int ∷ Top ∷ Top ∷ Top ∷ Fresh ∷ Int ∷ Int ∷ []
+
+abbrev behind_object_init : List VType
+behind_object_init = Int ∷ Top ∷ Top ∷ Top ∷ P ∷ Int ∷ Int ∷ []
+
+abbrev with_point : List VType
+with_point = Int ∷ P ∷ Top ∷ Top ∷ Top ∷ Top ∷ Top ∷ []
+
+abbrev in_monitor : List VType
+in_monitor = Int ∷ P ∷ P ∷ Top ∷ Top ∷ Top ∷ Top ∷ []
+
+abbrev caught : List VType
+caught = Int ∷ P ∷ Any ∷ Top ∷ Top ∷ Top ∷ Top ∷ []
+
+abbrev with_thrown : List VType
+with_thrown = Int ∷ P ∷ Any ∷ Thrown ∷ Top ∷ Top ∷ Top ∷ []
+
+abbrev handlers : List FlatHandler
+handlers = record { to = 26; catch_class = None } ∷ []
+
+-- the object, and where it is
+abbrev held : List ℕ → Held
+held places = record { site = 0; fields = Plain ∷ Plain ∷ []; depth = 0; places = places }
+
+-- the object with its monitor entered once and where it is
+abbrev locked : List ℕ → Held
+locked places = record { site = 0; fields = Plain ∷ Plain ∷ []; depth = 1; places = places }
+
+abbrev pub points : List CasePoint
+points =
+    planned (Of 1 (New 13)) at_start [] [] (next 1 ∷ [])
+    ∷ planned (Of 1 (Shuffle DUP)) at_start (Fresh ∷ []) (held (7 ∷ []) ∷ []) (next 2 ∷ [])
+    ∷ planned (Of 1 (Load kinds.Int 0)) at_start (Fresh ∷ Fresh ∷ []) (held (7 ∷ 8 ∷ []) ∷ []) (next 3 ∷ [])
+    ∷ planned (Of 1 (Const (imms.Int (pos 0)))) at_start (Fresh ∷ Fresh ∷ Int ∷ []) (held (7 ∷ 8 ∷ []) ∷ []) (next 4 ∷ [])
+    ∷ planned (Of 1 (Store kinds.Int 6)) at_start (Fresh ∷ Fresh ∷ Int ∷ Int ∷ []) (held (7 ∷ 8 ∷ []) ∷ []) (next 5 ∷ [])
+    ∷ planned (Of 1 (Store kinds.Int 5)) passing_y (Fresh ∷ Fresh ∷ Int ∷ []) (held (7 ∷ 8 ∷ []) ∷ []) (next 6 ∷ [])
+    ∷ planned (Of 1 (Store kinds.Ref 4)) passing_both (Fresh ∷ Fresh ∷ []) (held (7 ∷ 8 ∷ []) ∷ []) (next 7 ∷ [])
+    ∷ planned (Of 0 (Load kinds.Ref 4)) in_constructor (Fresh ∷ []) (held (4 ∷ 7 ∷ []) ∷ []) (next 8 ∷ [])
+    ∷ planned (Of 0 (Invoke INVOKESPECIAL 13 0)) in_constructor (Fresh ∷ Fresh ∷ []) (held (4 ∷ 7 ∷ 8 ∷ []) ∷ []) (next 9 ∷ [])
+    ∷ planned (Of 0 (Load kinds.Ref 4)) behind_object_init (Fresh ∷ []) (held (4 ∷ 7 ∷ []) ∷ []) (next 10 ∷ [])
+    ∷ planned (Of 0 (Load kinds.Int 5)) behind_object_init (Fresh ∷ P ∷ []) (held (4 ∷ 7 ∷ 8 ∷ []) ∷ []) (next 11 ∷ [])
+    ∷ planned (Of 0 (PutField 15)) behind_object_init (Fresh ∷ P ∷ Int ∷ []) (held (4 ∷ 7 ∷ 8 ∷ []) ∷ []) (next 12 ∷ [])
+    ∷ planned (Of 0 (Load kinds.Ref 4)) behind_object_init (Fresh ∷ []) (held (4 ∷ 7 ∷ []) ∷ []) (next 13 ∷ [])
+    ∷ planned (Of 0 (Load kinds.Int 6)) behind_object_init (Fresh ∷ P ∷ []) (held (4 ∷ 7 ∷ 8 ∷ []) ∷ []) (next 14 ∷ [])
+    ∷ planned (Of 0 (PutField 17)) behind_object_init (Fresh ∷ P ∷ Int ∷ []) (held (4 ∷ 7 ∷ 8 ∷ []) ∷ []) (next 15 ∷ [])
+    ∷ planned (Of 0 (Goto 16)) behind_object_init (Fresh ∷ []) (held (4 ∷ 7 ∷ []) ∷ []) (jump 0 16 ∷ [])
+    ∷ planned (Of 1 (Store kinds.Ref 1)) at_start (P ∷ []) (held (7 ∷ []) ∷ []) (next 17 ∷ [])
+    ∷ planned (Of 1 (Load kinds.Ref 1)) with_point [] (held (1 ∷ []) ∷ []) (next 18 ∷ [])
+    ∷ planned (Of 1 (Shuffle DUP)) with_point (P ∷ []) (held (1 ∷ 7 ∷ []) ∷ []) (next 19 ∷ [])
+    ∷ planned (Of 1 (Store kinds.Ref 2)) with_point (P ∷ P ∷ []) (held (1 ∷ 7 ∷ 8 ∷ []) ∷ []) (next 20 ∷ [])
+    ∷ planned (Of 1 Enter) in_monitor (P ∷ []) (held (1 ∷ 2 ∷ 7 ∷ []) ∷ []) (next 21 ∷ [])
+    ∷ within handlers (planned (Of 1 (Load kinds.Ref 1)) in_monitor [] (locked (1 ∷ 2 ∷ []) ∷ []) (next 22 ∷ []))
+    ∷ within handlers (planned (Of 1 (GetField 20)) in_monitor (P ∷ []) (locked (1 ∷ 2 ∷ 7 ∷ []) ∷ []) (next 23 ∷ []))
+    ∷ within handlers (planned (Of 1 (Load kinds.Ref 2)) in_monitor (Int ∷ []) (locked (1 ∷ 2 ∷ []) ∷ []) (next 24 ∷ []))
+    ∷ within handlers (planned (Of 1 Leave) in_monitor (Int ∷ P ∷ []) (locked (1 ∷ 2 ∷ 8 ∷ []) ∷ []) (next 25 ∷ []))
+    ∷ planned (Of 1 (Return (Some kinds.Int))) in_monitor (Int ∷ []) (held (1 ∷ 2 ∷ []) ∷ []) []
+    ∷ within handlers (unreached (Of 1 (Store kinds.Ref 3)) caught (Thrown ∷ []))
+    ∷ within handlers (unreached (Of 1 (Load kinds.Ref 2)) with_thrown [])
+    ∷ within handlers (unreached (Of 1 Leave) with_thrown (Any ∷ []))
+    ∷ unreached (Of 1 (Load kinds.Ref 3)) with_thrown []
+    ∷ unreached (Of 1 Throw) with_thrown (Thrown ∷ [])
+    ∷ []
+
+abbrev pub this : Case
+this = record {
+  folder = p_file ∷ file ∷ [];
+  class = 1;
+  method = 1;
+  locals = 7;
+  sites = record { at = 0; class = codes "P"; fields = fields.Int ∷ fields.Int ∷ [] } ∷ [];
+  points = points;
+  constructor = λ class. codes "(II[Z)V";
+  form = short;
+}
+
+-- ---- what is written
+
+abbrev pub items : List IndexedItem
+items =
+    uncaught (Const (imms.Int (pos 0)))
+    ∷ uncaught (Store kinds.Int 7)
+    ∷ uncaught (Const (imms.Int (pos 0)))
+    ∷ uncaught (Store kinds.Int 8)
+    ∷ uncaught (Load kinds.Int 0)
+    ∷ uncaught (Const (imms.Int (pos 0)))
+    ∷ uncaught (Store kinds.Int 6)
+    ∷ uncaught (Store kinds.Int 5)
+    ∷ uncaught (Load kinds.Int 5)
+    ∷ uncaught (Store kinds.Int 7)
+    ∷ uncaught (Load kinds.Int 6)
+    ∷ uncaught (Store kinds.Int 8)
+    ∷ uncaught (Load kinds.Int 7)
+    ∷ uncaught (Return (Some kinds.Int))
+    ∷ []
+
+abbrev pub bytes : List ℕ
+bytes =
+    3 ∷ 54 ∷ 7 ∷ 3 ∷ 54 ∷ 8 ∷ 26 ∷ 3 ∷ 54 ∷ 6 ∷ 54 ∷ 5 ∷ 21 ∷ 5 ∷ 54 ∷ 7 ∷ 21 ∷ 6
+    ∷ 54 ∷ 8 ∷ 21 ∷ 7 ∷ 172
+    ∷ []
+
+abbrev pub wanted : Wanted
+wanted = record {
+  items = items;
+  pool = pool;
+  places = [];
+  units = 14;
+}

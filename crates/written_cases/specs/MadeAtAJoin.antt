@@ -1,0 +1,217 @@
+-- static int j(int b) { P p = new P(1, 2); if (b == 2) return 9; if (b == 1) L.use(p); return p.x; }: a pad makes the object on the edge to
+-- the join.
+use Rattle.std.specs.Prelude.{ℕ, List, [], ◌∷◌, codes, Some, pos, ◌++◌, None}
+use Rattle.class_model.specs.Pool.{Constants}
+use Rattle.class_model.specs.declared.class_file.ClassFile.{ClassFile}
+use Rattle.class_model.specs.declared.descriptor.FieldType.TheVariants as fields
+use Rattle.class_model.specs.declared.descriptor.Kind.TheVariants as kinds
+use Rattle.class_model.specs.declared.frame.VType.{VType}
+use Rattle.class_model.specs.declared.frame.VType.TheVariants.{Int, Object, Top, Uninit}
+use Rattle.class_model.specs.declared.instr.Imm.TheVariants as imms
+use Rattle.class_model.specs.declared.instr.Instr.TheVariants.{Const, GetField, Goto, If2, Invoke, Load, New, PutField, Return, Shuffle, Store}
+use Rattle.class_model.specs.declared.opcodes.TheConstants.{DUP, IF_ICMPNE, INVOKESPECIAL, INVOKESTATIC}
+use Rattle.class_model.specs.declared.pool.Const.TheVariants.{Class, Fieldref, Methodref, NameAndType, Utf8}
+use Rattle.flow_code.specs.declared.point.FlatInstr.TheVariants.{Of}
+use Rattle.plan_flow.specs.Written.Places.{makes_object}
+use Rattle.plan_flow.specs.Written.WrittenCode.{short}
+use Rattle.plan_flow.specs.Written.WrittenConstants.{IndexedItem}
+use Rattle.virtual_state.specs.declared.slot.Slot.TheVariants.{Plain}
+use Rattle.written_cases.specs.CaseWords.{Case, CasePoint, Held, Wanted, jump, made_before, making, next, planned, uncaught}
+use Rattle.written_cases.specs.PointClass.{p_file}
+
+-- ---- the class of the method
+
+abbrev pub pool : Constants
+pool =
+    None
+    ∷ Some (Utf8 (codes "T"))
+    ∷ Some (Class 1)
+    ∷ Some (Utf8 (codes "java/lang/Object"))
+    ∷ Some (Class 3)
+    ∷ Some (Utf8 (codes "<init>"))
+    ∷ Some (Utf8 (codes "()V"))
+    ∷ Some (Utf8 (codes "Code"))
+    ∷ Some (NameAndType 5 6)
+    ∷ Some (Methodref 4 8)
+    ∷ Some (Utf8 (codes "j"))
+    ∷ Some (Utf8 (codes "(I)I"))
+    ∷ Some (Utf8 (codes "P"))
+    ∷ Some (Class 12)
+    ∷ Some (Utf8 (codes "(II)V"))
+    ∷ Some (NameAndType 5 14)
+    ∷ Some (Methodref 13 15)
+    ∷ Some (Utf8 (codes "L"))
+    ∷ Some (Class 17)
+    ∷ Some (Utf8 (codes "use"))
+    ∷ Some (Utf8 (codes "(Ljava/lang/Object;)V"))
+    ∷ Some (NameAndType 19 20)
+    ∷ Some (Methodref 18 21)
+    ∷ Some (Utf8 (codes "x"))
+    ∷ Some (Utf8 (codes "I"))
+    ∷ Some (NameAndType 23 24)
+    ∷ Some (Fieldref 13 25)
+    ∷ Some (Utf8 (codes "StackMapTable"))
+    ∷ []
+
+abbrev pub file : ClassFile
+file = record {
+  major = 52;
+  minor = 0;
+  pool = pool;
+  flags = 33;
+  this_class = 2;
+  super_class = 4;
+  interfaces = [];
+  fields = [];
+  methods = record { flags = 0; name = 5; desc = 6; attrs = [] }
+      ∷ record { flags = 8; name = 10; desc = 11; attrs = [] }
+      ∷ [];
+  attrs = [];
+}
+
+-- ---- the flat code with its plan
+
+abbrev Fresh : VType
+Fresh = Uninit 0
+
+abbrev P : VType
+P = Object (codes "P")
+
+abbrev at_start : List VType
+at_start = Int ∷ Top ∷ Top ∷ Top ∷ Top ∷ []
+
+abbrev passing_y : List VType
+passing_y = Int ∷ Top ∷ Top ∷ Top ∷ Int ∷ []
+
+abbrev passing_both : List VType
+passing_both = Int ∷ Top ∷ Top ∷ Int ∷ Int ∷ []
+
+abbrev in_constructor : List VType
+in_constructor = Int ∷ Top ∷ Fresh ∷ Int ∷ Int ∷ []
+
+abbrev behind_object_init : List VType
+behind_object_init = Int ∷ Top ∷ P ∷ Int ∷ Int ∷ []
+
+abbrev with_point : List VType
+with_point = Int ∷ P ∷ Top ∷ Top ∷ Top ∷ []
+
+-- the object, and where it is
+abbrev held : List ℕ → Held
+held places = record { site = 0; fields = Plain ∷ Plain ∷ []; depth = 0; places = places }
+
+abbrev pub points : List CasePoint
+points =
+    planned (Of 1 (New 13)) at_start [] [] (next 1 ∷ [])
+    ∷ planned (Of 1 (Shuffle DUP)) at_start (Fresh ∷ []) (held (5 ∷ []) ∷ []) (next 2 ∷ [])
+    ∷ planned (Of 1 (Const (imms.Int (pos 1)))) at_start (Fresh ∷ Fresh ∷ []) (held (5 ∷ 6 ∷ []) ∷ []) (next 3 ∷ [])
+    ∷ planned (Of 1 (Const (imms.Int (pos 2)))) at_start (Fresh ∷ Fresh ∷ Int ∷ []) (held (5 ∷ 6 ∷ []) ∷ []) (next 4 ∷ [])
+    ∷ planned (Of 1 (Store kinds.Int 4)) at_start (Fresh ∷ Fresh ∷ Int ∷ Int ∷ []) (held (5 ∷ 6 ∷ []) ∷ []) (next 5 ∷ [])
+    ∷ planned (Of 1 (Store kinds.Int 3)) passing_y (Fresh ∷ Fresh ∷ Int ∷ []) (held (5 ∷ 6 ∷ []) ∷ []) (next 6 ∷ [])
+    ∷ planned (Of 1 (Store kinds.Ref 2)) passing_both (Fresh ∷ Fresh ∷ []) (held (5 ∷ 6 ∷ []) ∷ []) (next 7 ∷ [])
+    ∷ planned (Of 0 (Load kinds.Ref 2)) in_constructor (Fresh ∷ []) (held (2 ∷ 5 ∷ []) ∷ []) (next 8 ∷ [])
+    ∷ planned (Of 0 (Invoke INVOKESPECIAL 13 0)) in_constructor (Fresh ∷ Fresh ∷ []) (held (2 ∷ 5 ∷ 6 ∷ []) ∷ []) (next 9 ∷ [])
+    ∷ planned (Of 0 (Load kinds.Ref 2)) behind_object_init (Fresh ∷ []) (held (2 ∷ 5 ∷ []) ∷ []) (next 10 ∷ [])
+    ∷ planned (Of 0 (Load kinds.Int 3)) behind_object_init (Fresh ∷ P ∷ []) (held (2 ∷ 5 ∷ 6 ∷ []) ∷ []) (next 11 ∷ [])
+    ∷ planned (Of 0 (PutField 15)) behind_object_init (Fresh ∷ P ∷ Int ∷ []) (held (2 ∷ 5 ∷ 6 ∷ []) ∷ []) (next 12 ∷ [])
+    ∷ planned (Of 0 (Load kinds.Ref 2)) behind_object_init (Fresh ∷ []) (held (2 ∷ 5 ∷ []) ∷ []) (next 13 ∷ [])
+    ∷ planned (Of 0 (Load kinds.Int 4)) behind_object_init (Fresh ∷ P ∷ []) (held (2 ∷ 5 ∷ 6 ∷ []) ∷ []) (next 14 ∷ [])
+    ∷ planned (Of 0 (PutField 17)) behind_object_init (Fresh ∷ P ∷ Int ∷ []) (held (2 ∷ 5 ∷ 6 ∷ []) ∷ []) (next 15 ∷ [])
+    ∷ planned (Of 0 (Goto 16)) behind_object_init (Fresh ∷ []) (held (2 ∷ 5 ∷ []) ∷ []) (jump 0 16 ∷ [])
+    ∷ planned (Of 1 (Store kinds.Ref 1)) at_start (P ∷ []) (held (5 ∷ []) ∷ []) (next 17 ∷ [])
+    ∷ planned (Of 1 (Load kinds.Int 0)) with_point [] (held (1 ∷ []) ∷ []) (next 18 ∷ [])
+    ∷ planned (Of 1 (Const (imms.Int (pos 2)))) with_point (Int ∷ []) (held (1 ∷ []) ∷ []) (next 19 ∷ [])
+    ∷ planned (Of 1 (If2 IF_ICMPNE 22)) with_point (Int ∷ Int ∷ []) (held (1 ∷ []) ∷ []) (next 20 ∷ jump 0 22 ∷ [])
+    ∷ planned (Of 1 (Const (imms.Int (pos 9)))) with_point [] (held (1 ∷ []) ∷ []) (next 21 ∷ [])
+    ∷ planned (Of 1 (Return (Some kinds.Int))) with_point (Int ∷ []) (held (1 ∷ []) ∷ []) []
+    ∷ planned (Of 1 (Load kinds.Int 0)) with_point [] (held (1 ∷ []) ∷ []) (next 23 ∷ [])
+    ∷ planned (Of 1 (Const (imms.Int (pos 1)))) with_point (Int ∷ []) (held (1 ∷ []) ∷ []) (next 24 ∷ [])
+    ∷ planned (Of 1 (If2 IF_ICMPNE 27)) with_point (Int ∷ Int ∷ []) (held (1 ∷ []) ∷ []) (next 25 ∷ making (0 ∷ []) (held (1 ∷ []) ∷ []) (jump 0 27) ∷ [])
+    ∷ planned (Of 1 (Load kinds.Ref 1)) with_point [] (held (1 ∷ []) ∷ []) (next 26 ∷ [])
+    ∷ made_before (0 ∷ []) (planned (Of 1 (Invoke INVOKESTATIC 22 0)) with_point (P ∷ []) (held (1 ∷ 5 ∷ []) ∷ []) (next 27 ∷ []))
+    ∷ planned (Of 1 (Load kinds.Ref 1)) with_point [] [] (next 28 ∷ [])
+    ∷ planned (Of 1 (GetField 26)) with_point (P ∷ []) [] (next 29 ∷ [])
+    ∷ planned (Of 1 (Return (Some kinds.Int))) with_point (Int ∷ []) [] []
+    ∷ []
+
+abbrev pub this : Case
+this = record {
+  folder = p_file ∷ file ∷ [];
+  class = 1;
+  method = 1;
+  locals = 5;
+  sites = record { at = 0; class = codes "P"; fields = fields.Int ∷ fields.Int ∷ [] } ∷ [];
+  points = points;
+  constructor = λ class. codes "(II[Z)V";
+  form = short;
+}
+
+-- ---- what is written
+
+abbrev pub items : List IndexedItem
+items =
+    uncaught (Const (imms.Int (pos 0)))
+    ∷ uncaught (Store kinds.Int 5)
+    ∷ uncaught (Const (imms.Int (pos 0)))
+    ∷ uncaught (Store kinds.Int 6)
+    ∷ uncaught (Const (imms.Int (pos 1)))
+    ∷ uncaught (Const (imms.Int (pos 2)))
+    ∷ uncaught (Store kinds.Int 4)
+    ∷ uncaught (Store kinds.Int 3)
+    ∷ uncaught (Load kinds.Int 3)
+    ∷ uncaught (Store kinds.Int 5)
+    ∷ uncaught (Load kinds.Int 4)
+    ∷ uncaught (Store kinds.Int 6)
+    ∷ uncaught (Load kinds.Int 0)
+    ∷ uncaught (Const (imms.Int (pos 2)))
+    ∷ uncaught (If2 IF_ICMPNE 17)
+    ∷ uncaught (Const (imms.Int (pos 9)))
+    ∷ uncaught (Return (Some kinds.Int))
+    ∷ uncaught (Load kinds.Int 0)
+    ∷ uncaught (Const (imms.Int (pos 1)))
+    ∷ uncaught (If2 IF_ICMPNE 34)
+    ∷ uncaught (New 13)
+    ∷ uncaught (Shuffle DUP)
+    ∷ uncaught (Load kinds.Int 5)
+    ∷ uncaught (Load kinds.Int 6)
+    ∷ uncaught (Const imms.Null)
+    ∷ uncaught (Invoke INVOKESPECIAL 30 0)
+    ∷ uncaught (Store kinds.Ref 7)
+    ∷ uncaught (Load kinds.Ref 7)
+    ∷ uncaught (Store kinds.Ref 1)
+    ∷ uncaught (Load kinds.Ref 7)
+    ∷ uncaught (Invoke INVOKESTATIC 22 0)
+    ∷ uncaught (Load kinds.Ref 1)
+    ∷ uncaught (GetField 26)
+    ∷ uncaught (Return (Some kinds.Int))
+    ∷ uncaught (New 13)
+    ∷ uncaught (Shuffle DUP)
+    ∷ uncaught (Load kinds.Int 5)
+    ∷ uncaught (Load kinds.Int 6)
+    ∷ uncaught (Const imms.Null)
+    ∷ uncaught (Invoke INVOKESPECIAL 30 0)
+    ∷ uncaught (Store kinds.Ref 7)
+    ∷ uncaught (Load kinds.Ref 7)
+    ∷ uncaught (Store kinds.Ref 1)
+    ∷ uncaught (Goto 31)
+    ∷ []
+
+abbrev pub bytes : List ℕ
+bytes =
+    3 ∷ 54 ∷ 5 ∷ 3 ∷ 54 ∷ 6 ∷ 4 ∷ 5 ∷ 54 ∷ 4 ∷ 62 ∷ 29 ∷ 54 ∷ 5 ∷ 21 ∷ 4 ∷ 54 ∷ 6 ∷ 26
+    ∷ 5 ∷ 160 ∷ 0 ∷ 6 ∷ 16 ∷ 9 ∷ 172 ∷ 26 ∷ 4 ∷ 160 ∷ 0 ∷ 30 ∷ 187 ∷ 0 ∷ 13 ∷ 89 ∷ 21 ∷ 5
+    ∷ 21 ∷ 6 ∷ 1 ∷ 183 ∷ 0 ∷ 30 ∷ 58 ∷ 7 ∷ 25 ∷ 7 ∷ 76 ∷ 25 ∷ 7 ∷ 184 ∷ 0 ∷ 22 ∷ 43
+    ∷ 180 ∷ 0 ∷ 26 ∷ 172 ∷ 187 ∷ 0 ∷ 13 ∷ 89 ∷ 21 ∷ 5 ∷ 21 ∷ 6 ∷ 1 ∷ 183 ∷ 0 ∷ 30
+    ∷ 58 ∷ 7 ∷ 25 ∷ 7 ∷ 76 ∷ 167 ∷ 255 ∷ 234
+    ∷ []
+
+abbrev pub wanted : Wanted
+wanted = record {
+  items = items;
+  pool = pool ++ (
+      Some (Utf8 (codes "(II[Z)V"))
+      ∷ Some (NameAndType 5 28)
+      ∷ Some (Methodref 13 29)
+      ∷ []);
+  places = makes_object (codes "P") ∷ makes_object (codes "P") ∷ [];
+  units = 12;
+}
