@@ -6,6 +6,7 @@ pub mod Narrow
 pub mod Must
 pub mod Effect
 pub mod Plans
+pub mod PlanEdges
 pub mod Gain
 pub mod Orders
 pub mod Inner

@@ -34,5 +34,5 @@ pub use effects::effect;
 pub use laws::{effect_grows, flat_code_has_one_least_plan, must_grows, no_valid_plan_keeps_more};
 pub use least::least_plan;
 pub use needs::must;
-pub use plan::Plan;
+pub use plan::{Plan, PlanEdge};
 pub use saving::gain;

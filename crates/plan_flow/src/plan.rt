@@ -1,6 +1,7 @@
 //! Plans of flat code.
 ghost use Rattle.std.specs.Prelude.{◌≡◌, slice_get, option_and_then, option_map};
 ghost use Rattle.std.specs.Option.{option_copied};
+ghost use Rattle.plan_flow.specs.PlanEdges.{made_edge_meant};
 ghost use Rattle.plan_flow.specs.Plans.{planned};
 
 use crate::edge::EdgeKind;
@@ -21,6 +22,15 @@ impl Model for EdgePlan {
     ghost Value = { MadeEdge };
 
     ghost view = { λ edge. record { by = edge.by; to = edge.to; made = edge.made } };
+}
+
+/// An edge of a point that is reached, borrowed from a plan: how control takes it, the point that it leads to, and the sites
+/// whose objects are made on it.
+#[derive(Clone, Copy)]
+pub struct PlanEdge<'p> {
+    pub by: EdgeKind,
+    pub to: usize,
+    pub made: &'p SiteSet,
 }
 
 /// A point that is reached: the state before it, the sites whose objects are made before its instruction, and its edges.
@@ -84,6 +94,19 @@ impl Plan {
             (option_and_then (λ point. slice_get point.edges edge) (planned self.now at)) }
     {
         Some(&self.point(at)?.edges.get(edge)?.made)
+    }
+
+    /// An edge of a point, if the point is reached and has such an edge, by the number that `made_on` takes.
+    pub fn edge(&self, at: usize, number: usize) -> Option<PlanEdge<'_>>
+        ensures { option_map made_edge_meant result
+            ≡ option_and_then (λ point. slice_get point.edges number) (planned self.now at) }
+    {
+        let edge = self.point(at)?.edges.get(number)?;
+        Some(PlanEdge {
+            by: edge.by,
+            to: edge.to,
+            made: &edge.made,
+        })
     }
 
     /// What is planned for a point, if it is reached.
