@@ -1,12 +1,10 @@
 -- The least closed set that has some sites.
-use Rattle.std.proofs.Common.{◌≡◌, ◌==◌, ◌||◌, ◌+◌, ◌<◌, ℕ, Bool, List, [], ◌∷◌, ◌++◌, length, take, get_or, IsTrue, refl, sym, ap, subst, ◌∙◌, inl, inr}
-use Rattle.std.proofs.lemmas.Bool.{false≢true, eq-eqb, eqb-true}
+use Rattle.std.proofs.Common.{◌≡◌, ◌==◌, ◌||◌, ◌+◌, ◌<◌, ℕ, List, [], length, take, get_or, refl, sym, ap, ◌∙◌}
 use Rattle.std.proofs.lemmas.List.{take_more}
 use Rattle.virtual_state.proofs.Marking.{has_push}
 use Rattle.virtual_state.proofs.Spreading.{spread_in_closed}
 use Rattle.virtual_state.specs.Inner.Marks.{HasMarked, HasSpread}
 use Rattle.virtual_state.specs.Sites.{has, IsClosure}
-use Rattle.virtual_state.specs.Without.{IsClosed}
 use Rattle.virtual_state.specs.declared.slot.VObject.{VObject}
 
 -- The first sites of a list, so many, are in a set, and no others.

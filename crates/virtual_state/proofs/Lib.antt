@@ -3,6 +3,7 @@ pub mod Marking
 pub mod Spreading
 pub mod SiteSets
 pub mod Filling
+pub mod Fronts
 pub mod Depths
 pub mod Reaching
 pub mod Agreeing

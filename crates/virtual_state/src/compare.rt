@@ -20,12 +20,31 @@ pub fn below(state: &VState, other: &VState) -> bool
 {
     state.is_state();
     other.is_state();
-    let slots = slots_fit(state.slots(), other.slots(), other.objects());
+    let slots = places_fit(state, other);
     if slots {
         objects_fit(state.objects(), other.objects())
     } else {
         false
     }
+}
+
+// Whether the slots of states are the same where the objects are made that are absent in the other one.
+fn places_fit(state: &VState, other: &VState) -> bool
+    ensures { IsTrue result
+        ↔ (other.now.slots ≡ map (made_plain (absent_from other.now.objects)) state.now.slots) }
+{
+    let len = state.len();
+    if len != other.len() {
+        return false;
+    }
+    let objects = other.objects();
+    for at in 0..len {
+        let same = slot_made(state.place(at), objects).is_same(other.place(at));
+        if !same {
+            return false;
+        }
+    }
+    true
 }
 
 // Whether slots are the same where the objects that are absent among these are made.

@@ -62,9 +62,11 @@ fn with_object(
 {
     state.is_state();
     let objects = objects_with(alloc, state, object, depth)?;
-    let slots = state.shared_slots().clone()?;
+    let (front, back) = state.slot_parts();
+    let front = front.copy()?;
+    let back = back.clone()?;
     let objects = Rc::new(alloc, objects)?;
-    Ok(VState::from_parts(slots, objects))
+    Ok(VState::from_parts(front, back, objects))
 }
 
 // The objects of a state with another depth of one.

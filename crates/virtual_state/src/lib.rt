@@ -6,6 +6,7 @@
 mod closing;
 mod compare;
 mod depth;
+mod front;
 mod laws;
 mod lost;
 mod making;
@@ -22,6 +23,7 @@ mod table;
 pub use closing::closure;
 pub use compare::below;
 pub use depth::{enter, leave};
+pub use front::FrontSlots;
 pub use laws::{
     below_is_a_partial_order, chains_end, differing_sites_are_taken_away, joins_are_least,
     sets_are_taken_one_by_one,

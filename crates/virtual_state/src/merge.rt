@@ -24,11 +24,23 @@ pub fn join(alloc: Global, state: &VState, other: &VState) -> Result<VState, NoM
     state.is_state();
     other.is_state();
     let mut away = MarkedSites::new(alloc);
-    mark_differences(&mut away, state.slots(), other.slots())?;
+    mark_places(&mut away, state, other)?;
     mark_objects(&mut away, state.objects(), other.objects())?;
     spread(&mut away, state.objects(), other.objects())?;
     let joined = take_away(alloc, state, &away)?;
     Ok(joined)
+}
+
+// Marks the sites whose objects must be made for the slots of two states to agree.
+fn mark_places(away: &mut MarkedSites, state: &VState, other: &VState) -> Result<(), NoMemory>
+    requires { HaveSamePlaces state.now other.now }
+    ensures { OnOk result
+        (HasMarkedDifferences away.old away.new state.now.slots other.now.slots) }
+{
+    for at in 0..state.len() {
+        mark_pair(away, state.place(at), other.place(at))?;
+    }
+    Ok(())
 }
 
 // Marks the sites whose objects must be made for slots to agree.

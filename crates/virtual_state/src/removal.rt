@@ -6,6 +6,7 @@ ghost use Rattle.virtual_state.specs.Inner.Filling.{HasPut, is_away, stays_as};
 ghost use Rattle.virtual_state.specs.Sites.{has};
 ghost use Rattle.virtual_state.specs.Without.{IsClosed, made_plain, object_without as made_within, objects_without as made_among, without as state_without};
 
+use crate::front::FrontSlots;
 use crate::marks::MarkedSites;
 use crate::shared::SharedObject;
 use crate::sites::SiteSet;
@@ -43,10 +44,31 @@ pub(crate) fn take_away(
         let same = state.copy()?;
         return Ok(same);
     }
-    let slots = shared_slots_without(alloc, state.shared_slots(), away)?;
+    let (front, back) = state.slot_parts();
+    let front = front_without(alloc, front, away)?;
+    let back = shared_slots_without(alloc, back, away)?;
     let objects = objects_without(alloc, state.objects(), away)?;
     let objects = Rc::new(alloc, objects)?;
-    Ok(VState::from_parts(slots, objects))
+    Ok(VState::from_parts(front, back, objects))
+}
+
+// First slots where the objects of marked sites are made. Where none of these is held, the slots are shared.
+fn front_without(
+    alloc: Global,
+    front: &FrontSlots,
+    away: &MarkedSites,
+) -> Result<FrontSlots, NoMemory>
+    ensures { IfOk result (λ rest. rest ≡ map (made_plain (has away.now)) front.now) }
+{
+    let listed = front.listed();
+    if !holds_any(listed, away) {
+        let same = front.copy()?;
+        return Ok(same);
+    }
+    let unusable = front.len() - listed.len();
+    let list = slots_without(alloc, listed, away)?;
+    let rest = FrontSlots::of(alloc, list, unusable)?;
+    Ok(rest)
 }
 
 // Slots where the objects of marked sites are made. Where none of these is held, the slots are shared.

@@ -1,64 +1,129 @@
 //! States of virtual objects.
-ghost use Rattle.std.specs.Prelude.{◌≡◌, IfOk, slice_get};
+ghost use Rattle.std.specs.Prelude.{◌≡◌, ◌++◌, IfOk, get_or, length, slice_get, take, ◌==◌};
 ghost use Rattle.std.specs.Option.{option_and_then, option_copied, option_map};
 ghost use Rattle.std.specs.Rc.{rc_value};
 ghost use Rattle.virtual_state.specs.Depths.{depth_of};
 ghost use Rattle.virtual_state.specs.Sites.{IsSiteFrom};
 ghost use Rattle.virtual_state.specs.States.{IsState, is_present, object_of, sites_of};
 
+use crate::front::FrontSlots;
 use crate::slot::{Slot, SlotList, VObject};
 use crate::table::ObjectTable;
-use class_model::NoMemory;
+use class_model::{ListOf, NoMemory};
+use std::alloc::Global;
 use std::marker::Model;
 use std::rc::Rc;
 
 /// What each place of a frame holds, and the virtual objects that are present: those that the places reach. Places are
-/// counted from 0. States share their slots and each object with the states that they were made of.
+/// counted from 0. States share their first slots, the others, the table of their objects and each object with the states that
+/// they were made of.
 #[derive(Drop)]
 pub struct VState {
-    slots: Rc<SlotList>,
+    front: FrontSlots,
+    back: Rc<SlotList>,
     objects: Rc<ObjectTable>,
 }
 
 impl Model for VState {
+    ghost use Rattle.std.specs.Prelude.{◌++◌};
     ghost use Rattle.virtual_state.specs.States.{State, IsState};
 
     ghost Value = { State };
 
-    ghost view = { λ state. record { slots = state.slots.value; objects = state.objects.value } };
+    ghost view = { λ state.
+        record { slots = state.front ++ state.back.value; objects = state.objects.value } };
 
     ghost invariant = { λ state.
-        IsState (record { slots = state.slots.value; objects = state.objects.value }) };
+        IsState
+        (record { slots = state.front ++ state.back.value; objects = state.objects.value }) };
 }
 
 impl VState {
     /// The state of these slots and objects.
-    pub(crate) fn from_parts(slots: Rc<SlotList>, objects: Rc<ObjectTable>) -> Self
-        requires { IsState (record { slots = slots.value; objects = objects.value }) }
-        ensures { result ≡ record { slots = slots.value; objects = objects.value } }
+    pub(crate) fn from_parts(
+        front: FrontSlots,
+        back: Rc<SlotList>,
+        objects: Rc<ObjectTable>,
+    ) -> Self
+        requires { IsState (record { slots = front ++ back.value; objects = objects.value }) }
+        ensures { result ≡ record { slots = front ++ back.value; objects = objects.value } }
     {
-        VState { slots, objects }
+        VState {
+            front,
+            back,
+            objects,
+        }
     }
 
     /// What each state keeps.
     pub fn is_state(&self)
         ensures { IsState self.now }
     {
-        let _ = &self.slots;
+        let _ = &self.back;
     }
 
     /// The slot of a place.
     pub fn slot(&self, at: usize) -> Option<Slot>
         ensures { result ≡ slice_get self.now.slots at }
     {
-        self.slots.get(at).copied()
+        let first = self.front.len();
+        if at < first {
+            self.front.get(at)
+        } else {
+            self.back.get(at - first).copied()
+        }
     }
 
-    /// The slots of all places.
-    pub fn slots(&self) -> &[Slot]
-        ensures { result.now ≡ self.now.slots }
+    /// How many places there are.
+    pub fn len(&self) -> usize
+        ensures { result ≡ length self.now.slots }
     {
-        self.slots.as_slice()
+        self.front.len() + self.back.as_slice().len()
+    }
+
+    /// Whether there is no place.
+    pub fn is_empty(&self) -> bool
+        ensures { result ≡ (length self.now.slots == 0) }
+    {
+        self.len() == 0
+    }
+
+    /// The slots of all places, in a list of their own.
+    ///
+    /// # Errors
+    /// `NoMemory`, where memory runs out.
+    pub fn slots(&self, alloc: Global) -> Result<SlotList, NoMemory>
+        ensures { IfOk result (λ slots. slots ≡ self.now.slots) }
+    {
+        let mut slots = Vec::with_capacity(alloc, self.len())?;
+        for at in 0..self.len() {
+            slots.push(self.place(at))?;
+        }
+        Ok(ListOf::from_vec(slots))
+    }
+
+    /// The slots of the first places, as they are kept: those that `moved` was given last.
+    pub fn front(&self) -> &FrontSlots
+        ensures { result.now ≡ take (length result.now) self.now.slots }
+    {
+        &self.front
+    }
+
+    /// The slots of the first places and of the others, as they are kept.
+    pub(crate) fn slot_parts(&self) -> (&FrontSlots, &Rc<SlotList>)
+        ensures { self.now.slots ≡ result.0.now ++ result.1.now.value }
+    {
+        (&self.front, &self.back)
+    }
+
+    /// The slot of a place that there is.
+    pub(crate) fn place(&self, at: usize) -> Slot
+        ensures { result ≡ get_or self.now.slots at Slot.Plain }
+    {
+        match self.slot(at) {
+            Some(slot) => slot,
+            None => Slot::Plain,
+        }
     }
 
     /// Whether the object of a site is present.
@@ -122,16 +187,14 @@ impl VState {
     pub fn copy(&self) -> Result<Self, NoMemory>
         ensures { IfOk result (λ copy. copy ≡ self.now) }
     {
-        let slots = self.slots.clone()?;
+        let front = self.front.copy()?;
+        let back = self.back.clone()?;
         let objects = self.objects.clone()?;
-        Ok(VState { slots, objects })
-    }
-
-    /// The slots as they are kept.
-    pub(crate) fn shared_slots(&self) -> &Rc<SlotList>
-        ensures { result.now.value ≡ self.now.slots }
-    {
-        &self.slots
+        Ok(VState {
+            front,
+            back,
+            objects,
+        })
     }
 
     /// The objects.

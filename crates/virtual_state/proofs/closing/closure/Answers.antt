@@ -1,4 +1,4 @@
-use Rattle.std.proofs.Common.{List, ℕ, subst, sym}
+use Rattle.std.proofs.Common.{List, ℕ, subst}
 use Rattle.virtual_state.proofs.ClosedSets.{spread_is_closure}
 use Rattle.virtual_state.specs.Inner.Marks.{HasMarked, HasSpread}
 use Rattle.virtual_state.specs.Sites.{has}

@@ -1,4 +1,4 @@
-use Rattle.std.proofs.Common.{◌≡◌, List, map, sym, subst, ◌∙◌}
+use Rattle.std.proofs.Common.{◌≡◌, List, map, sym, subst}
 use Rattle.std.proofs.lemmas.Bool.{both_ways, false≢true}
 use Rattle.virtual_state.proofs.Comparisons.{below_fits, fits_below}
 use Rattle.virtual_state.specs.Inner.Comparing.{ObjectsFit, absent_from}
@@ -10,15 +10,14 @@ pub returns-then-slots : goal.returns-then-slots
 returns-then-slots c =
     let state = c.args.state.now in
     let other = c.args.other.now in
-    let fit = c.slots_fit-slots.ensures.0 c.if-slots.true in
-    let slots : other.slots ≡ map (made_plain (absent_from other.objects)) state.slots = sym c.slots-2.ensures ∙ fit ∙ (λ i. map (made_plain (absent_from (c.objects.ensures i))) (c.slots.ensures i)) in (
+    let slots : other.slots ≡ map (made_plain (absent_from other.objects)) state.slots = c.places_fit-slots.ensures.0 c.if-slots.true in (
       λ fits.
-          let left = subst (λ (list : List VObject). ObjectsFit list c.objects-then-slots-2.result.now) c.objects-then-slots.ensures (c.objects_fit.ensures.0 fits) in
-          fits_below state other c.is_state.ensures c.is_state-2.ensures slots (subst (ObjectsFit state.objects) c.objects-then-slots-2.ensures left),
+          let left = subst (λ (list : List VObject). ObjectsFit list c.objects-then-slots.result.now) c.objects.ensures (c.objects_fit.ensures.0 fits) in
+          fits_below state other c.is_state.ensures c.is_state-2.ensures slots (subst (ObjectsFit state.objects) c.objects-then-slots.ensures left),
       λ below.
           let both = (below_fits state other c.is_state.ensures below).1 in
-          let left = subst (ObjectsFit state.objects) (sym c.objects-then-slots-2.ensures) both in
-          c.objects_fit.ensures.1 (subst (λ (list : List VObject). ObjectsFit list c.objects-then-slots-2.result.now) (sym c.objects-then-slots.ensures) left),
+          let left = subst (ObjectsFit state.objects) (sym c.objects-then-slots.ensures) both in
+          c.objects_fit.ensures.1 (subst (λ (list : List VObject). ObjectsFit list c.objects-then-slots.result.now) (sym c.objects.ensures) left),
     )
 
 pub returns-else-slots : goal.returns-else-slots
@@ -28,6 +27,5 @@ returns-else-slots c =
       λ never. absurd (false≢true never),
       λ below.
           let slots = (below_fits state other c.is_state.ensures below).0 in
-          let fit = c.slots-2.ensures ∙ slots ∙ (λ i. map (made_plain (absent_from (sym c.objects.ensures i))) (sym c.slots.ensures i)) in
-          absurd (both_ways c.slots_fit-slots.result c.if-slots.false (c.slots_fit-slots.ensures.1 fit)),
+          absurd (both_ways c.places_fit-slots.result c.if-slots.false (c.places_fit-slots.ensures.1 slots)),
     )

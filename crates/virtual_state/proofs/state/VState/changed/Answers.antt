@@ -1,19 +1,15 @@
-use Rattle.std.proofs.Common.{◌++◌, List, ap, ◌∙◌}
-use Rattle.virtual_state.proofs.Reaching.{LookAlike, can_be_alike, state_of_alike}
-use Rattle.virtual_state.specs.States.{object_of}
-use Rattle.virtual_state.specs.declared.slot.VObject.{VObject}
+use Rattle.std.proofs.Common.{◌≡◌, ◌++◌, [], List, replicate, sym, ap, subst, ◌∙◌}
+use Rattle.virtual_state.specs.Making.{CanBeState, IsStateOf}
+use Rattle.virtual_state.specs.declared.slot.Slot.{Slot}
+use Rattle.virtual_state.specs.declared.slot.Slot.TheVariants.{Unusable}
 use Rattle.virtual_state.proofs.state.VState.changed.Goals as goal
 
-pub reached_state-requires : goal.reached_state-requires
-reached_state-requires c =
-    let same : LookAlike c.put_all.new.table (c.args.objects ++ c.args.self.now.objects) = λ site.
-    c.in_ok-put_all.ensures site
-    ∙ ap (λ (objects : List VObject). object_of (c.args.objects ++ objects) site) (c.in_ok-table.ensures ∙ c.objects.ensures) in
-    can_be_alike c.args.slots c.put_all.new.table (c.args.objects ++ c.args.self.now.objects) same c.requires
+pub moved-requires : goal.moved-requires
+moved-requires c =
+    let none : c.in_ok-front.front ≡ [] = c.in_ok-front.ensures ∙ ap (λ (list : List Slot). list ++ replicate 0 Unusable) c.new.ensures in
+    subst (λ (front : List Slot). CanBeState (front ++ c.args.slots) (c.args.objects ++ c.args.self.now.objects)) (sym none) c.requires
 
 pub returns : goal.returns
 returns c =
-    let same : LookAlike c.put_all.new.table (c.args.objects ++ c.args.self.now.objects) = λ site.
-    c.in_ok-put_all.ensures site
-    ∙ ap (λ (objects : List VObject). object_of (c.args.objects ++ objects) site) (c.in_ok-table.ensures ∙ c.objects.ensures) in
-    state_of_alike c.args.slots c.put_all.new.table (c.args.objects ++ c.args.self.now.objects) c.in_ok-state.state same c.in_ok-state.ensures
+    let none : c.in_ok-front.front ≡ [] = c.in_ok-front.ensures ∙ ap (λ (list : List Slot). list ++ replicate 0 Unusable) c.new.ensures in
+    subst (λ (front : List Slot). IsStateOf (front ++ c.args.slots) (c.args.objects ++ c.args.self.now.objects) c.in_ok-state.state) none c.in_ok-state.ensures
