@@ -73,10 +73,12 @@ pub(crate) fn state_text(alloc: Global, state: &VState) -> Option<String> {
 
 /// Appends the text of a state.
 pub(crate) fn push_state(out: &mut String, state: &VState) -> Option<()> {
-    if state.slots().is_empty() {
+    if state.is_empty() {
         out.push_str(".").ok()?;
     }
-    push_slots(out, state.slots())?;
+    for at in 0..state.len() {
+        push_slot(out, state.slot(at)?)?;
+    }
     for site in 0..10 {
         if let Some(object) = state.object(site) {
             write!(out, " {site}:{}", object.depth).ok()?;
@@ -88,11 +90,15 @@ pub(crate) fn push_state(out: &mut String, state: &VState) -> Option<()> {
 
 fn push_slots(out: &mut String, slots: &[Slot]) -> Option<()> {
     for slot in slots {
-        match slot {
-            Slot::Plain => out.push_str("-").ok()?,
-            Slot::Unusable => out.push_str("?").ok()?,
-            Slot::Virt(site) => write!(out, "{site}").ok()?,
-        }
+        push_slot(out, *slot)?;
     }
     Some(())
+}
+
+fn push_slot(out: &mut String, slot: Slot) -> Option<()> {
+    match slot {
+        Slot::Plain => out.push_str("-").ok(),
+        Slot::Unusable => out.push_str("?").ok(),
+        Slot::Virt(site) => write!(out, "{site}").ok(),
+    }
 }

@@ -129,7 +129,9 @@ fn is_below(site: u32, field: Slot) -> bool
 pub fn joined(alloc: Global, one: &VState, other: &VState) -> Result<Option<VState>, NoMemory>
     ensures { IfOk result (λ made. IfSome made (IsJoin one.now other.now)) }
 {
-    if have_same_places(one.slots(), other.slots()) {
+    let slots = one.slots(alloc)?;
+    let others = other.slots(alloc)?;
+    if have_same_places(slots.as_slice(), others.as_slice()) {
         Ok(Some(join(alloc, one, other)?))
     } else {
         Ok(None)

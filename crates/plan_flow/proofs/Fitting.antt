@@ -49,7 +49,7 @@ held_next before after more state first count at has is pushed = record {
 
 -- ---- the places of a point
 
-locals_more :
+pub locals_more :
     (types : List VType) (slots : List Slot) (at : ℕ)
     → at < length types
     → fit_locals (take (suc at) types) slots ≡ fit_locals (take at types) slots ++ local_of (slice_get types at) (slice_get slots at) ∷ []

@@ -27,6 +27,7 @@ pub mod RowUpdates
 pub mod Opening
 pub mod TopEntries
 pub mod Gathering
+pub mod LocalUnits
 pub mod AskedSites
 pub mod Rounds
 pub mod Cleaning

@@ -1,11 +1,12 @@
 -- Points of flat code that is not too wide.
-use Rattle.std.proofs.Common.{◌≡◌, ◌<◌, ◌^◌, ℕ, length, Some, option_map, subst}
+use Rattle.std.proofs.Common.{◌≡◌, ◌<◌, ◌≤◌, ◌^◌, ℕ, length, Option, Some, None, option_map, refl, subst, arith}
 use Rattle.class_model.specs.Laws.Lists.{at_index}
 use Rattle.class_model.specs.declared.frame.Frame.{Frame}
 use Rattle.flow_code.specs.FlatCode.{FlatCode, point_at}
 use Rattle.flow_code.specs.declared.point.FlatInstr.{FlatInstr}
 use Rattle.flow_code.specs.declared.point.Point.{Point}
 use Rattle.plan_flow.specs.Narrow.{HasFewLocals, IsNarrow, IsNarrowPoint}
+use Rattle.plan_flow.specs.PlanScope.{local_types}
 use Rattle.plan_flow.specs.PlanTable.{targets_at}
 use Rattle.plan_flow.proofs.AskedSites.{found_point}
 use Rattle.plan_flow.proofs.Opening.{got_inside}
@@ -29,3 +30,11 @@ pub point_inside : (flat : FlatCode) (at : ℕ) (instr : FlatInstr) → option_m
 point_inside flat at instr is =
     let found = found_point (λ (point : Point). point.instr) (point_at flat at) instr is in
     got_inside flat.points at found.0 found.1
+
+-- the local units of a point, or none where there is no such point
+pub narrow_locals : (flat : FlatCode) (at : ℕ) → IsNarrow flat → length (local_types flat at) ≤ 65536
+narrow_locals flat at narrow = by (point_at flat at) refl
+  where
+    by : (point : Option Point) → point_at flat at ≡ point → length (local_types flat at) ≤ 65536
+    by None there = rw there (omega arith)
+    by (Some point) there = rw there ((at_index IsNarrowPoint flat.points at point narrow.points there).locals)

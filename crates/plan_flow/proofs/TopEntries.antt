@@ -1,7 +1,7 @@
 -- Stack entries at or below one whose type is Top, one by one.
 use Rattle.std.proofs.Common.{◌≡◌, ◌+◌, ◌<◌, ◌≤◌, ◌||◌, ℕ, zero, suc, Bool, true, false, cond, List, [], ◌∷◌, map, drop, length, slice_get, Option, Some, None, option_map, IsTrue, refl, sym, ap, subst, ◌∙◌, inl, inr, ◌⊎◌, arith}
 use Rattle.std.specs.List.{list_any}
-use Rattle.std.proofs.lemmas.Bool.{false≢true, or_cases, or_left, or_right}
+use Rattle.std.proofs.lemmas.Bool.{false≢true, or_cases, or_from, or_left, or_parts, or_right}
 use Rattle.class_model.specs.Frames.{is_top}
 use Rattle.class_model.specs.declared.frame.Frame.{Frame}
 use Rattle.class_model.specs.declared.frame.VType.{VType}
@@ -42,6 +42,28 @@ any_inside test zero [] some = absurd (false≢true some)
 any_inside test zero (first ∷ list) some = omega arith
 any_inside test (suc at) [] some = absurd (false≢true some)
 any_inside test (suc at) (first ∷ list) some = let rest = any_inside test at list some in omega (arith, rest)
+
+-- ---- the last one that passes a test
+
+pub none_later : (types : List VType) (end at : ℕ) → end ≤ at → list_any is_top (drop end types) ≡ false → list_any is_top (drop at types) ≡ false
+none_later types zero zero low none = none
+none_later [] zero (suc at) low none = refl
+none_later (type ∷ types) zero (suc at) low none = none_later types zero at (omega arith) ((or_parts (is_top type) (list_any is_top types) none).1)
+none_later types (suc end) zero low none = absurd (omega arith)
+none_later [] (suc end) (suc at) low none = refl
+none_later (type ∷ types) (suc end) (suc at) low none = none_later types end at (omega arith) none
+
+pub some_earlier : (types : List VType) (at last : ℕ) (type : VType) → at ≤ last → slice_get types last ≡ Some type → is_top type ≡ true → list_any is_top (drop at types) ≡ true
+some_earlier [] at last type low is top = absurd cc
+some_earlier (first ∷ types) zero zero type low is top = let same : first ≡ type = cc in or_left (is_top first) (list_any is_top types) (ap is_top same ∙ top)
+some_earlier (first ∷ types) zero (suc last) type low is top = or_right (is_top first) (list_any is_top types) (some_earlier types zero last type (omega arith) is top)
+some_earlier (first ∷ types) (suc at) zero type low is top = absurd (omega arith)
+some_earlier (first ∷ types) (suc at) (suc last) type low is top = some_earlier types at last type (omega arith) is top
+
+pub none_from : (types : List VType) (at : ℕ) (type : VType) → slice_get types at ≡ Some type → is_top type ≡ false → list_any is_top (drop (suc at) types) ≡ false → list_any is_top (drop at types) ≡ false
+none_from [] at type is top none = absurd cc
+none_from (first ∷ types) zero type is top none = let same : first ≡ type = cc in or_from (is_top first) (list_any is_top types) (ap is_top same ∙ top) none
+none_from (first ∷ types) (suc at) type is top none = none_from types at type is top none
 
 -- ---- where no type is Top
 

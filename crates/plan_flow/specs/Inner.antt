@@ -3,6 +3,7 @@ pub mod Doing
 pub mod EdgeViews
 pub mod FieldWords
 pub mod Fitting
+pub mod Fronts
 pub mod Gaining
 pub mod Iteration
 pub mod Planning

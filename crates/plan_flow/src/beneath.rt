@@ -1,5 +1,5 @@
 //! Virtual objects that come to lie at or below a stack entry whose type is Top, which no instruction takes away.
-ghost use Rattle.std.specs.Prelude.{◌≡◌, ℕ, drop, map, OnOk};
+ghost use Rattle.std.specs.Prelude.{◌≡◌, ◌<◌, ℕ, drop, map, IsFalse, IsTrue, OnOk};
 ghost use Rattle.std.specs.List.{list_any};
 ghost use Rattle.class_model.specs.Frames.{is_top};
 ghost use Rattle.member_link.specs.Machine.Programs.{Links};
@@ -91,8 +91,9 @@ pub(crate) fn add_entries(
     ensures { OnOk result (HasAdded sites.old sites.new
         (IsBeneath state.now types.now (fitted_stack types.now entries.now))) }
 {
+    let end = tops_end(types);
     let mut at = 0;
-    while has_top_from(types, at) {
+    while at < end {
         let slot = or_plain(slot_at(entries, at));
         add_tested(sites, slot, is_present(state, slot))?;
         at += 1;
@@ -100,15 +101,19 @@ pub(crate) fn add_entries(
     Ok(())
 }
 
-// Whether one of these types is Top, from an index on.
-fn has_top_from(types: &[VType], at: usize) -> bool
-    ensures { result ≡ list_any is_top (drop at types.now) }
+// The number of the types up to the last one that is Top.
+fn tops_end(types: &[VType]) -> usize
+    ensures before { (at : ℕ) → at < result → IsTrue (list_any is_top (drop at types.now)) }
+    ensures behind { IsFalse (list_any is_top (drop result types.now)) }
 {
-    if at < types.len() {
-        has_top(&types[at..])
-    } else {
-        false
+    let mut end = types.len();
+    while end > 0 {
+        if is_top(&types[end - 1]) {
+            return end;
+        }
+        end -= 1;
     }
+    0
 }
 
 /// Whether one of these types is Top.

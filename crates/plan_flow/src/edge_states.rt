@@ -1,34 +1,32 @@
 //! The states behind edges.
 ghost use Rattle.std.specs.Prelude.{◌≡◌, ◌++◌, ◌+◌, ◌-◌, ◌<◌, [], ◌∷◌, map, replicate, IfOk};
-ghost use Rattle.plan_flow.specs.PlanSlots.{fit_locals as fitted_locals, fit_stack as fitted_stack};
+ghost use Rattle.plan_flow.specs.PlanSlots.{fit_stack as stack_fitted};
 ghost use Rattle.virtual_state.specs.Making.{CanBeState};
 ghost use Rattle.plan_flow.specs.Inner.Fitting.{IsKept};
 
-use crate::slots::fitted;
-use class_model::{Frame, ListOf, NoMemory};
+use crate::slots::fitted_stack;
+use class_model::{ListOf, NoMemory, VType};
 use std::alloc::Global;
-use virtual_state::{Slot, VObject, VObjectList, VState};
+use virtual_state::{FrontSlots, Slot, VObject, VObjectList, VState};
 
-/// The state behind an edge to a point of these types: these local units and stack entries, and the objects that they reach, of
-/// which some are new or take the place of those of their sites.
+/// The state behind an edge to a point with these types on the stack: these local units and stack entries, and the objects that
+/// they reach, of which some are new or take the place of those of their sites.
 pub(crate) fn state_behind(
     alloc: Global,
     before: &VState,
-    locals: &[Slot],
+    locals: FrontSlots,
     stack: &[Slot],
     changed: VObjectList,
-    types: &Frame,
+    types: &[VType],
 ) -> Result<VState, NoMemory>
-    requires { CanBeState
-        (fitted_locals types.now.locals locals.now ++ fitted_stack types.now.stack stack.now)
+    requires { CanBeState (locals ++ stack_fitted types.now stack.now)
         (changed ++ before.now.objects) }
     ensures { IfOk result
-        (λ state. IsKept
-        (fitted_locals types.now.locals locals.now ++ fitted_stack types.now.stack stack.now)
+        (λ state. IsKept (locals ++ stack_fitted types.now stack.now)
         (changed ++ before.now.objects) state) }
 {
-    let slots = fitted(alloc, locals, stack, types)?;
-    let state = before.changed(alloc, slots, changed)?;
+    let stack = fitted_stack(alloc, stack, types)?;
+    let state = before.moved(alloc, locals, stack, changed)?;
     state.is_state();
     Ok(state)
 }

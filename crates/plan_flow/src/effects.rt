@@ -17,8 +17,9 @@ use crate::changes::front_objects;
 use crate::edge::{Edge, EdgeList};
 use crate::edge_states::state_behind;
 use crate::edges::{GuardedEdge, edge_at, open_edges};
+use crate::fronts::{locals_behind, stored_by};
 use crate::rows::Row;
-use crate::sources::{edge_locals, edge_stack};
+use crate::sources::edge_stack;
 use crate::table::row_at;
 use class_model::{Frame, LocalTypeList, NoMemory, VTypeList};
 use class_tree::Tree;
@@ -125,6 +126,7 @@ fn edges_over(
     taken: &[GuardedEdge],
     state: &VState,
 ) -> Result<EdgeList, NoMemory>
+    requires narrow { IsNarrow flat.now }
     requires types { HasFewLocals types.now }
     requires done { MayBeDone tree.now flat.now at types.now row.now state.now }
     ensures { IfOk result (λ edges. (links : Links) (point : Point)
@@ -158,6 +160,7 @@ fn state_over(
     edge: GuardedEdge,
     state: &VState,
 ) -> Result<VState, NoMemory>
+    requires narrow { IsNarrow flat.now }
     requires types { HasFewLocals types.now }
     requires done { MayBeDone tree.now flat.now at types.now row.now state.now }
     ensures { IfOk result (λ behind. (links : Links) (point : Point)
@@ -167,20 +170,21 @@ fn state_over(
 {
     state.is_state();
     let front = front_objects(alloc, tree, flat, state, &row.change, edge.by)?;
-    let locals = edge_locals(alloc, state, types, row, edge.by)?;
     let stack = edge_stack(alloc, tree, flat, state, types, row, edge.by)?;
     let nothing = Frame {
         locals: LocalTypeList::new(alloc),
         stack: VTypeList::new(alloc),
     };
     let target = frame_or(flat.typed(edge.to), &nothing);
+    let stored = stored_by(row.stored, edge.by);
+    let locals = locals_behind(alloc, state, types, stored, &target.locals)?;
     let behind = state_behind(
         alloc,
         state,
-        locals.as_slice(),
+        locals,
         stack.as_slice(),
         front,
-        target,
+        target.stack.as_slice(),
     )?;
     Ok(behind)
 }

@@ -13,6 +13,7 @@ mod edge_states;
 mod edges;
 mod effects;
 mod fields;
+mod fronts;
 mod iteration;
 mod laws;
 mod least;

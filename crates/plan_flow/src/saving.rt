@@ -79,7 +79,7 @@ fn enters_virtual(point: &PointPlan) -> bool
         ≡ is_kept_virtual point.now.made
         (held_slot point.now.state (length point.now.state.slots - 1)) }
 {
-    let last = point.state.slots().len().saturating_sub(1);
+    let last = point.state.len().saturating_sub(1);
     match held(&point.state, last) {
         Slot::Virt(site) => !point.made.has(site),
         Slot::Plain | Slot::Unusable => false,

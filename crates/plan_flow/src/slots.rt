@@ -1,5 +1,5 @@
 //! What places hold before an instruction, and behind its edges.
-ghost use Rattle.std.specs.Prelude.{◌≡◌, ◌+◌, ◌≤◌, ◌++◌, length, slice_get, IfOk, OnOk};
+ghost use Rattle.std.specs.Prelude.{◌≡◌, ◌+◌, ◌≤◌, ◌++◌, length, slice_get, IsTrue, IfOk, OnOk};
 ghost use Rattle.std.specs.Option.{option_copied};
 ghost use Rattle.plan_flow.specs.Inner.Fitting.{local_of, or_plain as slot_or_plain};
 ghost use Rattle.plan_flow.specs.PlanRows.{Change};
@@ -28,6 +28,20 @@ pub(crate) fn is_plain(slot: Slot) -> bool
     match slot {
         Slot::Virt(_) => false,
         Slot::Plain | Slot::Unusable => true,
+    }
+}
+
+/// Whether two slots are the same.
+pub(crate) fn is_same(slot: Slot, other: Slot) -> bool
+    ensures { IsTrue result → slot ≡ other }
+{
+    match slot {
+        Slot::Plain => matches!(other, Slot::Plain),
+        Slot::Virt(site) => match other {
+            Slot::Virt(same) => site == same,
+            Slot::Plain | Slot::Unusable => false,
+        },
+        Slot::Unusable => matches!(other, Slot::Unusable),
     }
 }
 
@@ -81,7 +95,7 @@ pub(crate) fn push_held(
 fn held_behind(state: &VState, first: usize, at: usize) -> Slot
     ensures { result ≡ held_slot state.now (first + at) }
 {
-    if at < state.slots().len() {
+    if at < state.len() {
         held(state, first.saturating_add(at))
     } else {
         Slot::Plain
@@ -106,6 +120,19 @@ pub(crate) fn fitted(
     Ok(ListOf::from_vec(slots))
 }
 
+/// The stack entries of a point with these types. What is missing is plain.
+pub(crate) fn fitted_stack(
+    alloc: Global,
+    stack: &[Slot],
+    types: &[VType],
+) -> Result<SlotList, NoMemory>
+    ensures { IfOk result (λ slots. slots ≡ fitted_stack types.now stack.now) }
+{
+    let mut slots = Vec::new(alloc);
+    push_stack(&mut slots, stack, types)?;
+    Ok(ListOf::from_vec(slots))
+}
+
 // Appends local units of these types.
 fn push_locals(slots: &mut Vec<Slot>, locals: &[Slot], types: &Frame) -> Result<(), NoMemory>
     ensures { OnOk result
@@ -117,8 +144,8 @@ fn push_locals(slots: &mut Vec<Slot>, locals: &[Slot], types: &Frame) -> Result<
     Ok(())
 }
 
-// A local unit of a type. What is missing is plain.
-fn local_slot(slot: Option<Slot>, of_type: Option<&VType>) -> Slot
+/// A local unit of a type. What is missing is plain.
+pub(crate) fn local_slot(slot: Option<Slot>, of_type: Option<&VType>) -> Slot
     ensures { result ≡ local_of (option_copied of_type.entry) slot }
 {
     if let Some(VType::Top) = of_type {

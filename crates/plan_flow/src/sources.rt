@@ -2,7 +2,7 @@
 ghost use Rattle.std.specs.Prelude.{◌≡◌, ◌++◌, ◌∷◌, [], ℕ, Option, Some, length, IfOk, OnOk};
 ghost use Rattle.member_link.specs.Machine.Layouts.{capped};
 ghost use Rattle.member_link.specs.Machine.Programs.{Links};
-ghost use Rattle.plan_flow.specs.Inner.RowViews.{change_of, given_by, plan_row, source_of, stored_by, stored_slots};
+ghost use Rattle.plan_flow.specs.Inner.RowViews.{change_of, given_by, plan_row, source_of};
 ghost use Rattle.plan_flow.specs.Narrow.{HasFewLocals};
 ghost use Rattle.plan_flow.specs.PlanRows.{Change as RowChange};
 ghost use Rattle.plan_flow.specs.PlanScope.{PlanScope, scope_of};
@@ -20,52 +20,6 @@ use flow_code::Flat;
 use member_link::Reference;
 use std::alloc::Global;
 use virtual_state::{Slot, VObject, VState};
-
-/// What the local units hold.
-///
-/// # Errors
-/// `NoMemory`, where memory runs out.
-pub(crate) fn edge_locals(
-    alloc: Global,
-    state: &VState,
-    types: &Frame,
-    row: &Row,
-    by: EdgeKind,
-) -> Result<Vec<Slot>, NoMemory>
-    requires { HasFewLocals types.now }
-    ensures { IfOk result (λ list. (s : PlanScope) → list.items
-        ≡ slots.slots_from s state.now (change_of row.now.change)
-        (slots.edge_locals (plan_row types.now row.now) (length types.now.locals) by)) }
-{
-    let mut list = Vec::new(alloc);
-    push_held(&mut list, state, 0, types.locals.len())?;
-    store(&mut list, state, types, stored_by(row.stored, by));
-    Ok(list)
-}
-
-// The local unit that is stored into: a handler begins with those before the instruction.
-fn stored_by(stored: Option<u16>, by: EdgeKind) -> Option<u16>
-    ensures { result ≡ stored_by stored by }
-{
-    match by {
-        EdgeKind::Next => stored,
-        EdgeKind::Jump(_) => stored,
-        EdgeKind::Handler(_) => None,
-    }
-}
-
-// Puts what the topmost operand is into a local unit, if one is stored into.
-fn store(list: &mut Vec<Slot>, state: &VState, types: &Frame, local: Option<u16>)
-    requires { HasFewLocals types.now }
-    ensures { list.new.items ≡ stored_slots state.now types.now local list.old.items }
-{
-    if let Some(local) = local {
-        let at = usize::from(local);
-        if at < list.len() {
-            list[at] = held(state, operand(types, 0));
-        }
-    }
-}
 
 /// What the stack entries hold.
 ///

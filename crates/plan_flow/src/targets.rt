@@ -9,6 +9,7 @@ ghost use Rattle.virtual_state.specs.Sites.{has};
 ghost use Rattle.virtual_state.specs.States.{State, names};
 
 use crate::beneath::{add_entries, has_top};
+use crate::slots::or_plain;
 use class_model::NoMemory;
 use flow_code::Flat;
 use std::alloc::Global;
@@ -82,14 +83,18 @@ fn sites_beneath(alloc: Global, flat: &Flat, at: usize, state: &VState) -> Resul
     if !has_top(stack) {
         return Ok(sites);
     }
-    let entries = slots_from(state.slots(), types.locals.len());
-    add_entries(&mut sites, stack, entries, state)?;
+    let entries = slots_from(alloc, state, types.locals.len())?;
+    add_entries(&mut sites, stack, entries.as_slice(), state)?;
     Ok(sites)
 }
 
 // The slots from a place on.
-fn slots_from(slots: &[Slot], at: usize) -> &[Slot]
-    ensures { result.now ≡ drop at slots.now }
+fn slots_from(alloc: Global, state: &VState, first: usize) -> Result<Vec<Slot>, NoMemory>
+    ensures { IfOk result (λ slots. slots.items ≡ drop first state.now.slots) }
 {
-    if at < slots.len() { &slots[at..] } else { &[] }
+    let mut slots = Vec::new(alloc);
+    for at in first..state.len() {
+        slots.push(or_plain(state.slot(at)))?;
+    }
+    Ok(slots)
 }

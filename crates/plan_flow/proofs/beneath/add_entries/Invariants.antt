@@ -1,9 +1,9 @@
-use Rattle.std.proofs.Common.{◌-◌, length}
+use Rattle.std.proofs.Common.{◌-◌}
 use Rattle.plan_flow.proofs.TopEntries.{Entries}
 use Rattle.plan_flow.proofs.beneath.add_entries.Given as goal
 
-abbrev pub decreases-loop-slot : goal.decreases-loop-slot
-decreases-loop-slot l = length l.types - l.at
+abbrev pub decreases-loop-at : goal.decreases-loop-at
+decreases-loop-at l = l.end - l.at
 
-abbrev pub invariant-loop-slot : goal.invariant-loop-slot
-invariant-loop-slot l = Entries l.initial.sites l.sites l.state l.types l.entries l.at
+abbrev pub invariant-loop-at : goal.invariant-loop-at
+invariant-loop-at l = Entries l.initial.sites l.sites l.state l.types l.entries l.at

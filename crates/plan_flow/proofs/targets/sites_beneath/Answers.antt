@@ -21,11 +21,11 @@ pub returns : goal.returns
 returns c =
     let types = c.in-Some.types.now in
     let state = c.args.state.now in
-    let entries = c.slots_from-entries.result.now in
+    let entries = c.as_slice.result.now in
     let are = types_of c.args.flat.now c.args.at types (sym c.typed.ensures ∙ ap option_copied c.in-Some.is) in
     let stack_is = c.as_slice-stack.ensures in
     let entries_are : entries ≡ drop (length types.locals) state.slots =
-    c.slots_from-entries.ensures ∙ (λ i. drop (c.len.ensures i) (c.slots.ensures i)) in
+    c.as_slice.ensures.value ∙ c.in_ok-entries.ensures ∙ (λ i. drop (c.len.ensures i) state.slots) in
     let after = c.add_entries.new.sites in
     some_there c.args.flat.now c.args.at state types.locals types.stack entries after c.is_state.ensures are entries_are
     (subst (λ (T : Type 0). T)
