@@ -1,4 +1,5 @@
 pub mod Reasons
+pub mod Rewriting
 pub mod ReasonNames
 pub mod Reports
 pub mod Written

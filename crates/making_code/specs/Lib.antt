@@ -1,5 +1,6 @@
 pub mod Units
 pub mod Items
+pub mod IndexedItems
 pub mod MakeOrder
 pub mod MakeCode
 pub mod Constants

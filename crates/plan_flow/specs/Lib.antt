@@ -12,3 +12,5 @@ pub mod Orders
 pub mod Inner
 pub mod Written
 pub mod ReadyForPlans
+pub mod MetPlans
+pub mod Laws

@@ -8,3 +8,4 @@ pub mod WrittenCode
 pub mod Places
 pub mod WrittenConstants
 pub mod FramedCode
+pub mod WrittenPrograms

@@ -24,7 +24,8 @@ use Rattle.plan_flow.specs.Written.Finish.{Finished, finish}
 use Rattle.plan_flow.specs.Written.Places.{Place, places_of}
 use Rattle.plan_flow.specs.Written.Routes.{Route, RouteEdge, Routes}
 use Rattle.plan_flow.specs.Written.WrittenCode.{Form, jumping_to, written_items}
-use Rattle.plan_flow.specs.Written.WrittenConstants.{IndexedItem, code_pool, indexed_items}
+use Rattle.making_code.specs.IndexedItems.{IndexedItem}
+use Rattle.plan_flow.specs.Written.WrittenConstants.{code_pool, indexed_items}
 use Rattle.plan_flow.specs.declared.edge.EdgeKind.{EdgeKind}
 use Rattle.plan_flow.specs.declared.edge.EdgeKind.TheVariants as edges
 use Rattle.virtual_state.specs.Sites.{has}

@@ -15,7 +15,7 @@ use Rattle.flow_code.specs.declared.handlers.FlatHandler.{FlatHandler}
 use Rattle.flow_code.specs.declared.point.FlatInstr.TheVariants.{Of}
 use Rattle.plan_flow.specs.Written.Places.{makes_object}
 use Rattle.plan_flow.specs.Written.WrittenCode.{short}
-use Rattle.plan_flow.specs.Written.WrittenConstants.{IndexedItem}
+use Rattle.making_code.specs.IndexedItems.{IndexedItem}
 use Rattle.virtual_state.specs.declared.slot.Slot.TheVariants.{Plain}
 use Rattle.written_cases.specs.CaseWords.{Case, CasePoint, Held, Wanted, caught, handler, jump, made_before, making, next, planned, uncaught, within}
 use Rattle.written_cases.specs.PointClass.{p_file}

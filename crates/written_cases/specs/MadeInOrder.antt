@@ -14,7 +14,7 @@ use Rattle.flow_code.specs.declared.point.FlatInstr.TheVariants.{Of}
 use Rattle.making_code.specs.MakeOrder.{IsMakeOrder}
 use Rattle.plan_flow.specs.Written.Places.{makes_object}
 use Rattle.plan_flow.specs.Written.WrittenCode.{short}
-use Rattle.plan_flow.specs.Written.WrittenConstants.{IndexedItem}
+use Rattle.making_code.specs.IndexedItems.{IndexedItem}
 use Rattle.virtual_state.specs.declared.slot.Slot.TheVariants.{Plain, Virt}
 use Rattle.virtual_state.specs.declared.slot.VObject.{VObject}
 use Rattle.written_cases.specs.CaseWords.{Case, CasePoint, Held, Wanted, in_order, jump, made_before, next, planned, uncaught}

@@ -12,7 +12,7 @@ use Rattle.class_model.specs.declared.opcodes.TheConstants.{DUP, I2B, INVOKESPEC
 use Rattle.class_model.specs.declared.pool.Const.TheVariants.{Class, Fieldref, Methodref, NameAndType, Utf8}
 use Rattle.flow_code.specs.declared.point.FlatInstr.TheVariants.{Of}
 use Rattle.plan_flow.specs.Written.WrittenCode.{short}
-use Rattle.plan_flow.specs.Written.WrittenConstants.{IndexedItem}
+use Rattle.making_code.specs.IndexedItems.{IndexedItem}
 use Rattle.virtual_state.specs.declared.slot.Slot.TheVariants.{Plain}
 use Rattle.written_cases.specs.CaseWords.{Case, CasePoint, Held, Wanted, jump, next, planned, uncaught}
 use Rattle.written_cases.specs.ByteClass.{by_file}

@@ -27,7 +27,7 @@ use Rattle.member_link.specs.Scope.{Scope, row_scope}
 use Rattle.plan_flow.specs.Written.Blocks.{BlockOf, before_point, handler_pad, jump_pad, of_point, on_next_edge}
 use Rattle.plan_flow.specs.Written.Finish.{Finished, is_empty}
 use Rattle.plan_flow.specs.Written.WrittenCode.{Form, block_items, start_of}
-use Rattle.plan_flow.specs.Written.WrittenConstants.{IndexedItem}
+use Rattle.making_code.specs.IndexedItems.{IndexedItem}
 use Rattle.plan_flow.specs.Written.WrittenFrames.{differ, written_frame}
 
 -- ---- the frames of blocks, by the numbers of items

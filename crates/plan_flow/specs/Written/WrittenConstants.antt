@@ -10,6 +10,7 @@ use Rattle.class_model.specs.declared.instr.Instr.TheVariants.{Cast, Dynamic, Ge
 use Rattle.class_model.specs.declared.opcodes.TheConstants.{INVOKESPECIAL}
 use Rattle.class_tree.specs.Headers.{Name}
 use Rattle.making_code.specs.Constants.{Need, class_needs, constructor_needs, grow, index_in, last_need, needs_at, needs_class}
+use Rattle.making_code.specs.IndexedItems.{IndexedItem}
 use Rattle.making_code.specs.Items.{WCatch, WInstr, WItem, WTarget, ahead, carried, constructs, load, makes, plain, store, to_handler_pad, to_jump_pad, to_point}
 use Rattle.making_code.specs.Units.{unit_number}
 use Rattle.member_link.specs.Machine.Replaced.{map_numbered}
@@ -119,13 +120,6 @@ catch_index pool (Some class) = index_in pool (needs_class class)
 abbrev pub is_near : List WTarget → Bool
 is_near (ahead count ∷ []) = count == 3
 is_near targets = false
-
--- An item: its instruction, with numbers of items for targets; whether it is the jump inside a test for null; and its handlers, each with the
--- number of its item and the index of the class that it catches, or 0.
-pub record IndexedItem : Type 0 where
-  pub instr : Instr
-  pub near : Bool
-  pub catches : List (ℕ × ℕ)
 
 abbrev pub indexed_item :
     PlanScope → (Name → List ℕ) → Constants → Form → List Finished → ℕ → WItem → IndexedItem

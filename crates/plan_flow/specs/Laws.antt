@@ -1,0 +1,3 @@
+pub mod WrittenBlocks
+pub mod WrittenPads
+pub mod RoutedPlans
