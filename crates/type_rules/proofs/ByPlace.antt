@@ -20,10 +20,10 @@ use Rattle.type_rules.specs.declared.fault.TypeRule.{TypeRule}
 
 -- ---- the checks of an instruction
 
-row_holds : (s : RowScope) (f : Frame) (row : Row) → AllHold (row_checks s f row) → RowHolds s f row
+pub row_holds : (s : RowScope) (f : Frame) (row : Row) → AllHold (row_checks s f row) → RowHolds s f row
 row_holds s f row (fits, (held, (deep, (kind, done)))) = record { operands = fits; local = held; depth_fits = deep; further = kind.0; access = kind.1 }
 
-row_asked : (s : RowScope) (f : Frame) (row : Row) → RowHolds s f row → AllHold (row_checks s f row)
+pub row_asked : (s : RowScope) (f : Frame) (row : Row) → RowHolds s f row → AllHold (row_checks s f row)
 row_asked s f row h = (h.operands, (h.local, (h.depth_fits, ((h.further, h.access), tt))))
 
 handlers_hold : (b : Body) (before : Frame) (catches : List BodyCatch) → AllHold (handler_checks b before catches) → AllByRecursion (λ catch. MayGoTo b.scope (Some (catch_frame before catch.class)) (b.stated catch.to)) catches

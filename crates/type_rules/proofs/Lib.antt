@@ -32,3 +32,4 @@ pub mod MethodOrder
 pub mod StatedFrames
 pub mod CallRows
 pub mod LeftLocals
+pub mod Grown

@@ -16,10 +16,10 @@ use Rattle.type_rules.specs.Inner.Signatures.{IsCallable, IsMemberDescriptor}
 
 -- ---- each constant is asked
 
-abbrev IsAsked : ℕ → Constants → Const → Type 0
+abbrev pub IsAsked : ℕ → Constants → Const → Type 0
 IsAsked major pool constant = (at : ℕ) × AllHold (constant_checks major pool at constant)
 
-asked : (major : ℕ) (pool : Constants) (at : ℕ) (entries : Constants) (index : ℕ) (constant : Const) → AllHold (entries_checks major pool at entries) → constant_at entries index ≡ Some constant → IsAsked major pool constant
+pub asked : (major : ℕ) (pool : Constants) (at : ℕ) (entries : Constants) (index : ℕ) (constant : Const) → AllHold (entries_checks major pool at entries) → constant_at entries index ≡ Some constant → IsAsked major pool constant
 asked major pool at [] index constant hold e = absurd cc
 asked major pool at (None ∷ entries) zero constant hold e = absurd cc
 asked major pool at (None ∷ entries) (suc index) constant hold e = asked major pool at entries index constant hold e

@@ -6,6 +6,7 @@ pub mod Changes
 pub mod Checks
 pub mod Typed
 pub mod Verified
+pub mod Grown
 pub mod RuleNames
 pub mod Inner
 pub mod Laws

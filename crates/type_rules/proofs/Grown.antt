@@ -1,0 +1,24 @@
+-- What classes that have grown leave as it was.
+pub mod Flags
+pub mod Headers
+pub mod Methods
+pub mod Assigning
+pub mod Rows
+pub mod Members
+pub mod Table
+pub mod Scopes
+pub mod Stores
+pub mod Replaced
+pub mod SameLinks
+pub mod Bodies
+pub mod Pools
+pub mod Operands
+pub mod Codes
+pub mod Operations
+pub mod Links
+pub mod Declarations
+pub mod RawParts
+pub mod Asked
+pub mod Starts
+pub mod Files
+pub mod Whole
