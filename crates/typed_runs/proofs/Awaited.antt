@@ -18,16 +18,20 @@ use Rattle.member_link.specs.Bodies.{CodeItem, item_instr, item_null_test, item_
 use Rattle.member_link.specs.Machine.Acting.{Pending, pending_of, type_of_kind}
 use Rattle.member_link.specs.Machine.Codes.{item_op, constant_op, handle_of, or_meaningless, return_op, same_kind, call_op, dynamic_op, special_start, initialises}
 use Rattle.member_link.specs.Machine.Ops.{Op, meaningless, return_value, push_constant, float_arithmetic, jump_by_int, jump_by_ints, jump_by_references, jump_by_null, get_static, put_static, get_field, put_field, call_static, call_virtual, call_interface, call_special, call_dynamic, new_object, new_array, new_arrays, load_element, store_element, check_cast, instance_of}
-use Rattle.member_link.specs.Machine.Programs.{Links}
+use Rattle.member_link.specs.Machine.Programs.{Links, Program}
 use Rattle.member_link.specs.References.{Reference}
 use Rattle.member_link.specs.RowScope.{RowScope}
 use Rattle.member_link.specs.Rows.ArithmeticRows as arithmetic
 use Rattle.member_link.specs.Rows.ArithmeticRows.{Operation, float_operations, operation_in, operation_row}
 use Rattle.member_link.specs.Rows.ArrayRows.{primitive_array, array_of}
 use Rattle.member_link.specs.Rows.MemberRows.{argument_needs, result_types, get_static_row, put_static_row, get_field_row, put_field_row, call_row, dynamic_row, static_row, special_row, init_row}
+use Rattle.member_link.specs.Rows.Readings.{Reading, reads_itself, reads_object, reads_pop, row_by}
 use Rattle.member_link.specs.Rows.Row.{Row, plain, no_row, either}
 use Rattle.member_link.specs.Signatures.{reference_of, result_of}
 use Rattle.typed_runs.proofs.Basics.{some_of}
+use Rattle.typed_runs.proofs.ReadOps.{object_init_void}
+use Rattle.typed_runs.specs.LinkedCalls.{IsLinkedCall}
+use Rattle.typed_runs.specs.TypedPoints.{MayBeRead}
 
 -- An instruction that shows an event: control goes on after it, with the answer on top.
 pub record AnsweredBy (falls : Bool) (row : Row) (answer : Option FieldType) : Type 0 where
@@ -253,3 +257,20 @@ module _ (links : Links) (s : RowScope) (frame : Frame) (p : Pending) where
       never p (found_none (class_at s.pool index) instance_of (λ x. refl)) is
   item_answers numbered place (item_instr instrs.Enter) is = cc
   item_answers numbered place (item_instr instrs.Leave) is = cc
+
+-- an item whose operation shows an event, however it is read
+pub read_answers : (P : Program) (s : RowScope) (frame : Frame) (p : Pending) (numbered : ℕ → ℕ) (place : ℕ) (item : CodeItem) (reading : Reading)
+    → MayBeRead reading frame (item_op P.links numbered s item) → IsLinkedCall P s (item_op P.links numbered s item)
+    → pending_of (item_op P.links numbered s item) ≡ Some p
+    → AnsweredBy (item_falls_through item) (row_by reading frame (item_row s frame place item)) p.answer
+read_answers P s frame p numbered place item reads_itself read linked is =
+    let own = item_answers P.links s frame p numbered place item is in
+    record { falls_through = own.falls_through; goes_on = own.goes_on; gives = own.gives }
+read_answers P s frame p numbered place item (reads_object class) read linked is = never p (ap pending_of read) is
+read_answers P s frame p numbered place item (reads_pop desc) read linked is =
+    let answer : result_of read.reference.desc ≡ p.answer = ap (λ (q : Pending). q.answer) (some_of (sym (ap pending_of read.calls) ∙ is)) in
+    record {
+      falls_through = (item_answers P.links s frame p numbered place item is).falls_through;
+      goes_on = refl;
+      gives = ap result_types (sym (object_init_void P s read linked) ∙ answer);
+    }

@@ -10,7 +10,7 @@ use Rattle.machine_values.specs.Heaps.{Heap}
 use Rattle.machine_values.specs.declared.frame.RunFrame.{RunFrame}
 use Rattle.machine_values.specs.declared.frame.RunFrame.TheVariants as frames
 use Rattle.machine_values.specs.declared.value.Value.{Value}
-use Rattle.member_link.specs.Bodies.{item_row, item_targets, item_falls_through}
+use Rattle.member_link.specs.Bodies.{item_targets, item_falls_through}
 use Rattle.member_link.specs.BodyTyping.{RowHolds}
 use Rattle.member_link.specs.Machine.Codes.{item_op}
 use Rattle.member_link.specs.Machine.Completions.{gives}
@@ -158,7 +158,7 @@ waits_of P T heap f d stack locals under asked_library awaited =
 -- the world at a typed point
 pub here_of : (P : Program) (T : Typings) (w : World) (f : MethodState) (rest : List RunFrame) → TypedWorld P T w → (d : Does P T w.memory.heap f) → FramesConform P T w.memory.heap (above_of P (frames.Method f)) rest
     → Here P T w f rest d.stands.fits.scope d.stands.fits.frame d.stands.fits.place d.stands.fits.numbered
-    (access_aside (item_row d.stands.fits.scope d.stands.fits.frame d.stands.fits.place d.stands.fits.item)) (item_op P.links d.stands.fits.numbered d.stands.fits.scope d.stands.fits.item)
+    (row_at d.stands.fits) (item_op P.links d.stands.fits.numbered d.stands.fits.scope d.stands.fits.item)
     (item_falls_through d.stands.fits.item) (item_targets d.stands.fits.item)
 here_of P T w f rest typed d below = record {
   typed = typed;

@@ -75,6 +75,8 @@ mod Performing
 mod Points
 mod Raising
 mod ReceiverTests
+mod ReadCalls
+mod ReadOps
 mod Receivers
 mod Resumed
 mod Returns

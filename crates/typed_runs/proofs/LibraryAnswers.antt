@@ -11,7 +11,7 @@ use Rattle.machine_values.specs.declared.frame.RunFrame.{RunFrame}
 use Rattle.machine_values.specs.declared.frame.RunFrame.TheVariants as frames
 use Rattle.machine_values.specs.declared.object.Object.{Object}
 use Rattle.machine_values.specs.declared.value.Value.{Value}
-use Rattle.member_link.specs.Bodies.{item_row, item_falls_through}
+use Rattle.member_link.specs.Bodies.{item_falls_through}
 use Rattle.member_link.specs.Machine.Acting.{fault, given_value, Pending, pending_of, Waiting, waiting_in, answered, answer_with, answer_without, act_return, is_throwable, act_throw}
 use Rattle.member_link.specs.Machine.Performing.{resumed, thrown}
 use Rattle.member_link.specs.Machine.Programs.{Program, Point, point_at}
@@ -19,7 +19,7 @@ use Rattle.member_link.specs.Machine.Shapes.{value_conforms}
 use Rattle.member_link.specs.Machine.Worlds.{World}
 use Rattle.member_link.specs.Rows.MemberRows.{result_types}
 use Rattle.member_link.specs.Rows.Row.{Row, row_frame, stack_behind}
-use Rattle.typed_runs.proofs.Awaited.{AnsweredBy, item_answers}
+use Rattle.typed_runs.proofs.Awaited.{AnsweredBy, read_answers}
 use Rattle.typed_runs.proofs.Basics.{and_second, some_of}
 use Rattle.typed_runs.proofs.BeginningSteps.{of_map}
 use Rattle.typed_runs.proofs.Given.{narrowed_conforms}
@@ -30,8 +30,9 @@ use Rattle.typed_runs.proofs.Points.{of_chain, does_there}
 use Rattle.typed_runs.proofs.Raising.{thrown_stays}
 use Rattle.typed_runs.proofs.Unwinding.{IsThrown, instance_conforms}
 use Rattle.typed_runs.specs.Conforming.{AllConform, no_values, and_value}
+use Rattle.typed_runs.specs.LinkedCalls.{IsLinkedCall}
 use Rattle.typed_runs.specs.TypedFrames.{Above, above_of, ShowsEvent, Waits, FramesConform, lowest, upon}
-use Rattle.typed_runs.specs.TypedPoints.{Typing, LeadsTo, row_at}
+use Rattle.typed_runs.specs.TypedPoints.{MayBeRead, Typing, LeadsTo, row_at}
 use Rattle.typed_runs.specs.TypedPrograms.{Typings}
 use Rattle.typed_runs.specs.TypedWorlds.{TypedWorld, StaysTyped}
 
@@ -80,8 +81,9 @@ module _ (P : Program) (T : Typings) (w : World) (typed : TypedWorld P T w) wher
       let f : MethodState = x.frame in
       let fits = here.waits.stands.fits in
       let row : Row = row_at fits in
-      let a : AnsweredBy (item_falls_through fits.item) (item_row fits.scope fits.frame fits.place fits.item) x.pending.answer =
-      item_answers P.links fits.scope fits.frame x.pending fits.numbered fits.place fits.item
+      let a : AnsweredBy (item_falls_through fits.item) (row_at fits) x.pending.answer =
+      read_answers P fits.scope fits.frame x.pending fits.numbered fits.place fits.item fits.reading
+      (subst (MayBeRead fits.reading fits.frame) fits.is_op fits.read) (subst (IsLinkedCall P fits.scope) fits.is_op fits.call)
       (sym (ap pending_of fits.is_op) ∙ here.pends) in
       let leads = leads_on (T f.at) (f.place + 1) fits.frame row (item_falls_through fits.item) a.falls_through a.goes_on fits.next in
       let given : AllConform P (T f.at).scope w.memory.heap row.gives vs = subst (λ gs. AllConform P (T f.at).scope w.memory.heap gs vs)

@@ -1,5 +1,5 @@
-use Rattle.std.specs.Prelude.{◌≡◌, ◌==◌, ◌+◌, refl, ℕ, Bool, true, false, List, [], ◌∷◌, ◌++◌, map, reverse, slice_get, bytes_eq, is_some, Option, Some, None, if◌then◌else◌}
-use Rattle.std.specs.List.{flat_map}
+use Rattle.std.specs.Prelude.{◌≡◌, ◌≢◌, ◌==◌, ◌+◌, refl, ℕ, Bool, true, false, List, [], ◌∷◌, ◌++◌, map, reverse, slice_get, bytes_eq, is_some, Option, Some, None, if◌then◌else◌}
+use Rattle.std.specs.List.{AllByRecursion, flat_map}
 use Rattle.std.proofs.Common.{arith, ap, sym, subst}
 use Rattle.std.proofs.lemmas.List.{map-append}
 use Rattle.std.proofs.lemmas.Slice.Eq.{bytes_eq-Decides}
@@ -29,17 +29,18 @@ use Rattle.member_link.specs.Machine.Stepping.{op_step}
 use Rattle.member_link.specs.Machine.Worlds.{World, Memory, with_heap}
 use Rattle.member_link.specs.References.{Reference}
 use Rattle.member_link.specs.RowScope.{RowScope}
-use Rattle.member_link.specs.Rows.Row.{access_aside}
+use Rattle.member_link.specs.Rows.Row.{access_aside, plain}
 use Rattle.member_link.specs.Rows.Table.{without_older, new_row}
 use Rattle.typed_runs.proofs.Assigned.{conforms_in_heap}
 use Rattle.typed_runs.proofs.BeginningSteps.{first_found}
 use Rattle.typed_runs.proofs.BegunFirst.{begun_first_goes}
 use Rattle.typed_runs.proofs.BlankValues.{blank_fits}
 use Rattle.typed_runs.proofs.Here.{Here, operands_here, worked, gives_goes}
+use Rattle.typed_runs.proofs.InstanceCalls.{own_class}
 use Rattle.typed_runs.proofs.Kept.{Keeps, units_kept, all_kept}
 use Rattle.typed_runs.proofs.Memories.{made_keeps, made_shape, made_typed}
 use Rattle.typed_runs.proofs.NewArrays.{allocations_typed}
-use Rattle.typed_runs.specs.Conforming.{HasShape, Conforms, to_top, of_new, no_values, and_value, UnitConforms, no_value, has_value, UnitsConform, no_units, and_unit, FitSlots, IsTypedMemory}
+use Rattle.typed_runs.specs.Conforming.{HasShape, ShapeConforms, Conforms, to_top, an_object, of_new, no_values, and_value, UnitConforms, no_value, has_value, UnitsConform, no_units, and_unit, FitSlots, IsTypedMemory}
 use Rattle.typed_runs.specs.TypedFrames.{Does}
 use Rattle.typed_runs.specs.TypedPrograms.{Typings}
 use Rattle.typed_runs.specs.TypedWorlds.{StaysTyped}
@@ -137,10 +138,15 @@ older_units at (and_unit one others) = and_unit (older_unit at one) (older_units
 
 module _ {P : Program} {T : Typings} {w : World} {f : MethodState} {rest : List RunFrame} {s : RowScope} {frame : Frame} {place : ℕ}
     {numbered : ℕ → ℕ} where
-  pub new_object_stays : (name : Name)
-      → Here P T w f rest s frame place numbered (access_aside (new_row frame place)) (new_object name) true [] → Does P T w.memory.heap f
+  -- an object is made, and given as of a type to which it conforms
+  made_goes : (name : Name) (locals : List VType) (given : VType) (Further : Type 0)
+      → Here P T w f rest s frame place numbered (record (plain frame [] (given ∷ [])) { further = Further; locals = locals }) (new_object name) true []
+      → Does P T w.memory.heap f
+      → UnitsConform P (T f.at).scope w.memory.heap locals f.locals
+      → ((heap : Heap) (reference : ℕ) (shape : Shape) → HasShape heap reference shape → class_of_shape P shape ≡ name
+      → Conforms P (T f.at).scope heap given (values.Ref reference))
       → StaysTyped P T w (op_step P w f rest (new_object name))
-  new_object_stays name h does =
+  made_goes name locals given Further h does units conforms =
       let o = operands_here h in
       let made = object_made P w.memory name h.typed.memory h.linked.0 in
       let new : Made = object_of P w.memory.heap name in
@@ -148,8 +154,23 @@ module _ {P : Program} {T : Typings} {w : World} {f : MethodState} {rest : List 
       let typed = allocations_typed P (with_heap w.memory new.heap) (w.memory.allocations + 1) made.typed in
       worked h 0 refl (omega arith)
       (begun_first_goes h does f name (gives after (values.Ref new.reference ∷ []))
-      (gives_goes h 0 after made.keep typed (values.Ref new.reference ∷ []) h.next (units_kept made.keep (older_units place h.locals))
-      (all_kept made.keep o.rest) (and_value (of_new h.linked.1 made.has_shape made.of_class) no_values)))
+      (gives_goes h 0 after made.keep typed (values.Ref new.reference ∷ []) h.next (units_kept made.keep units)
+      (all_kept made.keep o.rest) (and_value (conforms new.heap new.reference made.shape made.has_shape made.of_class) no_values)))
+
+  pub new_object_stays : (name : Name)
+      → Here P T w f rest s frame place numbered (access_aside (new_row frame place)) (new_object name) true [] → Does P T w.memory.heap f
+      → StaysTyped P T w (op_step P w f rest (new_object name))
+  new_object_stays name h does =
+      made_goes name (map (without_older place) frame.locals) (types.Uninit place) (AllByRecursion (λ type. type ≢ types.Uninit place) frame.stack) h does
+      (older_units place h.locals) (λ heap reference shape has class. of_new h.linked.1 has class)
+
+  -- one that counts as initialised
+  pub initialised_object_stays : (name : Name)
+      → Here P T w f rest s frame place numbered (plain frame [] (types.Object name ∷ [])) (new_object name) true [] → Does P T w.memory.heap f
+      → StaysTyped P T w (op_step P w f rest (new_object name))
+  initialised_object_stays name h does =
+      made_goes name frame.locals (types.Object name) (Unit {0}) h does h.locals
+      (λ heap reference shape has class. an_object has (subst (ShapeConforms P shape) class (own_class P T h.typed.program shape)))
 
   pub named_object_stays : (name : Option Name)
       → Here P T w f rest s frame place numbered (access_aside (new_row frame place)) (naming name new_object) true []

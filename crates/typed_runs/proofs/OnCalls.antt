@@ -1,5 +1,5 @@
-use Rattle.std.specs.Prelude.{◌≡◌, ◌+◌, ◌==◌, ◌&&◌, refl, ℕ, Bool, true, false, List, [], ◌∷◌, nat_le, bytes_eq, Option, Some, None, option_map, IfSome, if◌then◌else◌}
-use Rattle.std.proofs.Common.{sym, ◌∙◌, subst}
+use Rattle.std.specs.Prelude.{◌≡◌, ◌==◌, ◌&&◌, refl, ℕ, Bool, true, false, List, [], ◌∷◌, nat_le, bytes_eq, Option, Some, None, option_map}
+use Rattle.std.proofs.Common.{ap, sym, ◌∙◌, subst}
 use Rattle.std.proofs.lemmas.Slice.Eq.{bytes_eq-Decides}
 use Rattle.class_model.specs.Names.{init}
 use Rattle.class_model.specs.Pool.{constant_at}
@@ -11,32 +11,36 @@ use Rattle.class_model.specs.declared.pool.Const.{Const}
 use Rattle.class_model.specs.declared.pool.Const.TheVariants as consts
 use Rattle.machine_values.specs.Frames.{MethodState}
 use Rattle.machine_values.specs.declared.frame.RunFrame.{RunFrame}
-use Rattle.machine_values.specs.declared.frame.RunFrame.TheVariants as frames
 use Rattle.member_link.specs.Bodies.{CodeItem, item_instr, item_row, item_targets, item_falls_through}
 use Rattle.member_link.specs.Machine.Codes.{item_op, or_meaningless, call_op, dynamic_op, special_start, initialises}
-use Rattle.member_link.specs.Machine.Ops.{meaningless, get_static, put_static, get_field, put_field, call_special, new_object, new_array, new_arrays, load_element, store_element, check_cast, instance_of, jump_by_int, jump_by_ints, jump_by_references, jump_by_null}
-use Rattle.member_link.specs.Machine.Programs.{Program, Point}
-use Rattle.member_link.specs.Machine.Stepping.{op_step, point_step, frames_step, is_library_turn, step}
+use Rattle.member_link.specs.Machine.Ops.{Op, meaningless, get_static, put_static, get_field, put_field, call_special, new_object, new_array, new_arrays, load_element, store_element, check_cast, instance_of, jump_by_int, jump_by_ints, jump_by_references, jump_by_null}
+use Rattle.member_link.specs.Machine.Programs.{Program}
+use Rattle.member_link.specs.Machine.Stepping.{op_step, step}
 use Rattle.member_link.specs.Machine.Worlds.{World}
 use Rattle.member_link.specs.References.{Reference}
 use Rattle.member_link.specs.RowScope.{RowScope}
 use Rattle.member_link.specs.Rows.ArrayRows.{primitive_array, array_of}
-use Rattle.member_link.specs.Rows.MemberRows.{call_row, dynamic_row, init_row, special_row, argument_needs, result_types}
+use Rattle.member_link.specs.Rows.MemberRows.{call_row, dynamic_row, init_row, special_row, argument_needs, receiver, result_types}
+use Rattle.member_link.specs.Rows.Operands.{IsInitialised, single}
+use Rattle.member_link.specs.Rows.Readings.{reads_itself, reads_object, reads_pop}
 use Rattle.member_link.specs.Rows.Row.{Row, access_aside, either, plain, no_row}
 use Rattle.member_link.specs.Signatures.{reference_of, result_of}
 use Rattle.typed_runs.proofs.Basics.{same_number}
 use Rattle.typed_runs.proofs.DynamicCalls.{dynamic_stays}
-use Rattle.typed_runs.proofs.Here.{Here, here_of, counted, uncounted}
+use Rattle.typed_runs.proofs.FamilySteps.{EachReadStays, family_step}
+use Rattle.typed_runs.proofs.Here.{Here}
 use Rattle.typed_runs.proofs.InitialiserCalls.{init_stays}
 use Rattle.typed_runs.proofs.InstanceCalls.{virtual_stays, interface_stays}
 use Rattle.typed_runs.proofs.LookedUp.{LookUps}
+use Rattle.typed_runs.proofs.OpSorts.{of_calls, sort_of_op, not_of_family}
 use Rattle.typed_runs.proofs.OtherOperations.{IsNot}
+use Rattle.typed_runs.proofs.ReadCalls.{object_init_stays}
 use Rattle.member_link.specs.Laws.TranslatedOps.{constant_has, dynamic_of, found_has, return_has, tested_has}
 use Rattle.typed_runs.proofs.SpecialCalls.{special_stays}
 use Rattle.typed_runs.proofs.StaticCalls.{static_stays}
 use Rattle.typed_runs.specs.Families.{Calls, NextIs}
-use Rattle.typed_runs.specs.LinkedCalls.{IsLinkedCall}
-use Rattle.typed_runs.specs.TypedFrames.{nothing_awaited, above_of, Does, FramesConform, upon}
+use Rattle.typed_runs.specs.LinkedCalls.{IsLinkedCall, IsLinkedSpecial}
+use Rattle.typed_runs.specs.TypedFrames.{Does}
 use Rattle.typed_runs.specs.TypedPoints.{IsLinkedOp}
 use Rattle.typed_runs.specs.TypedPrograms.{Typings}
 use Rattle.typed_runs.specs.TypedWorlds.{TypedWorld, StaysTyped}
@@ -178,39 +182,27 @@ module _ {P : Program} {T : Typings} {w : World} {f : MethodState} {rest : List 
       absurd (found_has (IsNot Calls) (λ no. no) (class_at s.pool index) instance_of (λ r no. no) is)
   item_calls does item is linked h = absurd is
 
+-- ---- a call, however it is read
+
+each_call : (P : Program) (T : Typings) → LookUps → EachReadStays P T Calls
+each_call P T laws w f rest s frame place numbered item reads_itself read is linked d h = item_calls laws d item is linked h
+each_call P T laws w f rest s frame place numbered (item_instr (instrs.Invoke opcode index count)) (reads_pop desc) read is linked d h =
+    subst (λ (op : Op). IsLinkedCall P s op → Here P T w f rest s frame place numbered (plain frame (single ∷ argument_needs desc) []) op true []
+    → StaysTyped P T w (op_step P w f rest op))
+    (sym read.calls) initialises linked h where
+      initialises : IsLinkedSpecial P s read.reference
+          → Here P T w f rest s frame place numbered (plain frame (single ∷ argument_needs desc) []) (call_special read.reference read.from) true []
+          → StaysTyped P T w (op_step P w f rest (call_special read.reference read.from))
+      initialises l k =
+          object_init_stays laws read.reference read.from read.of_object
+          (subst (λ (d : List ℕ). IsInitialised (receiver frame d)) (sym read.same_desc) read.initialised) l.named
+          (subst (λ (d : List ℕ). Here P T w f rest s frame place numbered (plain frame (single ∷ argument_needs d) [])
+          (call_special read.reference read.from) true []) (sym read.same_desc) k)
+each_call P T laws w f rest s frame place numbered item (reads_pop desc) read is linked d h =
+    absurd (not_of_family P.links numbered s item of_calls (ap sort_of_op read.calls) (λ e. cc) (λ e. cc))
+each_call P T laws w f rest s frame place numbered item (reads_object class) read is linked d h = absurd (subst Calls read is)
+
 -- ---- a step
 
-pub op_calls : (P : Program) (T : Typings) (laws : LookUps) (w : World) (f : MethodState) (rest : List RunFrame) → TypedWorld P T w
-    → (d : Does P T w.memory.heap f) → FramesConform P T w.memory.heap (above_of P (frames.Method f)) rest
-    → Calls d.stands.point.op → IsLinkedCall P d.stands.fits.scope d.stands.point.op
-    → StaysTyped P T w (op_step P w f rest d.stands.point.op)
-op_calls P T laws w f rest typed d below is linked =
-    subst (λ op. StaysTyped P T w (op_step P w f rest op)) (sym d.stands.fits.is_op)
-    (item_calls laws d d.stands.fits.item (subst Calls d.stands.fits.is_op is)
-    (subst (IsLinkedCall P d.stands.fits.scope) d.stands.fits.is_op linked) (here_of P T w f rest typed d below))
-
-pub frames_called : (P : Program) (T : Typings) (laws : LookUps) (w : World) (f : MethodState) (rest : List RunFrame) → TypedWorld P T w
-    → FramesConform P T w.memory.heap nothing_awaited (frames.Method f ∷ rest) → (d : Does P T w.memory.heap f)
-    → Calls d.stands.point.op → IsLinkedCall P d.stands.fits.scope d.stands.point.op
-    → StaysTyped P T w (frames_step P (record w { steps = w.steps + 1 }) (frames.Method f ∷ rest))
-frames_called P T laws w f rest typed (upon frame below) d is linked =
-    let v : World = record w { steps = w.steps + 1 } in
-    subst (λ p. StaysTyped P T w (point_step P v f rest p)) (sym d.stands.is_point)
-    (uncounted P T w _ (op_calls P T laws v f rest (counted P T w typed) d below is linked))
-
-pub calls_typed : LookUps → (P : Program) (T : Typings) (w : World) (f : MethodState) (rest : List RunFrame) → TypedWorld P T w
-    → w.frames ≡ frames.Method f ∷ rest → (d : Does P T w.memory.heap f)
-    → Calls d.stands.point.op → IsLinkedCall P d.stands.fits.scope d.stands.point.op → StaysTyped P T w (step P w)
-calls_typed laws P T w f rest typed same d is linked =
-    subst (λ fs. StaysTyped P T w (if is_library_turn fs then w else frames_step P (record w { steps = w.steps + 1 }) fs)) (sym same)
-    (frames_called P T laws w f rest typed
-    (subst (λ fs. FramesConform P T w.memory.heap nothing_awaited fs) same typed.frames) d is linked)
-
 pub calls_next_typed : LookUps → (P : Program) (T : Typings) (w : World) → TypedWorld P T w → NextIs Calls P w.frames → StaysTyped P T w (step P w)
-calls_next_typed laws P T w typed next = by w.frames refl typed.frames next where
-  by : (fs : List RunFrame) → w.frames ≡ fs → FramesConform P T w.memory.heap nothing_awaited fs → NextIs Calls P fs → StaysTyped P T w (step P w)
-  by [] same conform next = absurd next
-  by (frames.Library made ∷ rest) same conform next = absurd next
-  by (frames.Beginning class ∷ rest) same conform next = absurd next
-  by (frames.Method f ∷ rest) same (upon d below) next =
-      calls_typed laws P T w f rest typed same d (subst (λ p. IfSome p (λ (q : Point). Calls q.op)) d.stands.is_point next) d.stands.fits.call
+calls_next_typed laws P T w typed next = family_step P T Calls (each_call P T laws) w typed next

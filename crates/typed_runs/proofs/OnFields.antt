@@ -15,7 +15,7 @@ use Rattle.member_link.specs.RowScope.{RowScope}
 use Rattle.member_link.specs.Rows.MemberRows.{get_static_row, put_static_row, get_field_row, put_field_row}
 use Rattle.member_link.specs.Rows.Row.{Row, access_aside}
 use Rattle.member_link.specs.Signatures.{reference_of}
-use Rattle.typed_runs.proofs.FamilySteps.{EachStays, family_step}
+use Rattle.typed_runs.proofs.FamilySteps.{EachStays, as_it_is, family_step}
 use Rattle.typed_runs.proofs.Here.{Here}
 use Rattle.typed_runs.proofs.InstanceFields.{get_field_stays, put_field_stays}
 use Rattle.typed_runs.proofs.LinkedFields.{FieldLaws}
@@ -57,4 +57,5 @@ each_field P T laws w f rest s frame place numbered item is d h =
     absurd (not_of_family P.links numbered s item of_fields (names_field (item_op P.links numbered s item) is) (λ e. cc) (λ e. cc))
 
 pub fields_typed : FieldLaws → (P : Program) (T : Typings) (w : World) → TypedWorld P T w → NextIs NamesField P w.frames → StaysTyped P T w (step P w)
-fields_typed laws P T w typed next = family_step P T NamesField (each_field P T laws) w typed next
+fields_typed laws P T w typed next =
+    family_step P T NamesField (as_it_is P T NamesField (record { no_new = λ name no. no; no_special = λ r from no. no }) (each_field P T laws)) w typed next

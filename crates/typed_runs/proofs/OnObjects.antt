@@ -1,7 +1,9 @@
-use Rattle.std.specs.Prelude.{◌&&◌, nat_le, ℕ, List}
+use Rattle.std.specs.Prelude.{◌≡◌, ◌&&◌, nat_le, refl, ℕ, true, List, [], ◌∷◌}
+use Rattle.std.proofs.Common.{sym, subst}
 use Rattle.class_model.specs.Pool.{constant_at}
 use Rattle.class_model.specs.PoolChecks.{class_at}
 use Rattle.class_model.specs.declared.frame.Frame.{Frame}
+use Rattle.class_model.specs.declared.frame.VType.TheVariants as types
 use Rattle.class_model.specs.declared.instr.Instr.TheVariants as instrs
 use Rattle.class_model.specs.declared.opcodes.TheConstants.{IFEQ, IFLE, IF_ICMPEQ, IF_ICMPLE, IF_ACMPEQ, IF_ACMPNE, IFNULL, IFNONNULL}
 use Rattle.machine_values.specs.Frames.{MethodState}
@@ -14,16 +16,18 @@ use Rattle.member_link.specs.Machine.Stepping.{op_step, step}
 use Rattle.member_link.specs.Machine.Worlds.{World}
 use Rattle.member_link.specs.RowScope.{RowScope}
 use Rattle.member_link.specs.Rows.ArrayRows.{primitive_array, array_of}
-use Rattle.member_link.specs.Rows.Row.{access_aside}
+use Rattle.member_link.specs.Rows.Readings.{reads_itself, reads_object, reads_pop}
+use Rattle.member_link.specs.Rows.Row.{access_aside, plain}
 use Rattle.member_link.specs.Signatures.{reference_of}
 use Rattle.typed_runs.proofs.ArrayLengths.{length_stays}
 use Rattle.typed_runs.proofs.ElementLoads.{load_stays}
 use Rattle.typed_runs.proofs.ElementStores.{store_stays}
-use Rattle.typed_runs.proofs.FamilySteps.{family_step}
+use Rattle.typed_runs.proofs.FamilySteps.{EachReadStays, as_it_is, family_step}
 use Rattle.typed_runs.proofs.Here.{Here}
 use Rattle.typed_runs.proofs.NestedArrays.{named_arrays_stays}
 use Rattle.typed_runs.proofs.NewArrays.{named_array_stays}
-use Rattle.typed_runs.proofs.NewObjects.{named_object_stays}
+use Rattle.typed_runs.proofs.NewObjects.{initialised_object_stays, named_object_stays}
+use Rattle.typed_runs.proofs.OpSorts.{of_news, sort_of_op, not_of_family}
 use Rattle.typed_runs.proofs.OtherOperations.{IsNot}
 use Rattle.member_link.specs.Laws.TranslatedOps.{call_has, constant_has, dynamic_has, found_has, return_has, tested_has}
 use Rattle.typed_runs.specs.Families.{NextIs, WorksOnArrays, MakesObject}
@@ -108,14 +112,30 @@ module _ (P : Program) (T : Typings) where
       absurd (found_has (IsNot UsesObjects) (λ no. no) (class_at s.pool index) instance_of (λ n no. no) is)
   object_stays w f rest s frame place numbered item is d h = absurd is
 
+  -- ---- an object that is made, however it is read
+
+  makes_object : (op : Op) → MakesObject op → sort_of_op op ≡ of_news
+  makes_object (new_object name) is = refl
+  makes_object op is = absurd is
+
+  each_object : EachReadStays P T MakesObject
+  each_object w f rest s frame place numbered item reads_itself read is linked d h =
+      object_stays w f rest s frame place numbered item (of_objects (item_op P.links numbered s item) is) d h
+  each_object w f rest s frame place numbered (item_instr (instrs.New index)) (reads_object class) read is linked d h =
+      subst (λ (op : Op). Here P T w f rest s frame place numbered (plain frame [] (types.Object class ∷ [])) op true [] → StaysTyped P T w (op_step P w f rest op))
+      (sym read) (λ k. initialised_object_stays class k d) h
+  each_object w f rest s frame place numbered item (reads_object class) read is linked d h =
+      absurd (not_of_family P.links numbered s item of_news (makes_object (item_op P.links numbered s item) is) (λ e. cc) (λ e. cc))
+  each_object w f rest s frame place numbered item (reads_pop desc) read is linked d h = absurd (subst MakesObject read.calls is)
+
   -- ---- a step
 
   pub arrays_typed : (w : World) → TypedWorld P T w → NextIs WorksOnArrays P w.frames → StaysTyped P T w (step P w)
   arrays_typed w typed next =
-      family_step P T WorksOnArrays (λ v f rest s frame place numbered item is.
-      object_stays v f rest s frame place numbered item (of_arrays (item_op P.links numbered s item) is)) w typed next
+      family_step P T WorksOnArrays
+      (as_it_is P T WorksOnArrays (record { no_new = λ name no. no; no_special = λ r from no. no })
+      (λ v f rest s frame place numbered item is. object_stays v f rest s frame place numbered item (of_arrays (item_op P.links numbered s item) is)))
+      w typed next
 
   pub objects_typed : (w : World) → TypedWorld P T w → NextIs MakesObject P w.frames → StaysTyped P T w (step P w)
-  objects_typed w typed next =
-      family_step P T MakesObject (λ v f rest s frame place numbered item is.
-      object_stays v f rest s frame place numbered item (of_objects (item_op P.links numbered s item) is)) w typed next
+  objects_typed w typed next = family_step P T MakesObject each_object w typed next

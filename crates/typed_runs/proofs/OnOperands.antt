@@ -1,26 +1,21 @@
-use Rattle.std.specs.Prelude.{◌+◌, ◌==◌, ◌&&◌, refl, ℕ, Bool, true, false, List, [], ◌∷◌, nat_le, Option, Some, None, IfSome, option_map, if◌then◌else◌}
-use Rattle.std.proofs.Common.{sym, subst}
+use Rattle.std.specs.Prelude.{◌&&◌, refl, ℕ, true, List, [], ◌∷◌, nat_le, Option, Some, None, option_map}
 use Rattle.class_model.specs.Pool.{Constants, constant_at}
-use Rattle.class_model.specs.PoolChecks.{utf8_at, class_at, name_at, descriptor_at}
-use Rattle.class_model.specs.declared.descriptor.FieldType.{FieldType}
-use Rattle.class_model.specs.declared.descriptor.Kind.{Kind}
-use Rattle.class_model.specs.Descriptors.{kind_of}
+use Rattle.class_model.specs.PoolChecks.{utf8_at, class_at}
 use Rattle.class_model.specs.declared.frame.Frame.{Frame}
 use Rattle.class_model.specs.declared.instr.Instr.TheVariants as instrs
-use Rattle.class_model.specs.declared.opcodes.TheConstants.{IALOAD, SALOAD, IASTORE, SASTORE, INVOKEVIRTUAL, INVOKESPECIAL, INVOKESTATIC, INVOKEINTERFACE}
+use Rattle.class_model.specs.declared.opcodes.TheConstants.{IALOAD, SALOAD, IASTORE, SASTORE}
 use Rattle.class_model.specs.declared.pool.Const.{Const}
 use Rattle.class_model.specs.declared.pool.Const.TheVariants as consts
 use Rattle.class_tree.specs.Headers.{Name}
 use Rattle.class_tree.specs.Names.{method_handle}
 use Rattle.machine_values.specs.Frames.{MethodState}
 use Rattle.machine_values.specs.declared.frame.RunFrame.{RunFrame}
-use Rattle.machine_values.specs.declared.frame.RunFrame.TheVariants as frames
 use Rattle.machine_values.specs.declared.object.Constant.TheVariants as objects
 use Rattle.member_link.specs.Bodies.{CodeItem, item_instr, item_null_test, item_row, item_targets, item_falls_through}
-use Rattle.member_link.specs.Machine.Codes.{item_op, constant_op, or_meaningless, naming, return_op, same_kind, call_op, dynamic_op, special_start, initialises}
-use Rattle.member_link.specs.Machine.Ops.{Op, meaningless, return_value, push_constant, get_static, put_static, get_field, put_field, call_static, call_virtual, call_interface, call_special, call_dynamic, new_object, new_array, new_arrays, load_element, store_element, check_cast, instance_of}
-use Rattle.member_link.specs.Machine.Programs.{Program, Links, Point}
-use Rattle.member_link.specs.Machine.Stepping.{op_step, point_step, frames_step, is_library_turn, step}
+use Rattle.member_link.specs.Machine.Codes.{item_op, constant_op, or_meaningless, naming, call_op, initialises}
+use Rattle.member_link.specs.Machine.Ops.{push_constant, get_static, put_static, get_field, put_field, new_object, new_array, new_arrays, load_element, store_element, check_cast, instance_of}
+use Rattle.member_link.specs.Machine.Programs.{Program}
+use Rattle.member_link.specs.Machine.Stepping.{op_step, step}
 use Rattle.member_link.specs.Machine.Worlds.{World}
 use Rattle.member_link.specs.References.{Reference}
 use Rattle.member_link.specs.RowScope.{RowScope}
@@ -37,7 +32,8 @@ use Rattle.typed_runs.proofs.Constants.{imm_conforms, value_stays, named_stays, 
 use Rattle.typed_runs.proofs.Divisions.{divide_stays}
 use Rattle.typed_runs.proofs.Floats.{float_stays}
 use Rattle.typed_runs.proofs.Monitors.{enter_stays, leave_stays, null_test_stays}
-use Rattle.typed_runs.proofs.Here.{Here, here_of, counted, uncounted}
+use Rattle.typed_runs.proofs.FamilySteps.{as_it_is, family_step}
+use Rattle.typed_runs.proofs.Here.{Here}
 use Rattle.typed_runs.proofs.Jumps.{if_stays, if2_stays, if_same_stays, if_null_stays, goto_stays}
 use Rattle.typed_runs.proofs.Moves.{nop_stays, load_stays, store_stays, iinc_stays}
 use Rattle.typed_runs.proofs.Shuffles.{shuffle_stays}
@@ -46,7 +42,6 @@ use Rattle.typed_runs.proofs.OtherOperations.{IsNot}
 use Rattle.member_link.specs.Laws.TranslatedOps.{call_has, dynamic_has, found_has, return_has, tested_has}
 use Rattle.typed_runs.specs.Conforming.{an_int, a_long, a_float, a_double}
 use Rattle.typed_runs.specs.Families.{NextIs, WorksOnOperands}
-use Rattle.typed_runs.specs.TypedFrames.{nothing_awaited, above_of, Does, FramesConform, upon}
 use Rattle.typed_runs.specs.TypedPrograms.{Typings}
 use Rattle.typed_runs.specs.TypedWorlds.{TypedWorld, StaysTyped}
 
@@ -125,21 +120,8 @@ module _ {P : Program} {T : Typings} {w : World} {f : MethodState} {rest : List 
 
 -- ---- a step
 
-pub op_stays : (P : Program) (T : Typings) (w : World) (f : MethodState) (rest : List RunFrame) → TypedWorld P T w → (d : Does P T w.memory.heap f) → FramesConform P T w.memory.heap (above_of P (frames.Method f)) rest
-    → WorksOnOperands d.stands.point.op → StaysTyped P T w (op_step P w f rest d.stands.point.op)
-op_stays P T w f rest typed d below is =
-    subst (λ op. StaysTyped P T w (op_step P w f rest op)) (sym d.stands.fits.is_op)
-    (item_stays d.stands.fits.item (subst WorksOnOperands d.stands.fits.is_op is) (here_of P T w f rest typed d below))
-
-pub frames_typed : (P : Program) (T : Typings) (w : World) (fs : List RunFrame) → TypedWorld P T w → FramesConform P T w.memory.heap nothing_awaited fs → NextIs WorksOnOperands P fs
-    → StaysTyped P T w (if is_library_turn fs then w else frames_step P (record w { steps = w.steps + 1 }) fs)
-frames_typed P T w [] typed conform next = absurd next
-frames_typed P T w (frames.Library made ∷ rest) typed conform next = absurd next
-frames_typed P T w (frames.Beginning class ∷ rest) typed conform next = absurd next
-frames_typed P T w (frames.Method f ∷ rest) typed (upon d below) next =
-    let v : World = record w { steps = w.steps + 1 } in
-    subst (λ p. StaysTyped P T w (point_step P v f rest p)) (sym d.stands.is_point)
-    (uncounted P T w _ (op_stays P T v f rest (counted P T w typed) d below (subst (λ p. IfSome p (λ (q : Point). WorksOnOperands q.op)) d.stands.is_point next)))
-
 pub steps_typed : (P : Program) (T : Typings) (w : World) → TypedWorld P T w → NextIs WorksOnOperands P w.frames → StaysTyped P T w (step P w)
-steps_typed P T w typed next = frames_typed P T w w.frames typed typed.frames next
+steps_typed P T w typed next =
+    family_step P T WorksOnOperands
+    (as_it_is P T WorksOnOperands (record { no_new = λ name no. no; no_special = λ r from no. no })
+    (λ v f rest s frame place numbered item is d h. item_stays item is h)) w typed next

@@ -1,19 +1,16 @@
-use Rattle.std.specs.Prelude.{◌≡◌, ◌⊎◌, ◌==◌, ◌&&◌, nat_le, refl, ℕ, Bool, true, false, List, Option, Some, None, option_map, if◌then◌else◌}
+use Rattle.std.specs.Prelude.{◌≡◌, ◌⊎◌, ◌&&◌, nat_le, refl, ℕ, Bool, Option, option_map, if◌then◌else◌}
 use Rattle.std.proofs.Common.{inl, inr, sym, ◌∙◌}
-use Rattle.class_model.specs.Descriptors.{kind_of}
 use Rattle.class_model.specs.Pool.{Constants, constant_at}
-use Rattle.class_model.specs.PoolChecks.{utf8_at, class_at, name_at, descriptor_at}
+use Rattle.class_model.specs.PoolChecks.{class_at}
 use Rattle.class_model.specs.declared.descriptor.FieldType.{FieldType}
 use Rattle.class_model.specs.declared.descriptor.Kind.{Kind}
 use Rattle.class_model.specs.declared.instr.Instr.TheVariants as instrs
-use Rattle.class_model.specs.declared.opcodes.TheConstants.{IALOAD, SALOAD, IASTORE, SASTORE, IFEQ, IFLE, IF_ICMPEQ, IF_ICMPLE, IF_ACMPEQ, IF_ACMPNE, IFNULL, IFNONNULL, INVOKEVIRTUAL, INVOKESPECIAL, INVOKESTATIC, INVOKEINTERFACE}
+use Rattle.class_model.specs.declared.opcodes.TheConstants.{IALOAD, SALOAD, IASTORE, SASTORE, IFEQ, IFLE, IF_ICMPEQ, IF_ICMPLE, IF_ACMPEQ, IF_ACMPNE, IFNULL, IFNONNULL}
 use Rattle.class_model.specs.declared.pool.Const.{Const}
-use Rattle.class_model.specs.declared.pool.Const.TheVariants as consts
-use Rattle.machine_values.specs.declared.object.Constant.TheVariants as objects
 use Rattle.member_link.specs.Laws.TranslatedOps.{call_has, constant_has, dynamic_has, found_has, return_has, tested_has}
 use Rattle.member_link.specs.Bodies.{CodeItem, item_instr}
-use Rattle.member_link.specs.Machine.Codes.{item_op, constant_op, handle_of, or_meaningless, return_op, same_kind, call_op, dynamic_op, special_start, initialises}
-use Rattle.member_link.specs.Machine.Ops.{Op, meaningless, push_constant, return_nothing, return_value, throw_reference, get_static, put_static, get_field, put_field, call_static, call_virtual, call_interface, call_special, call_dynamic, new_object, new_array, new_arrays, load_element, store_element, check_cast, instance_of, jump_by_int, jump_by_ints, jump_by_references, jump_by_null}
+use Rattle.member_link.specs.Machine.Codes.{item_op, constant_op, or_meaningless, return_op, call_op, dynamic_op, initialises}
+use Rattle.member_link.specs.Machine.Ops.{Op, meaningless, return_nothing, return_value, throw_reference, get_static, put_static, get_field, put_field, call_static, call_virtual, call_interface, call_special, new_object, new_array, new_arrays, load_element, store_element, check_cast, instance_of, jump_by_int, jump_by_ints, jump_by_references, jump_by_null}
 use Rattle.member_link.specs.Machine.Programs.{Links}
 use Rattle.member_link.specs.References.{Reference}
 use Rattle.member_link.specs.RowScope.{RowScope}
@@ -26,6 +23,7 @@ pub data OpSort : Type 0 where
   of_returns : OpSort
   of_throws : OpSort
   of_calls : OpSort
+  of_news : OpSort
   of_others : OpSort
 
 abbrev pub sort_of_op : Op → OpSort
@@ -40,6 +38,7 @@ sort_of_op (call_static r) = of_calls
 sort_of_op (call_virtual r) = of_calls
 sort_of_op (call_interface r) = of_calls
 sort_of_op (call_special r from) = of_calls
+sort_of_op (new_object name) = of_news
 sort_of_op op = of_others
 
 abbrev pub sort_of_item : CodeItem → OpSort
@@ -50,6 +49,7 @@ sort_of_item (item_instr (instrs.PutField index)) = of_fields
 sort_of_item (item_instr (instrs.Return kind)) = of_returns
 sort_of_item (item_instr instrs.Throw) = of_throws
 sort_of_item (item_instr (instrs.Invoke opcode index count)) = of_calls
+sort_of_item (item_instr (instrs.New index)) = of_news
 sort_of_item item = of_others
 
 -- it is of the sort, or of no family
@@ -107,7 +107,7 @@ item_sort links numbered s (item_instr (instrs.PutField index)) =
 item_sort links numbered s (item_instr (instrs.Invoke opcode index count)) =
     found_sort of_calls (reference_of s.pool (constant_at s.pool index)) (call_op links s opcode) (λ r. call_sort links s opcode r)
 item_sort links numbered s (item_instr (instrs.Dynamic index)) = dynamic_sort s (constant_at s.pool index)
-item_sort links numbered s (item_instr (instrs.New index)) = found_sort of_others (class_at s.pool index) new_object (λ r. inr refl)
+item_sort links numbered s (item_instr (instrs.New index)) = found_sort of_news (class_at s.pool index) new_object (λ r. inr refl)
 item_sort links numbered s (item_instr (instrs.NewArray code)) = found_sort of_others (primitive_array code) new_array (λ r. inr refl)
 item_sort links numbered s (item_instr (instrs.NewRefArray index)) = found_sort of_others (array_of (class_at s.pool index)) new_array (λ r. inr refl)
 item_sort links numbered s (item_instr (instrs.NewMulti index dimensions)) =

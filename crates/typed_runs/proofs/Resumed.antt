@@ -1,5 +1,5 @@
 use Rattle.std.specs.Prelude.{◌≡◌, ◌==◌, ◌+◌, ◌++◌, refl, ℕ, Bool, true, false, List, reverse, bytes_eq, Option, Some, None, IfSome, option_map, if◌then◌else◌}
-use Rattle.std.proofs.Common.{sym, subst}
+use Rattle.std.proofs.Common.{ap, sym, ◌∙◌, subst}
 use Rattle.class_model.specs.Names.{init}
 use Rattle.class_model.specs.Pool.{constant_at}
 use Rattle.class_model.specs.declared.frame.Frame.{Frame}
@@ -18,14 +18,17 @@ use Rattle.member_link.specs.Machine.Worlds.{Memory}
 use Rattle.member_link.specs.References.{Reference}
 use Rattle.member_link.specs.RowScope.{RowScope}
 use Rattle.member_link.specs.Rows.MemberRows.{call_row, static_row, init_row, special_row, instance_row, receiver, result_types, PassesMethod}
+use Rattle.member_link.specs.Rows.Readings.{Reading, reads_itself, reads_object, reads_pop, row_by}
 use Rattle.member_link.specs.Rows.Row.{Row, either, row_frame, stack_behind}
 use Rattle.member_link.specs.Signatures.{reference_of, result_of}
 use Rattle.typed_runs.proofs.Here.{pushed}
 use Rattle.typed_runs.proofs.OpSorts.{of_calls, sort_of_op, not_of_family}
 use Rattle.typed_runs.proofs.Points.{does_there}
+use Rattle.typed_runs.proofs.ReadOps.{object_init_void}
 use Rattle.typed_runs.specs.Conforming.{AllConform, IsTypedMemory}
+use Rattle.typed_runs.specs.LinkedCalls.{IsLinkedCall}
 use Rattle.typed_runs.specs.TypedFrames.{FitsCall, Waits, Does}
-use Rattle.typed_runs.specs.TypedPoints.{Typing, LeadsTo, row_at}
+use Rattle.typed_runs.specs.TypedPoints.{MayBeRead, Typing, LeadsTo, row_at}
 use Rattle.typed_runs.specs.TypedPrograms.{Typings, IsTypedProgram}
 
 -- what an instruction gives, behind which control goes on
@@ -85,6 +88,23 @@ module _ (member : Member) (links : Links) (numbered : ℕ → ℕ) (s : RowScop
   call_item_goes item is =
       absurd (not_of_family links numbered s item of_calls (fits_sort member (item_op links numbered s item) is) (λ e. cc) (λ e. cc))
 
+-- the same, however it is read
+read_call_goes : (P : Program) (member : Member) (numbered : ℕ → ℕ) (s : RowScope) (frame : Frame) (place : ℕ) (item : CodeItem)
+    (reading : Reading) → MayBeRead reading frame (item_op P.links numbered s item) → IsLinkedCall P s (item_op P.links numbered s item)
+    → FitsCall member (item_op P.links numbered s item)
+    → GoesOn (result_types (result_of member.desc)) (item_falls_through item) (row_by reading frame (item_row s frame place item))
+read_call_goes P member numbered s frame place item reads_itself read linked is =
+    let on = call_item_goes member P.links numbered s frame place item is in
+    record { gives = on.gives; row_goes = on.row_goes; falls_through = on.falls_through }
+read_call_goes P member numbered s frame place item (reads_object class) read linked is = absurd (subst (FitsCall member) read is)
+read_call_goes P member numbered s frame place item (reads_pop desc) read linked is =
+    let same : member.desc ≡ read.reference.desc = subst (FitsCall member) read.calls is in
+    record {
+      gives = ap result_types (sym (ap result_of same ∙ object_init_void P s read linked));
+      row_goes = refl;
+      falls_through = (call_item_goes member P.links numbered s frame place item is).falls_through;
+    }
+
 -- ---- a frame that waited for a call goes on
 
 pub leads_on : (t : Typing) (n : ℕ) (frame : Frame) (given : List VType) (falls : Bool) (row : Row) → GoesOn given falls row
@@ -103,7 +123,9 @@ pub resumes : (P : Program) (T : Typings) (m : Memory) → IsTypedProgram P T �
     → (vs : List Value) → ((s : RowScope) → AllConform P s m.heap (result_types (result_of member.desc)) vs) → Does P T m.heap (resumed f vs)
 resumes P T m program memory f member waits vs given =
     let p = waits.stands.fits in
-    let on = call_item_goes member P.links p.numbered p.scope p.frame p.place p.item (subst (FitsCall member) p.is_op waits.waited) in
+    let on =
+    read_call_goes P member p.numbered p.scope p.frame p.place p.item p.reading (subst (MayBeRead p.reading p.frame) p.is_op p.read)
+    (subst (IsLinkedCall P p.scope) p.is_op p.call) (subst (FitsCall member) p.is_op waits.waited) in
     does_there P T m program memory f waits.stands (f.place + 1) (record { locals = (row_at p).locals; stack = stack_behind p.frame (row_at p) })
     (leads_on (T f.at) (f.place + 1) p.frame (result_types (result_of member.desc)) (item_falls_through p.item) (row_at p) on p.next)
     f.locals (reverse vs ++ f.stack) waits.stands.paired waits.locals

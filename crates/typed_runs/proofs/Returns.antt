@@ -31,7 +31,7 @@ use Rattle.member_link.specs.Rows.Row.{Row, access_aside}
 use Rattle.member_link.specs.Signatures.{result_of}
 use Rattle.typed_runs.proofs.Assigned.{conforms_in_heap}
 use Rattle.typed_runs.proofs.Basics.{some_of}
-use Rattle.typed_runs.proofs.FamilySteps.{EachStays, family_step}
+use Rattle.typed_runs.proofs.FamilySteps.{EachStays, as_it_is, family_step}
 use Rattle.typed_runs.proofs.FieldValues.{of_field, to_field, field_kind, field_narrowed}
 use Rattle.typed_runs.proofs.Here.{Here, stays, operands_here}
 use Rattle.typed_runs.proofs.HereMethods.{MethodOf, method_here, assigned_here}
@@ -181,4 +181,5 @@ each_return P T w f rest s frame place numbered item is d h =
     absurd (not_of_family P.links numbered s item of_returns (ends_method (item_op P.links numbered s item) is) (λ e. cc) (λ e. cc))
 
 pub returns_typed : (P : Program) (T : Typings) (w : World) → TypedWorld P T w → NextIs EndsMethod P w.frames → StaysTyped P T w (step P w)
-returns_typed P T w typed next = family_step P T EndsMethod (each_return P T) w typed next
+returns_typed P T w typed next =
+    family_step P T EndsMethod (as_it_is P T EndsMethod (record { no_new = λ name no. no; no_special = λ r from no. no }) (each_return P T)) w typed next

@@ -25,7 +25,7 @@ use Rattle.member_link.specs.Rows.Operands.{assignable_to, topmost}
 use Rattle.member_link.specs.Rows.Row.{access_aside}
 use Rattle.member_link.specs.Rows.Table.{throw_row}
 use Rattle.typed_runs.proofs.ClassesTaken.{shape_passes}
-use Rattle.typed_runs.proofs.FamilySteps.{EachStays, family_step}
+use Rattle.typed_runs.proofs.FamilySteps.{EachStays, as_it_is, family_step}
 use Rattle.typed_runs.proofs.Here.{Here, operands_here, worked}
 use Rattle.typed_runs.proofs.HereMethods.{CompletesTyped, assigned_here}
 use Rattle.typed_runs.proofs.OpSorts.{of_throws, sort_of_op, not_of_family}
@@ -91,4 +91,5 @@ each_throw P T w f rest s frame place numbered item is d h =
 
 pub throws_typed : (P : Program) (T : Typings) (w : World) → TypedWorld P T w → NextIs ThrowsReference P w.frames
     → StaysTyped P T w (step P w)
-throws_typed P T w typed next = family_step P T ThrowsReference (each_throw P T) w typed next
+throws_typed P T w typed next =
+    family_step P T ThrowsReference (as_it_is P T ThrowsReference (record { no_new = λ name no. no; no_special = λ r from no. no }) (each_throw P T)) w typed next

@@ -1,8 +1,10 @@
 pub mod Conforming
 pub mod TypedPoints
 pub mod LinkedCalls
+pub mod LinkedInstrs
 pub mod TypedPrograms
 pub mod FolderTypings
 pub mod TypedFrames
 pub mod TypedWorlds
 pub mod Families
+pub mod Laws
