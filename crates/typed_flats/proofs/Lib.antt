@@ -1,0 +1,9 @@
+mod Numbered
+mod ReplacedClasses
+mod MovedLinks
+mod MovedClasses
+mod MovedTypes
+mod MovedPoints
+mod FlatMethods
+mod FlatPoints
+mod FlatPrograms

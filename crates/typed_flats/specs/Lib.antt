@@ -1,0 +1,2 @@
+pub mod TypedReplacements
+pub mod FlatTypings
