@@ -31,8 +31,9 @@ use Rattle.member_link.specs.Uses.{UseScope, fieldref_use_checks, methodref_use_
 use Rattle.typed_programs.proofs.KnownRows.{kind_is_same}
 use Rattle.typed_programs.proofs.PoolNames.{HoldsEach, some_there, class_text, reference_text}
 use Rattle.typed_programs.proofs.VoidResults.{ParametersSpelled, void_result}
-use Rattle.typed_runs.specs.LinkedCalls.{IsLinkedCall, IsLinkedSpecial}
-use Rattle.typed_runs.specs.TypedPoints.{IsOfLibrary, HasField, HasMethod, IsLinkedOp}
+use Rattle.typed_runs.specs.LinkedCalls.{IsLinkedSpecial}
+use Rattle.typed_runs.specs.LinkedInstrs.{IsLinkedAt}
+use Rattle.typed_runs.specs.TypedPoints.{IsOfLibrary, HasField, HasMethod}
 use Rattle.typed_runs.specs.TypedPrograms.{HasBase}
 
 -- what the laws of linking say of references
@@ -43,11 +44,6 @@ pub record ReferenceLaws : Type 0 where
   pub call : (s : UseScope) (opcode : ℕ) (constant : Option Const) (r : Reference)
       → AllHold (method_use_checks s (FitsCall s.headers opcode constant) r) → MethodPasses s (FitsCall s.headers opcode constant) r
   pub parameters : ParametersSpelled
-
--- what linking says of an operation, and of a call beyond
-pub record IsLinkedAt (P : Program) (s : RowScope) (place : ℕ) (op : Op) : Type 0 where
-  pub linked : IsLinkedOp P s place op
-  pub call : IsLinkedCall P s op
 
 -- ---- operations
 

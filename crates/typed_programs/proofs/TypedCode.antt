@@ -18,11 +18,11 @@ use Rattle.member_link.specs.Machine.Codes.{CodePoint, number_at, item_op, catch
 use Rattle.member_link.specs.Machine.Programs.{Program, Catch, Point, Links, number_of_first}
 use Rattle.member_link.specs.Rows.Assigning.{IsFrameAssignableIn}
 use Rattle.member_link.specs.Rows.FrameAssignability.{AreAssignable}
+use Rattle.member_link.specs.Rows.Readings.{reads_itself}
 use Rattle.member_link.specs.Rows.Row.{access_aside}
 use Rattle.member_link.specs.Rows.Table.{row_of}
 use Rattle.member_link.specs.Scope.{Scope, instructions, row_scope}
 use Rattle.typed_programs.proofs.Folders.{some_of}
-use Rattle.typed_programs.proofs.LinkedOps.{IsLinkedAt}
 use Rattle.typed_programs.proofs.PlacedFrames.{number_found, FrameThere, frame_there, frame_placed}
 use Rattle.type_rules.specs.Laws.InstructionOrder.{Ascend, ascend}
 use Rattle.type_rules.specs.Checks.{IsTypedAt, MayFlowIn, frame_before}
@@ -30,6 +30,7 @@ use Rattle.type_rules.specs.Handlers as handlers
 use Rattle.type_rules.specs.MethodBodies.{body_of, point_of}
 use Rattle.type_rules.specs.Stated.{stated_at}
 use Rattle.type_rules.specs.Typed.{flows_into}
+use Rattle.typed_runs.specs.LinkedInstrs.{IsLinkedAt}
 use Rattle.typed_runs.specs.TypedPoints.{Typing, LeadsTo, LeadsToHandler, TypedPoint}
 
 -- what the laws of typing say of a method's code
@@ -194,6 +195,8 @@ module _ (s : Scope) (frames : List Frame) (typed : IsTypedCode s frames) where
     numbered = number_at (code_points s);
     is_op = refl;
     reads = record { headers = refl; news = λ at. refl; own = inl refl };
+    reading = reads_itself;
+    read = tt;
     row = row;
     linked = (linked fits.frame row).linked;
     call = (linked fits.frame row).call;

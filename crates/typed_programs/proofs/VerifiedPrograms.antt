@@ -108,7 +108,7 @@ module _ (laws : TypeLaws) (link_laws : LinkLaws) (classes : Classes) (typed : F
   here_typed at file m part of_file of_method of_code =
       subst (λ (t : Typing). IsTypedMethod Q at (method_member file.pool m) (method_code links s) t) (sym same)
       (method_typed classes links at file m part found.0 (typed_code laws s found.0 found.2) here named.0 named.1
-      (λ number placed there t. linked_instr link_laws classes links are_links hierarchy tree linked has_class at file m part of_file
+      (λ number placed there t. linked_instr link_laws.references classes links are_links hierarchy tree has_class link_laws linked at file m part of_file
       of_method of_code (ascend s (instructions s) (laws.order s)) number placed there)) where
         s : Scope
         s = scope_with classes file m part

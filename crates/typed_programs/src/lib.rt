@@ -3,4 +3,6 @@
 
 mod programs;
 
-pub use programs::a_verified_folder_is_a_typed_program;
+pub use programs::{
+    a_verified_folder_is_a_typed_program, linked_instructions_have_linked_operations,
+};

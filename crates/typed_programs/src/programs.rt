@@ -9,6 +9,7 @@ ghost use Rattle.member_link.specs.Machine.Links.{AreLinksOf};
 ghost use Rattle.member_link.specs.Machine.Programs.{Links};
 ghost use Rattle.type_rules.specs.Verified.{TypesFolder};
 ghost use Rattle.typed_runs.specs.FolderTypings.{HasTypings};
+ghost use Rattle.typed_runs.specs.LinkedInstrs.{LinksInstrs};
 ghost use Rattle.typed_runs.specs.TypedPrograms.{IsTypedProgram, Typings};
 
 use class_model::parameters_of_bytes_are_spelled;
@@ -44,5 +45,21 @@ pub fn a_verified_folder_is_a_typed_program()
     a_field_reference_passes();
     a_method_reference_passes();
     a_class_file_has_read_methods();
+    parameters_of_bytes_are_spelled();
+}
+
+/// What reading and linking accept of an instruction of a class of the folder is what typing asks of its operation, in the code of
+/// whatever class it stands.
+pub fn linked_instructions_have_linked_operations()
+    ensures { (classes : Classes) (links : Links)
+        → IsTree classes
+        → AreLinksOf (headers_of classes) links
+        → 0 < length classes.folder
+        → LinksInstrs (program_of classes links) classes }
+{
+    classes_of_a_tree_are_a_hierarchy();
+    a_named_class_passes();
+    a_field_reference_passes();
+    a_method_reference_passes();
     parameters_of_bytes_are_spelled();
 }
