@@ -27,6 +27,7 @@ use Rattle.typed_flats.proofs.MovedPoints.{replaced_typed}
 use Rattle.typed_flats.proofs.Numbered.{from_zero}
 use Rattle.typed_flats.specs.FlatTypings.{AreReady, SitesAreNews, flat_typing, flat_typings}
 use Rattle.typed_flats.specs.TypedReplacements.{KeepsRows, TypesCodes, all_typed_in}
+use Rattle.typed_runs.specs.FolderTypings.{HasFlatTypings}
 use Rattle.typed_runs.specs.LinkedInstrs.{LinksInstrs}
 use Rattle.typed_runs.specs.TypedPoints.{LeadsTo, TypedPoint}
 use Rattle.typed_runs.specs.TypedPrograms.{IsTypedMethod, IsTypedProgram, Typings}
@@ -94,7 +95,10 @@ module _ (classes : Classes) (links : Links) (tree : IsTree classes) (instrs : L
       by at method code is (Some flat) e (Some s) f runs =
           let known = scope_is_at classes at s f in
           let same : code ≡ flat_code classes links s flat = body_is method (flat_code classes links s flat) code (rw (e, f) at runs) in
-          let own = flat_method_typed at s flat known (ready.ready at flat s e f) (ready.sites at flat e) in
+          let stated = ready at flat e in
+          let own =
+          flat_method_typed at s flat known
+          (subst (λ (x : Scope). IsReadyCode classes x flat) (same_Some stated.scope s (sym stated.is_scope ∙ f)) stated.ready) stated.sites in
           let here : method_member s.class.pool s.method ≡ method.member =
           ap (λ (m : RunMethod). m.member) (same_Some (run_method_of links (headers_of classes) s.class s.method) method
           (sym (method_there classes links at s known) ∙ is)) in
@@ -107,3 +111,8 @@ module _ (classes : Classes) (links : Links) (tree : IsTree classes) (instrs : L
         → IsTypedProgram (replaced (program_of classes links) r) (all_typed_in (replaced (program_of classes links) r) (flat_typings classes flats typings))
     flat_program_typed keeps laws =
         replaced_typed typed r replaces.none_added laws keeps (flat_typings classes flats typings) codes_typed
+
+-- the frames of the methods that run flat codes
+pub flat_frames : (classes : Classes) (links : Links) (typings : Typings) (flats : Flats) (r : Replacement) → AreReady classes flats
+    → HasFlatTypings flats (all_typed_in (replaced (program_of classes links) r) (flat_typings classes flats typings))
+flat_frames classes links typings flats r ready at flat e = let own = ready at flat e in rw (e, own.is_scope) refl

@@ -35,12 +35,13 @@ SitesAreNews classes flat =
     → class_of_site flat.sites at ≡ Some class
     → class_of_flat_new classes flat at ≡ Some class
 
--- each flat code is one of which code can be written, and its sites are news
-pub record AreReady (classes : Classes) (flats : Flats) : Type 0 where
-  pub ready : (at : MethodAt) (flat : FlatCode) (s : Scope)
-      → flats at ≡ Some flat
-      → scope_at classes at ≡ Some s
-      → IsReadyCode classes s flat
-  pub sites : (at : MethodAt) (flat : FlatCode)
-      → flats at ≡ Some flat
-      → SitesAreNews classes flat
+-- a flat code of the method at its numbers, of which code can be written, and whose sites are news
+pub record IsReadyFlat (classes : Classes) (at : MethodAt) (flat : FlatCode) : Type 0 where
+  pub scope : Scope
+  pub is_scope : scope_at classes at ≡ Some scope
+  pub ready : IsReadyCode classes scope flat
+  pub sites : SitesAreNews classes flat
+
+abbrev pub AreReady : Classes → Flats → Type 0
+AreReady classes flats =
+    (at : MethodAt) (flat : FlatCode) → flats at ≡ Some flat → IsReadyFlat classes at flat

@@ -9,6 +9,7 @@ ghost use Rattle.same_runs.specs.ClearedFields.{ReplacesByFlats};
 ghost use Rattle.same_runs.specs.Flats.{Flats};
 ghost use Rattle.typed_flats.specs.FlatTypings.{AreReady, flat_typings};
 ghost use Rattle.typed_flats.specs.TypedReplacements.{KeepsRows, TypesCodes, all_typed_in};
+ghost use Rattle.typed_runs.specs.FolderTypings.{HasFlatTypings};
 ghost use Rattle.typed_runs.specs.LinkedInstrs.{LinksInstrs};
 ghost use Rattle.typed_runs.specs.TypedPrograms.{IsTypedProgram, Typings};
 
@@ -31,7 +32,7 @@ pub fn a_program_with_typed_codes_is_typed()
 /// methods are typed by the typed points of their flat codes, as they are read, and the others as they were. The folder is verified: its
 /// program is typed. Of the folder it is asked that linking gives typing what it asks of operations, and that rows hold where flags are cleared.
 pub fn flat_codes_run_typed()
-    ensures { (classes : Classes) (links : Links) (typings : Typings) (flats : Flats)
+    ensures program { (classes : Classes) (links : Links) (typings : Typings) (flats : Flats)
         (r : Replacement)
         → IsTree classes
         → IsTypedProgram (program_of classes links) typings
@@ -40,6 +41,12 @@ pub fn flat_codes_run_typed()
         → AreReady classes flats
         → ReplacesByFlats classes links flats r
         → IsTypedProgram (replaced (program_of classes links) r)
+        (all_typed_in (replaced (program_of classes links) r)
+        (flat_typings classes flats typings)) }
+    ensures frames { (classes : Classes) (links : Links) (typings : Typings) (flats : Flats)
+        (r : Replacement)
+        → AreReady classes flats
+        → HasFlatTypings flats
         (all_typed_in (replaced (program_of classes links) r)
         (flat_typings classes flats typings)) }
 {

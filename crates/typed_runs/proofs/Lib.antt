@@ -33,6 +33,7 @@ mod FamilySteps
 mod FieldOwners
 mod FieldPlaces
 mod FieldValues
+mod FlatFrames
 mod Floats
 mod FolderFields
 mod Given

@@ -1,6 +1,7 @@
 -- Frames of a run that conform to the frames of the points at which they stand (JVM Specification SE 8, 2.6 and 4.10.1.6). What stands directly
 -- above a frame tells whether it waits.
 use Rattle.std.specs.Prelude.{◌≡◌, ℕ, List, [], ◌∷◌, reverse, slice_get, Option, Some, None, IfSome, IsSome, IsTrue, if◌then◌else◌}
+use Rattle.class_model.specs.declared.frame.Frame.{Frame}
 use Rattle.class_model.specs.declared.header.Member.{Member}
 use Rattle.machine_values.specs.Frames.{MethodState}
 use Rattle.machine_values.specs.Values.{is_wide_value}
@@ -119,3 +120,9 @@ pub data FramesConform (P : Program) (T : Typings) (heap : Heap)
       → FrameConforms P T heap above frame
       → FramesConform P T heap (above_of P frame) frames
       → FramesConform P T heap above (frame ∷ frames)
+
+-- the values of a method's frame conform to those of a frame of types
+pub record ConformsTo (P : Program) (T : Typings) (heap : Heap) (types : Frame) (f : MethodState)
+    : Type 0 where
+  pub locals : UnitsConform P (T f.at).scope heap types.locals f.locals
+  pub stack : AllConform P (T f.at).scope heap types.stack (reverse f.stack)

@@ -13,4 +13,4 @@ pub use steps::{
     an_instruction_on_arrays_stays_typed, an_instruction_on_fields_stays_typed,
     an_instruction_on_operands_stays_typed,
 };
-pub use worlds::a_run_starts_typed;
+pub use worlds::{a_run_starts_typed, frames_of_flat_code_conform};
