@@ -4,3 +4,4 @@ pub mod Instructions
 pub mod NumberedInstrs
 pub mod SuperChains
 pub mod CutMethods
+pub mod Searches

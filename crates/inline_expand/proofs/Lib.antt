@@ -5,7 +5,13 @@ mod AlonePoints
 mod CallUnits
 mod CalledMethods
 mod CalleeParts
+mod DecidedCallees
+mod DecidedCalls
+mod DecidedCandidates
+mod DecidedOpen
 mod DecidedRuns
+mod DecidedStanding
+mod DecidedWords
 mod DescriptorTexts
 mod ExpandedFlat
 mod ExpandedPoints
@@ -51,6 +57,7 @@ mod ShallowLevels
 mod ShapeParts
 mod SiteLaws
 mod SiteParts
+mod SomeExpansion
 mod SoundClasses
 mod StandingParts
 mod StoredClasses

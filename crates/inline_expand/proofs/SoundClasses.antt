@@ -50,7 +50,7 @@ each_name P (name ∷ names) all = (all name (or_left _ _ ((bytes_eq-Decides nam
 
 -- ---- final fields
 
-initialises_decided : (s : Scope) (class : Name) → Decision (Initialises s class)
+pub initialises_decided : (s : Scope) (class : Name) → Decision (Initialises s class)
 initialises_decided s class = elim (is_true (is_init s)) [
   | inl is ↦ elim (same_bytes (header_of s.class).name class) [
     | inl own ↦ inl (record { is_init = is; own = own })

@@ -82,7 +82,7 @@ pub record ScopeParts (classes : Classes) (at : MethodAt) (scope : Scope) : Type
   pub part : code_of scope.method.attrs ≡ Some scope.part
   pub headers : scope.headers ≡ headers_of classes
 
-scope_parts : (classes : Classes) (at : MethodAt) (scope : Scope) → scope_at classes at ≡ Some scope → ScopeParts classes at scope
+pub scope_parts : (classes : Classes) (at : MethodAt) (scope : Scope) → scope_at classes at ≡ Some scope → ScopeParts classes at scope
 scope_parts classes at scope is = of_class (slice_get classes.folder at.class) refl is
   where
     of_part : (class : ClassFile) (method : Method) → slice_get classes.folder at.class ≡ Some class → slice_get class.methods at.method ≡ Some method

@@ -42,4 +42,4 @@ pub use alone::flat_alone;
 pub use callees::callee;
 pub use candidates::{Candidates, candidate};
 pub use expanding::{Expander, expand};
-pub use laws::a_method_has_one_expanded_flat_code;
+pub use laws::{a_host_has_an_expanded_flat_code, a_method_has_one_expanded_flat_code};
