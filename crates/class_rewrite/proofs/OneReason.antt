@@ -3,7 +3,7 @@ use Rattle.std.proofs.Common.{◌≡◌, refl, subst}
 use Rattle.class_model.specs.declared.class_file.MethodAt.{MethodAt}
 use Rattle.class_rewrite.specs.Reasons.{HasReason}
 use Rattle.class_tree.specs.Headers.{Classes}
-use Rattle.expanded_code.specs.ExpandAnswers.{HasNoSite, IsExpanded, IsWide}
+use Rattle.expanded_code.specs.ExpandAnswers.{HasNoSite, IsExpanded, IsTooLong, IsWide}
 use Rattle.flow_code.specs.FlatCode.{FlatCode}
 use Rattle.flow_code.specs.TypedFrames.{FolderFrames}
 use Rattle.flow_code.specs.declared.reason.Reason.{Reason}
@@ -26,24 +26,24 @@ module _ (classes : Classes) (typed : FolderFrames) (at : MethodAt) (same : (one
   one_reason reasons.Expanded reasons.Host h i = absurd (h.0.host i)
   one_reason reasons.Expanded reasons.Float h i = absurd (h.0.no_float i.1)
   one_reason reasons.Expanded reasons.Expanded h i = refl
-  one_reason reasons.Expanded reasons.NoSite h i = absurd (i.3 (h.1 i.1 i.2))
-  one_reason reasons.Expanded reasons.Wide h i = absurd (i.3 (h.1 i.1 i.2))
-  one_reason reasons.Expanded reasons.NoGain h i = absurd (i.1.2 (h.1 i.0 i.1.1))
+  one_reason reasons.Expanded reasons.NoSite h i = absurd (i.3 (subst IsTooLong (same h.1 i.1 h.2 i.2) h.3))
+  one_reason reasons.Expanded reasons.Wide h i = absurd (i.3 (subst IsTooLong (same h.1 i.1 h.2 i.2) h.3))
+  one_reason reasons.Expanded reasons.NoGain h i = absurd (i.1.2 (subst IsTooLong (same h.1 i.0 h.2 i.1.1) h.3))
   one_reason reasons.NoSite reasons.Host h i = absurd (h.0.host i)
   one_reason reasons.NoSite reasons.Float h i = absurd (h.0.no_float i.1)
-  one_reason reasons.NoSite reasons.Expanded h i = absurd (h.3 (i.1 h.1 h.2))
+  one_reason reasons.NoSite reasons.Expanded h i = absurd (h.3 (subst IsTooLong (same i.1 h.1 i.2 h.2) i.3))
   one_reason reasons.NoSite reasons.NoSite h i = refl
   one_reason reasons.NoSite reasons.Wide h i = absurd (i.4 (subst HasNoSite (same h.1 i.1 h.2 i.2) h.4))
   one_reason reasons.NoSite reasons.NoGain h i = absurd (i.1.3 (subst HasNoSite (same h.1 i.0 h.2 i.1.1) h.4))
   one_reason reasons.Wide reasons.Host h i = absurd (h.0.host i)
   one_reason reasons.Wide reasons.Float h i = absurd (h.0.no_float i.1)
-  one_reason reasons.Wide reasons.Expanded h i = absurd (h.3 (i.1 h.1 h.2))
+  one_reason reasons.Wide reasons.Expanded h i = absurd (h.3 (subst IsTooLong (same i.1 h.1 i.2 h.2) i.3))
   one_reason reasons.Wide reasons.NoSite h i = absurd (h.4 (subst HasNoSite (same i.1 h.1 i.2 h.2) i.4))
   one_reason reasons.Wide reasons.Wide h i = refl
   one_reason reasons.Wide reasons.NoGain h i = absurd (i.1.4 (subst IsWide (same h.1 i.0 h.2 i.1.1) h.5))
   one_reason reasons.NoGain reasons.Host h i = absurd (h.1.0.host i)
   one_reason reasons.NoGain reasons.Float h i = absurd (h.1.0.no_float i.1)
-  one_reason reasons.NoGain reasons.Expanded h i = absurd (h.1.2 (i.1 h.0 h.1.1))
+  one_reason reasons.NoGain reasons.Expanded h i = absurd (h.1.2 (subst IsTooLong (same i.1 h.0 i.2 h.1.1) i.3))
   one_reason reasons.NoGain reasons.NoSite h i = absurd (h.1.3 (subst HasNoSite (same i.1 h.0 i.2 h.1.1) i.4))
   one_reason reasons.NoGain reasons.Wide h i = absurd (h.1.4 (subst IsWide (same i.1 h.0 i.2 h.1.1) i.5))
   one_reason reasons.NoGain reasons.NoGain h i = refl

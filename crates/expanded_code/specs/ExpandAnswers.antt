@@ -78,7 +78,9 @@ AnswersExpanded classes typed at (Err (faults.Kept reasons.Float)) =
     (¬ IsNoHost classes at) × HasFloat classes at
 AnswersExpanded classes typed at (Err (faults.Kept reasons.Expanded)) =
     IsOpenHost classes at
-    × ((flat : FlatCode) → IsExpanded classes typed at flat → IsTooLong flat)
+    × (flat : FlatCode)
+    × IsExpanded classes typed at flat
+    × IsTooLong flat
 AnswersExpanded classes typed at (Err (faults.Kept reasons.NoSite)) =
     IsOpenHost classes at
     × (flat : FlatCode)

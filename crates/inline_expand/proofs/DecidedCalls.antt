@@ -1,5 +1,5 @@
 -- It is decided which method of the folder a call runs.
-use Rattle.std.proofs.Common.{◌≡◌, ◌⊎◌, ◌==◌, not, cond, ℕ, suc, Bool, true, false, List, [], ◌∷◌, slice_get, codes, Option, Some, None, IsTrue, IsFalse, refl, sym, ap, subst, ◌∙◌, inl, inr, eqb-true}
+use Rattle.std.proofs.Common.{◌≡◌, ◌⊎◌, ◌==◌, not, cond, ℕ, Bool, true, false, List, [], ◌∷◌, slice_get, codes, Option, Some, None, IsTrue, IsFalse, refl, sym, ap, subst, ◌∙◌, inl, inr, eqb-true}
 use Rattle.std.proofs.lemmas.Bool.{and_parts, cases_eq, false≢true}
 use Rattle.std.proofs.lemmas.Option.{none-some, same_Some}
 use Rattle.class_model.specs.Characters.{left_bracket}
@@ -14,7 +14,7 @@ use Rattle.class_tree.specs.Headers.{Classes, Headers, Name, class_named, header
 use Rattle.class_tree.specs.Hierarchy.{IsHierarchy}
 use Rattle.class_tree.specs.Laws.Decided.{same_bytes}
 use Rattle.class_tree.specs.Laws.Headers.{own_name, same_class}
-use Rattle.class_tree.specs.Names.{is_member, method_handle, object}
+use Rattle.class_tree.specs.Names.{method_handle, object}
 use Rattle.class_tree.specs.Order.{member_place, place_of}
 use Rattle.class_tree.specs.Subtype.{IsArray, IsBelow}
 use Rattle.class_tree.specs.declared.place.Place.{Place}
@@ -29,6 +29,7 @@ use Rattle.inline_expand.specs.Inner.Calls.{Called, DecidesRun, call_at, called_
 use Rattle.member_link.specs.Declarations.{IsFolderMethod}
 use Rattle.member_link.specs.DeclaredMembers.{Declared, declared, declared_by}
 use Rattle.member_link.specs.Laws.FolderClasses.{class_of_folder, folder_index}
+use Rattle.member_link.specs.Laws.OwnMembers.{own_of_declared}
 use Rattle.member_link.specs.Methods.{FindsMethod, IsInLibrary, IsPolymorphic}
 use Rattle.member_link.specs.Overriding.{Overrides}
 use Rattle.member_link.specs.References.{Reference}
@@ -38,7 +39,7 @@ use Rattle.member_link.specs.Upwards.{FirstUpwards, in_absent_class, in_itself, 
 use Rattle.member_link.specs.declared.selection.CallForm.{CallForm}
 use Rattle.member_link.specs.declared.selection.CallForm.TheVariants.{Special, Virtual}
 
--- ---- names, and members that are declared
+-- ---- names and tests
 
 start_same : (name : Name) → ¬ IsArray name → start_of name ≡ name
 start_same [] flat = refl
@@ -50,16 +51,6 @@ start_same (first ∷ rest) flat = by (first == left_bracket) refl where
 not_true : (test : Bool) → IsTrue (not test) → IsFalse test
 not_true true is = absurd (false≢true is)
 not_true false is = refl
-
-declared_there : (name desc : List ℕ) (members : List Member) (member : Member) → declared name desc members ≡ Some member
-    → (number : ℕ) × (slice_get members number ≡ Some member)
-declared_there name desc [] member is = absurd (none-some member is)
-declared_there name desc (first ∷ members) member is = by (is_member name desc first) is (declared_there name desc members member) where
-  by : (test : Bool) → cond test (Some first) (declared name desc members) ≡ Some member
-      → (declared name desc members ≡ Some member → (number : ℕ) × (slice_get members number ≡ Some member))
-      → (number : ℕ) × (slice_get (first ∷ members) number ≡ Some member)
-  by true here later = (0, here)
-  by false there later = let at = later there in (suc at.0, at.1)
 
 -- ---- methods of the folder that override another
 
@@ -145,13 +136,13 @@ module _ (headers : Headers) (hierarchy : IsHierarchy headers) (answers : HasAns
   one_overrides : (low : Declared) → IsFolderMethod headers low → Overrides headers low high → OneOverrides
   one_overrides low folder overrides =
       let stands = folder_index headers low.class folder.header folder.found in
-      let place = declared_there low.member.name low.member.desc folder.header.methods low.member folder.declares in
+      let place = own_of_declared low.member.name low.member.desc folder.header.methods low.member folder.declares in
       let own : folder.header.name ≡ low.class = own_name headers low.class folder.header (class_of_folder headers low.class folder.header folder.found) in
       record {
         number = stands.0;
         item = folder.header;
         is = stands.1;
-        holds = record { number = place.0; item = low.member; is = place.1; holds = subst (λ (class : Name). IsOverriding class low.member) (sym own) (folder, overrides) };
+        holds = record { number = place.0; item = low.member; is = place.2; holds = subst (λ (class : Name). IsOverriding class low.member) (sym own) (folder, overrides) };
       }
 
   pub overridden_decided : Decision (IsOverriddenByNone headers high)

@@ -10,8 +10,7 @@ use Rattle.class_model.specs.declared.instr.Instr.{Instr}
 use Rattle.class_model.specs.declared.instr.Instr.TheVariants.{FloatAsk}
 use Rattle.class_model.specs.declared.instr.Placed.{Placed}
 use Rattle.class_tree.specs.Headers.{Classes}
-use Rattle.expanded_code.specs.Callees.{Calls}
-use Rattle.expanded_code.specs.ExpandAnswers.{AnswersExpanded, HasFloat, IsExpanded, IsNoHost, IsOpenHost, IsTooLong, has_no_code, is_initialiser}
+use Rattle.expanded_code.specs.ExpandAnswers.{AnswersExpanded, HasFloat, IsExpanded, IsNoHost, IsOpenHost, has_no_code, is_initialiser}
 use Rattle.expanded_code.specs.Expanded.{expanded, host_setting, points_of}
 use Rattle.expanded_code.specs.Expansions.{Coded, Expands, Expansion}
 use Rattle.expanded_code.specs.Sites.{HasFrames}
@@ -22,7 +21,7 @@ use Rattle.flow_code.specs.declared.reason.KeptFault.TheVariants as faults
 use Rattle.flow_code.specs.declared.reason.Reason.TheVariants as reasons
 use Rattle.inline_expand.proofs.ExpandedFlat.{expanded-is-flat}
 use Rattle.inline_expand.proofs.ExpandedPoints.{points-length, sites-are-candidates}
-use Rattle.inline_expand.proofs.OneExpansion.{coded_once, one_expansion}
+use Rattle.inline_expand.proofs.OneExpansion.{coded_once}
 use Rattle.inline_expand.proofs.ScopeParts.{scope-parts}
 use Rattle.inline_expand.specs.Inner.Growths.{IsHostExpansion, IsWhole}
 use Rattle.inline_expand.specs.Inner.Measures.{host_expansion}
@@ -119,7 +118,6 @@ host-kept classes typed at faults.NoMemory is = tt
 -- ---- the flat code of a host
 
 module _ (classes : Classes) (typed : FolderFrames)
-    (once : (s : Scope) (at : ℕ) (one other : MethodAt) → Calls classes s at one → Calls classes s at other → one ≡ other)
     (each : (at : MethodAt) (s : Scope) (frames : List Frame) → HasFrames classes typed at s frames → IsTypedMethod s frames)
     (host : MethodAt) where
   -- a host and an expansion of it
@@ -168,20 +166,11 @@ module _ (classes : Classes) (typed : FolderFrames)
         is = refl;
       }
 
-      -- there is no other
-      one-flat : (flat : FlatCode) → IsExpanded classes typed host flat → flat ≡ expanded coded expansion
-      one-flat flat is =
-          let code = of-expanded flat is in
-          let same = same-host is.host is.own code.frames in
-          let here = subst (λ (c : Coded). Expands classes typed c.at [] c.at (instructions c.scope) is.expansion) same code.expands in
-          let all = one_expansion once (instructions coded.scope) is.expansion expansion frames here expands in
-          is.is ∙ (λ i. expanded (same i) (all i))
-
       pub whole-answers : (result : Result FlatCode KeptFault) → IsOpenHost classes host → AnswersWhole (expanded coded expansion) result → AnswersExpanded classes typed host result
       whole-answers (Ok flat) open_ w = subst (λ (f : FlatCode). AnswersExpanded classes typed host (Ok f)) (sym w.0) (open_, is-expanded, w.1, w.2, w.3)
       whole-answers (Err (faults.Kept reasons.Host)) open_ w = elim w [ ]
       whole-answers (Err (faults.Kept reasons.Float)) open_ w = elim w [ ]
-      whole-answers (Err (faults.Kept reasons.Expanded)) open_ w = (open_, λ flat is. subst IsTooLong (sym (one-flat flat is)) w)
+      whole-answers (Err (faults.Kept reasons.Expanded)) open_ w = (open_, expanded coded expansion, is-expanded, w)
       whole-answers (Err (faults.Kept reasons.NoSite)) open_ w = (open_, expanded coded expansion, is-expanded, w.0, w.1)
       whole-answers (Err (faults.Kept reasons.Wide)) open_ w = (open_, expanded coded expansion, is-expanded, w.0, w.1, w.2)
       whole-answers (Err (faults.Kept reasons.NoGain)) open_ w = elim w [ ]

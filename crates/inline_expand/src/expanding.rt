@@ -7,7 +7,6 @@ ghost use Rattle.inline_expand.specs.Inner.WholeCodes.{IsHostFound, asks_float};
 ghost use Rattle.member_link.specs.Scope.{is_clinit, is_init};
 ghost use Rattle.type_rules.specs.Verified.{TypesFolder};
 
-use crate::calls::a_call_runs_one_method;
 use crate::candidates::Candidates;
 use crate::coded::CodedMethod;
 use crate::expanded::flats::{MOST_POINTS, flat_of};
@@ -15,6 +14,7 @@ use crate::expansions::expansion_of;
 use crate::folder_methods::FolderMethods;
 use crate::host::Host;
 use crate::known_frames::KnownFrames;
+use crate::laws::a_host_has_an_expanded_flat_code;
 use crate::typed_methods::each_method_is_typed;
 use crate::verdicts::Verdicts;
 use class_model::{CLINIT, INIT, Instr, MethodAt, NoMemory, Placed};
@@ -34,7 +34,7 @@ use type_rules::{TypedFolder, a_typed_folder_types_each_method};
 /// `Kept`, with the first of these reasons that holds:
 /// - `Host`: the method has no code, or is an instance or class initialiser;
 /// - `Float`: its own code has arithmetic of float or double;
-/// - `Expanded`: each flat code of it with its callees in place of their calls has more than 8,000 points; none is made;
+/// - `Expanded`: its flat code with its callees in place of their calls has more than 8,000 points; it is not made;
 /// - `NoSite`: it has no candidate site;
 /// - `Wide`: it has more than 256 sites, or 4,096 local units of the sites' fields; or the written code would have more than 65,535
 ///   local units; or the greatest depth of its typed stacks, in units, plus 70 passes 65,535.
@@ -160,7 +160,7 @@ fn expand_with<'t>(
     ensures right { AreRight tree.now typed.now at.class verdicts.new }
 {
     a_tree_is_a_hierarchy(tree);
-    a_call_runs_one_method();
+    a_host_has_an_expanded_flat_code();
     each_method_is_typed(tree, typed);
     let host = open_host(alloc, tree, typed, at)?;
     let most = usize::from(MOST_POINTS);

@@ -27,9 +27,9 @@ pub fn a_method_has_one_expanded_flat_code()
     a_call_runs_one_method();
 }
 
-/// Each method with code has an expanded flat code, where frames type the methods of a hierarchy's folder: so has each host
-/// (`IsNoHost`). Its length is not bounded here, and its code may have arithmetic of float or double: an expansion is as deep as the chain
-/// of its callees, which are at most six, and of each call it is decided whether a callee takes its place.
+/// Each method with code has an expanded flat code, where the classes are a hierarchy and frames type the folder's methods: so each
+/// host has one, and an initialiser too; a method without code has none. Nothing is asked of its length, or of arithmetic of float or
+/// double: of each call and each `new` it is decided what becomes of it, and a chain has at most six callees.
 pub fn a_host_has_an_expanded_flat_code()
     ensures coded { (classes : Classes) (typed : FolderFrames) (at : MethodAt) (scope : Scope)
         → IsHierarchy (headers_of classes)
