@@ -2,6 +2,7 @@ mod AloneCode
 mod AloneProgram
 mod FlatPlaces
 mod Plans
+mod Ready
 mod RenumberedArithmetic
 mod RenumberedArrays
 mod RenumberedEntry

@@ -1,44 +1,44 @@
 -- The typed points of expanded code type it.
-mod FlatParts
+pub mod FlatParts
 pub mod Units
 pub mod FrameFacts
-mod Starts
-mod Edges
+pub mod Starts
+pub mod Edges
 pub mod OwnPoints
-mod Handlers
-mod FlatTyped
-mod ThroughClass
-mod CallFacts
-mod ReturnFrames
+pub mod Handlers
+pub mod FlatTyped
+pub mod ThroughClass
+pub mod CallFacts
+pub mod ReturnFrames
 mod Blocks
 mod PlacedTypes
-mod PlacedRows
+pub mod PlacedRows
 mod PlacedArithmetic
 mod PlacedArrays
 mod PlacedLocals
-mod PlacedShuffles
+pub mod PlacedShuffles
 mod PlacedMembers
 mod PlacedCalls
 mod PlacedTable
 mod PlacedGoes
 mod PlacedReads
 mod PlacedThis
-mod FlatPlaces
+pub mod FlatPlaces
 mod FlatRows
 mod RowConditions
-mod InstrStarts
+pub mod InstrStarts
 mod SitesThere
-mod StandingPlaces
-mod RowUnits
+pub mod StandingPlaces
+pub mod RowUnits
 mod PlainPoints
-mod ReturnPoints
-mod Returns
-mod StoredUnits
-mod StorePoints
+pub mod ReturnPoints
+pub mod Returns
+pub mod StoredUnits
+pub mod StorePoints
 mod EntryTypes
-mod EntryFrames
-mod Entries
-mod Expanded
+pub mod EntryFrames
+pub mod Entries
+pub mod Expanded
 mod HostBegins
 mod PlainCalls
 mod InitCalls
@@ -50,11 +50,11 @@ mod StandingUnits
 pub mod FirstFrames
 mod ArrayKinds
 mod StackDepths
-mod ThisWithin
+pub mod ThisWithin
 mod ObjectsApart
 mod SiteObjects
 mod StayingCalls
-mod StandingRows
+pub mod StandingRows
 mod RowNews
 mod CalledObjects
 mod ReplacedRows

@@ -1,2 +1,3 @@
 pub mod AlonePrograms
+pub mod ByteCodes
 pub mod ExpandedPrograms

@@ -6,8 +6,10 @@ ghost use Rattle.class_model.specs.declared.class_file.MethodAt.{MethodAt};
 ghost use Rattle.class_tree.specs.Headers.{Classes, headers_of};
 ghost use Rattle.class_tree.specs.Trees.{IsTree};
 ghost use Rattle.expanded_code.specs.AloneAnswers.{IsFlatAlone};
+ghost use Rattle.expanded_code.specs.CandidateSites.{HasCandidateSites};
 ghost use Rattle.expanded_code.specs.ExpandAnswers.{IsExpanded, IsNoHost, IsWide};
 ghost use Rattle.expanded_runs.specs.AlonePrograms.{AreAlone};
+ghost use Rattle.expanded_runs.specs.ByteCodes.{HaveByteCodes};
 ghost use Rattle.expanded_runs.specs.ExpandedPrograms.{AreExpanded};
 ghost use Rattle.flow_code.specs.FlatCode.{FlatCode, point_at};
 ghost use Rattle.flow_code.specs.TypedFrames.{FolderFrames};
@@ -19,10 +21,13 @@ ghost use Rattle.member_link.specs.Machine.Programs.{Links};
 ghost use Rattle.member_link.specs.Machine.Replaced.{Replacement, replaced};
 ghost use Rattle.member_link.specs.Scope.{Scope, scope_at};
 ghost use Rattle.plan_flow.specs.Narrow.{IsNarrow};
+ghost use Rattle.plan_flow.specs.PlanScope.{scope_of as plan_scope};
 ghost use Rattle.plan_flow.specs.Plans.{FlowsInside};
+ghost use Rattle.plan_flow.specs.ReadyForPlans.{IsReadyForPlans};
 ghost use Rattle.same_runs.specs.EqualRuns.{EqualRuns};
 ghost use Rattle.same_runs.specs.FlatBodies.{body_of_flat, typed_points};
 ghost use Rattle.same_runs.specs.Flats.{Flats, flat_program};
+ghost use Rattle.same_runs.specs.ReadyCode.{IsReadyCode};
 ghost use Rattle.type_rules.specs.Typed.{TypesBody};
 ghost use Rattle.type_rules.specs.Verified.{TypesFolder};
 ghost use Rattle.typed_runs.specs.FolderTypings.{HasTypings};
@@ -192,4 +197,66 @@ pub fn a_flat_code_alone_can_be_planned()
     type_rules::a_method_stands_in_order();
     type_rules::frames_type_a_body_by_its_places();
     type_rules::a_typed_body_goes_to_stated_frames();
+}
+
+/// The expanded flat code of a host is ready to be written.
+///
+/// Its points type it, and each, reached or not, is an instruction of a class of the folder that reading and linking accept (`code`; the codes of the
+/// folder are bytes). Plans of it can be written: control stays inside, numbers fit, and the type of an uninitialised object of a site comes along
+/// each edge from a place of the same type or from its `new` (`plans`; it has no more sites and units than written code may have). Its sites are
+/// `new`s of candidate classes in the order of their points, and where it stores into a final field of a candidate's chain, it has a site of a class
+/// whose chain has the field's class, since the store stands in an initialiser of that class, and that in place of a call on a site's object
+/// (`sites`; JVM Specification SE 8, 6.5.putfield). The folder is verified: it is linked, frames type it, and its program is typed by them.
+pub fn an_expanded_flat_code_is_ready()
+    ensures code { (classes : Classes) (typed : FolderFrames) (links : Links) (typings : Typings)
+        (at : MethodAt) (flat : FlatCode) (s : Scope)
+        → IsTree classes
+        → HaveByteCodes classes
+        → IsLinked classes
+        → TypesFolder classes typed
+        → AreLinksOf (headers_of classes) links
+        → IsTypedProgram (program_of classes links) typings
+        → HasTypings typed typings
+        → IsExpanded classes typed at flat
+        → ¬ IsNoHost classes at
+        → scope_at classes at ≡ Some s
+        → IsReadyCode classes s flat }
+    ensures plans { (classes : Classes) (typed : FolderFrames) (links : Links) (typings : Typings)
+        (at : MethodAt) (flat : FlatCode)
+        → IsTree classes
+        → IsLinked classes
+        → TypesFolder classes typed
+        → AreLinksOf (headers_of classes) links
+        → IsTypedProgram (program_of classes links) typings
+        → HasTypings typed typings
+        → IsExpanded classes typed at flat
+        → ¬ IsNoHost classes at
+        → ¬ IsWide flat
+        → IsReadyForPlans (plan_scope classes links flat) }
+    ensures sites { (classes : Classes) (typed : FolderFrames) (links : Links) (typings : Typings)
+        (at : MethodAt) (flat : FlatCode)
+        → IsTree classes
+        → TypesFolder classes typed
+        → AreLinksOf (headers_of classes) links
+        → IsTypedProgram (program_of classes links) typings
+        → HasTypings typed typings
+        → IsExpanded classes typed at flat
+        → ¬ IsNoHost classes at
+        → HasCandidateSites classes flat }
+{
+    class_model::parameters_are_spelled();
+    class_model::a_descriptor_of_a_text();
+    code_bytes::a_class_file_has_read_methods();
+    code_bytes::instructions_are_consecutive();
+    member_link::a_linked_folder_passes_by_place();
+    member_link::a_look_up_finds_one_method();
+    member_link::a_found_method_is_above();
+    member_link::a_selection_chooses_one();
+    member_link::a_choice_can_be_run();
+    type_rules::a_typed_folder_types_each_method();
+    type_rules::a_typed_method_types_each_instruction();
+    type_rules::a_method_stands_in_order();
+    type_rules::frames_type_a_body_by_its_places();
+    type_rules::a_typed_body_goes_to_stated_frames();
+    typed_runs::a_step_stays_typed();
 }

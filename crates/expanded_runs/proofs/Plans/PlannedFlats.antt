@@ -66,7 +66,7 @@ narrow_points locals (point ∷ points) fit are =
 -- ---- each method
 
 -- the length of a code, as it is checked
-code_short : (code : List ℕ) → AllHold (decoding_checks code) → length code < 65536
+pub code_short : (code : List ℕ) → AllHold (decoding_checks code) → length code < 65536
 code_short code holds =
     let both = and_parts (nat_lt 0 (length code)) (nat_lt (length code) 65536) holds.0 in
     grind (arith, nat_tests, both.1)
@@ -87,7 +87,7 @@ module _ (laws : TypingLaws) (one : OneEach) (read : (bytes : List ℕ) (class :
         code_has HasFew IsFew (λ name part own. own) s.method.attrs s.part
         (at_index AreFew s.class.methods at.method s.method (few_of_class s.class is_file) where_is.of_class) where_is.has_code
 
-    short : length s.part.code < 65536
+    pub short : length s.part.code < 65536
     short =
         let where_is = scope_is_at classes at s has.is_scope in
         let method = at_index (IsReadMethod s.class.pool) s.class.methods at.method s.method (read _ s.class is_file) where_is.of_class in

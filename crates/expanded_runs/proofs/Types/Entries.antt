@@ -103,10 +103,10 @@ module _ (laws : TypingLaws) {classes : Classes} {typed : FolderFrames} (folder 
     own_stands : IsStanding host e (g.at ∷ chain) (inner_standing p k placed frame g inner)
     own_stands = callee_stands k placed frame g inner standing at
 
-    count_same : length (arguments g.scope (block_of p k)) ≡ length (arguments g.scope 0)
+    pub count_same : length (arguments g.scope (block_of p k)) ≡ length (arguments g.scope 0)
     count_same = length_arguments g.scope (block_of p k)
 
-    stack_is : (set_frame p.setting frame).stack ≡ below ++ entries
+    pub stack_is : (set_frame p.setting frame).stack ≡ below ++ entries
     stack_is =
         let stack = (set_frame p.setting frame).stack in
         let count = length (arguments g.scope (block_of p k)) in
@@ -115,7 +115,7 @@ module _ (laws : TypingLaws) {classes : Classes} {typed : FolderFrames} (folder 
         ∙ topmost_set t (length (arguments g.scope 0)) t.below.stack frame.stack known.enough in
         sym (take-append-drop (length stack - count) stack) ∙ ap (λ (l : List VType). below ++ l) tops
 
-    frame_split : set_frame p.setting frame ≡ record { locals = locals; stack = below ++ entries }
+    pub frame_split : set_frame p.setting frame ≡ record { locals = locals; stack = below ++ entries }
     frame_split = λ i. record { locals = locals; stack = stack_is i }
 
     -- ---- the first frame
@@ -124,7 +124,7 @@ module _ (laws : TypingLaws) {classes : Classes} {typed : FolderFrames} (folder 
       pub begin : Frame
       pub is : slice_get g.frames 0 ≡ Some begin
 
-    first_frame : FirstFrame
+    pub first_frame : FirstFrame
     first_frame =
         let start = callee_starts (stands chain p standing).fits k at.becomes in
         let fits = (stands _ _ own_stands).fits in
@@ -133,7 +133,7 @@ module _ (laws : TypingLaws) {classes : Classes} {typed : FolderFrames} (folder 
         record { begin = found.0; is = found.1 }
 
     module _ (first : FirstFrame) where
-      begins : IsFrameAssignable s.headers (entry g.scope) first.begin
+      pub begins : IsFrameAssignable s.headers (entry g.scope) first.begin
       begins =
           subst (λ (h : Headers). IsFrameAssignable h (entry g.scope) first.begin)
           (own_headers laws folder facts host e stands s headers own_stands)
@@ -149,7 +149,7 @@ module _ (laws : TypingLaws) {classes : Classes} {typed : FolderFrames} (folder 
 
       module _ (x : IsEntered (expanded host e) s.headers p.setting (inner_setting p k placed frame g inner) g.scope (block_of p k)
           (topmost (length (arguments g.scope 0)) frame.stack) first.begin.locals) where
-        long : length (units_of_entries entries) + x.count ≡ length first.begin.locals
+        pub long : length (units_of_entries entries) + x.count ≡ length first.begin.locals
         long =
             let all = as_long s.headers _ _ x.pass in
             omega (
@@ -162,23 +162,23 @@ module _ (laws : TypingLaws) {classes : Classes} {typed : FolderFrames} (folder 
               length-replicate x.count types.Top,
             )
 
-        room : block_of p k + length first.begin.locals ≤ length locals
+        pub room : block_of p k + length first.begin.locals ≤ length locals
         room =
             let st = stands _ _ own_stands in
             let own = facts.long g.at g.scope g.frames st.has 0 first.begin first.is in
             let all = whole facts host e stands standing k frame at.has_frame in
             omega (arith, own, all, st.own_units, st.all_units)
 
-        fits : block_of p k + length (units_of_entries entries) ≤ length locals
+        pub fits : block_of p k + length (units_of_entries entries) ≤ length locals
         fits = omega (arith, long, room)
 
-        tops : TopsFrom (block_of p k) locals
+        pub tops : TopsFrom (block_of p k) locals
         tops = (room_of_standing facts host e stands own_stands).tops
 
         abbrev behind : Frame
         behind = record { locals = overlaid (block_of p k) (units_of_entries entries) locals; stack = below }
 
-        behind_is : frame_behind_stores (set_frame p.setting frame) (reverse (arguments g.scope (block_of p k))) ≡ behind
+        pub behind_is : frame_behind_stores (set_frame p.setting frame) (reverse (arguments g.scope (block_of p k))) ≡ behind
         behind_is =
             ap (λ (f : Frame). frame_behind_stores f (reverse (arguments g.scope (block_of p k)))) frame_split
             ∙ stores_over (block_of p k) (arguments g.scope (block_of p k)) entries locals below x.laid fits known.clear tops
@@ -227,7 +227,7 @@ module _ (laws : TypingLaws) {classes : Classes} {typed : FolderFrames} (folder 
         abbrev entry_points : List Point
         entry_points = points_of_entry p.setting placed.at (set_frame p.setting frame) g.scope (block_of p k)
 
-        stands_there : (n : ℕ) (point : Point)
+        pub stands_there : (n : ℕ) (point : Point)
             → slice_get (points_of_entry p.setting placed.at (set_frame p.setting frame) g.scope (block_of p k)) n ≡ Some point
             → point_at (expanded host e) (start_of p k + n) ≡ Some point
         stands_there n point is =
@@ -241,13 +241,13 @@ module _ (laws : TypingLaws) {classes : Classes} {typed : FolderFrames} (folder 
         goes_in : MayGoToPoint classes s (expanded host e) (Some (read_frame (expanded host e) behind)) (start_of p k + points_before g.scope)
         goes_in = goes_to laws folder facts host e stands s headers own_stands 0 first.begin first.is (read_frame (expanded host e) behind) final
 
-        args_before : length (arguments g.scope (block_of p k)) + (if tests_receiver g.scope then 1 else 0) ≡ points_before g.scope
+        pub args_before : length (arguments g.scope (block_of p k)) + (if tests_receiver g.scope then 1 else 0) ≡ points_before g.scope
         args_before = ap (λ (n : ℕ). n + (if tests_receiver g.scope then 1 else 0)) count_same
 
         abbrev stores : List Point
         stores = store_points p.setting placed.at (set_frame p.setting frame) (reverse (arguments g.scope (block_of p k)))
 
-        stores_long : length stores ≡ length (arguments g.scope (block_of p k))
+        pub stores_long : length stores ≡ length (arguments g.scope (block_of p k))
         stores_long =
             length_stores p.setting placed.at (set_frame p.setting frame) (reverse (arguments g.scope (block_of p k)))
             ∙ length-reverse (arguments g.scope (block_of p k))
@@ -255,14 +255,14 @@ module _ (laws : TypingLaws) {classes : Classes} {typed : FolderFrames} (folder 
         abbrev test : Point
         test = record { instr = NullTest (block_of p k); typed = behind; handlers = p.setting.handlers placed.at }
 
-        tests_is : tests_receiver g.scope ≡ true
+        pub tests_is : tests_receiver g.scope ≡ true
             → test_points p.setting placed.at (frame_behind_stores (set_frame p.setting frame) (reverse (arguments g.scope (block_of p k)))) g.scope (block_of p k)
             ≡ test ∷ []
         tests_is yes_tests =
             ap (λ (f : Frame). test_points p.setting placed.at f g.scope (block_of p k)) behind_is
             ∙ ap (λ (b : Bool). if b then test ∷ [] else []) yes_tests
 
-        tests_none : tests_receiver g.scope ≡ false
+        pub tests_none : tests_receiver g.scope ≡ false
             → test_points p.setting placed.at (frame_behind_stores (set_frame p.setting frame) (reverse (arguments g.scope (block_of p k)))) g.scope (block_of p k)
             ≡ []
         tests_none no_tests = ap (λ (b : Bool). if b then (record {
@@ -278,7 +278,7 @@ module _ (laws : TypingLaws) {classes : Classes} {typed : FolderFrames} (folder 
             (p.setting.handlers placed.at)
         catches = handlers_typed laws folder facts host e stands s headers this_known standing k placed frame at.is at.has_frame
 
-        least : host.scope.part.max_locals ≤ block_of p k
+        pub least : host.scope.part.max_locals ≤ block_of p k
         least =
             let one = least_block laws folder facts host e stands s headers standing in
             omega (arith, one, block_least p.block p.expansion k)
@@ -290,7 +290,7 @@ module _ (laws : TypingLaws) {classes : Classes} {typed : FolderFrames} (folder 
             (block_of p k) entries least fits x.free
 
         -- the test
-        test_there : tests_receiver g.scope ≡ true → point_at (expanded host e) (start_of p k + length (arguments g.scope (block_of p k))) ≡ Some test
+        pub test_there : tests_receiver g.scope ≡ true → point_at (expanded host e) (start_of p k + length (arguments g.scope (block_of p k))) ≡ Some test
         test_there yes_tests =
             stands_there (length (arguments g.scope (block_of p k))) test
             (ap (slice_get entry_points) (sym stores_long ∙ omega arith)

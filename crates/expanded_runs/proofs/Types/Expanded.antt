@@ -133,6 +133,33 @@ pub record KnownTypes (classes : Classes) (typed : FolderFrames) : Type 0 where
       → (n : ℕ) (type : VType) → slice_get frame.stack n ≡ Some type
       → IsKnown s.headers type
 
+-- ---- what follows of these rows
+
+module _ (laws : TypingLaws) {classes : Classes} {typed : FolderFrames} (folder : TypesFolder classes typed) (facts : FrameFacts classes typed)
+    (host : Coded) (e : Expansion) (stands : (chain : List MethodAt) (p : Standing) → IsStanding host e chain p → Stands classes typed host e chain p)
+    (rows : MethodRows classes host.scope host e) where
+  pub entry_facts : (chain : List MethodAt) (p : Standing) → IsStanding host e chain p → (k : ℕ) (placed : Placed) (frame : Frame) (g : Coded)
+      (inner : Expansion)
+      → IsReplacedAt p k placed frame g inner
+      → EntryFacts (expanded host e) host.scope.headers p k placed frame g inner
+  entry_facts chain p standing k placed frame g inner at = record {
+    enough = (rows.calls chain p standing k placed frame g inner at).enough;
+    passed = rows.passes chain p standing k placed frame g inner at;
+    clear = record {
+      narrow = λ before type same is.
+          narrow_block facts (folder_paired laws folder) host e stands rows.narrow (callee_stands k placed frame g inner standing at) before type same is;
+    };
+  }
+
+  pub this_known : IsHierarchy host.scope.headers → ArrayInterfaces host.scope.headers → (chain : List MethodAt) (p : Standing)
+      → IsStanding host e chain p
+      → IsSome p.setting.behind
+      → p.setting.this ≢ types.UninitThis
+  this_known own_hierarchy own_arrays chain p host_stands some = absurd cc
+  this_known own_hierarchy own_arrays _ _ (callee_stands {chain = chain} {p = p} k placed frame g inner below at) some =
+      this_other (expanded host e) host.scope.headers own_hierarchy own_arrays p k placed frame g inner
+      (entry_facts chain p below k placed frame g inner at)
+
 module _ (laws : TypingLaws) (one : OneEach) {classes : Classes} {typed : FolderFrames} (folder : TypesFolder classes typed)
     (files : AllByRecursion IsClassFile classes.folder) (types_known : KnownTypes classes typed) (hierarchy : IsHierarchy (headers_of classes)) (arrays : ArrayInterfaces (headers_of classes)) where
   facts : FrameFacts classes typed
@@ -150,7 +177,7 @@ module _ (laws : TypingLaws) (one : OneEach) {classes : Classes} {typed : Folder
       let start = has_first laws.types_each one classes typed folder host has in
       let many = as_many laws.types_each one classes typed folder host has in
       let first = item_there host.frames 0 (omega (arith, many, slice_get_within (instructions host.scope) 0 start.0 start.1)) in
-      types_flat laws folder facts host e stands host.scope headers (this_known own_hierarchy own_arrays) (record {
+      types_flat laws folder facts host e stands host.scope headers (this_known laws folder facts host e stands rows own_hierarchy own_arrays) (record {
         rows = λ chain p standing k placed frame is there own stays.
             placed_row classes host.scope (expanded host e) p.setting placed frame
             (own_headers laws folder facts host e stands host.scope headers standing)
@@ -158,40 +185,17 @@ module _ (laws : TypingLaws) (one : OneEach) {classes : Classes} {typed : Folder
             ((stands chain p standing).numbers placed.at
             ∙ ap (start_of p) (number_is laws folder facts host e stands host.scope headers standing k placed frame is there));
         returns =
-            returns_typed laws folder facts host e stands host.scope headers (this_known own_hierarchy own_arrays) own_hierarchy own_arrays rows.calls;
+            returns_typed laws folder facts host e stands host.scope headers (this_known laws folder facts host e stands rows own_hierarchy own_arrays) own_hierarchy own_arrays rows.calls;
         entries = λ number point part.
             subst (λ (n : ℕ). TypesPoint classes host.scope (expanded host e) n point) (sym part.number_is)
-            (entry_point_typed laws folder facts host e stands host.scope headers (this_known own_hierarchy own_arrays) own_hierarchy own_arrays
+            (entry_point_typed laws folder facts host e stands host.scope headers (this_known laws folder facts host e stands rows own_hierarchy own_arrays) own_hierarchy own_arrays
             rows.calls part.standing part.k part.placed part.frame part.g part.inner part.here
-            (entry_facts part.chain part.p part.standing part.k part.placed part.frame part.g part.inner part.here) part.behind point part.there);
+            (entry_facts laws folder facts host e stands rows part.chain part.p part.standing part.k part.placed part.frame part.g part.inner part.here) part.behind point part.there);
         begins = host_begins laws folder facts host e stands headers first.0 first.1;
       })
     where
       stands : (chain : List MethodAt) (p : Standing) → IsStanding host e chain p → Stands classes typed host e chain p
       stands chain p standing = stands_so laws.types_each one classes typed folder host e has expands standing
-
-      entry_facts : (chain : List MethodAt) (p : Standing) → IsStanding host e chain p → (k : ℕ) (placed : Placed) (frame : Frame) (g : Coded)
-          (inner : Expansion)
-          → IsReplacedAt p k placed frame g inner
-          → EntryFacts (expanded host e) host.scope.headers p k placed frame g inner
-      entry_facts chain p standing k placed frame g inner at = record {
-        enough = (rows.calls chain p standing k placed frame g inner at).enough;
-        passed = rows.passes chain p standing k placed frame g inner at;
-        clear = record {
-          narrow = λ before type same is.
-              narrow_block facts (folder_paired laws folder) host e stands rows.narrow (callee_stands k placed frame g inner standing at) before type same
-              is;
-        };
-      }
-
-      this_known : IsHierarchy host.scope.headers → ArrayInterfaces host.scope.headers → (chain : List MethodAt) (p : Standing)
-          → IsStanding host e chain p
-          → IsSome p.setting.behind
-          → p.setting.this ≢ types.UninitThis
-      this_known own_hierarchy own_arrays chain p host_stands some = absurd cc
-      this_known own_hierarchy own_arrays _ _ (callee_stands {chain = chain} {p = p} k placed frame g inner below at) some =
-          this_other (expanded host e) host.scope.headers own_hierarchy own_arrays p k placed frame g inner
-          (entry_facts chain p below k placed frame g inner at)
 
   -- The typed points of the flat code of a method type it.
   pub expanded_types : (at : MethodAt) (flat : FlatCode) → (is : IsExpanded classes typed at flat) → (s : Scope) → scope_at classes at ≡ Some s

@@ -103,14 +103,14 @@ module _ (p : Standing) (done : ℕ) (placed : Placed) (frame : Frame) (instrs :
   later : (k : ℕ) → done + suc k ≡ suc done + k
   later k = omega arith
 
-  next_tail : IsTail p (suc done) instrs frames more
+  pub next_tail : IsTail p (suc done) instrs frames more
   next_tail = record {
     is = λ k. tail.is (suc k) ∙ ap (slice_get (instrs_of p)) (later k);
     has = λ k. tail.has (suc k) ∙ ap (slice_get (frames_of p)) (later k);
     becomes_is = λ k. sym (step k) ∙ tail.becomes_is (suc k) ∙ ap (becomes p.expansion) (later k);
   }
 
-  next_number : start_of p (suc done) ≡ start_of p done + width (callee_of p.setting) placed (becomes e 0)
+  pub next_number : start_of p (suc done) ≡ start_of p done + width (callee_of p.setting) placed (becomes e 0)
   next_number =
       next_start (callee_of p.setting) p.first (instrs_of p) p.expansion done placed first_is
       ∙ ap (λ (b : Becomes). start_of p done + width (callee_of p.setting) placed b) first_becomes

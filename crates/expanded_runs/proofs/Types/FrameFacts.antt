@@ -91,7 +91,7 @@ module _ {classes : Classes} {typed : FolderFrames} (facts : FrameFacts classes 
     pub all : length p.setting.below.locals ≡ (expanded host e).locals
     pub tops : TopsFrom p.setting.unit p.setting.below.locals
 
-  own_long : {chain : List MethodAt} {p : Standing} → IsStanding host e chain p → (k : ℕ) (frame : Frame)
+  pub own_long : {chain : List MethodAt} {p : Standing} → IsStanding host e chain p → (k : ℕ) (frame : Frame)
       → slice_get (frames_of p) k ≡ Some frame
       → length frame.locals ≡ (scope_of p).part.max_locals
   own_long {p = p} standing k frame is = facts.long p.setting.coded.at (scope_of p) (frames_of p) (stands _ p standing).has k frame is

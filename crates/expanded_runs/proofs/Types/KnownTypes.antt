@@ -116,7 +116,7 @@ pub record DecodedAt (part : CodePart) (number : ℕ) (placed : Placed) : Type 0
   pub decodes : decoded part.code ≡ Ok instrs
   pub there : slice_get instrs number ≡ Some placed
 
-decoded_at : (s : Scope) (number : ℕ) (placed : Placed) → slice_get (instructions s) number ≡ Some placed → DecodedAt s.part number placed
+pub decoded_at : (s : Scope) (number : ℕ) (placed : Placed) → slice_get (instructions s) number ≡ Some placed → DecodedAt s.part number placed
 decoded_at s number placed is = by (decoded s.part.code) refl where
   by : (r : Result (List Placed) Fault) → decoded s.part.code ≡ r → DecodedAt s.part number placed
   by (Ok instrs) e = record { instrs = instrs; decodes = e; there = rw e at is }
@@ -157,10 +157,10 @@ module _ (laws : NameLaws) {classes : Classes} (tree : IsTree classes) (linked :
 
   -- ---- the code by its place
 
-  attr : (n : ℕ) × (name : ℕ) × (slice_get s.method.attrs n ≡ Some (Code name s.part))
+  pub attr : (n : ℕ) × (name : ℕ) × (slice_get s.method.attrs n ≡ Some (Code name s.part))
   attr = code_attr s.method.attrs s.part where_is.has_code
 
-  abbrev code_there : CodeAt classes at.class at.method
+  abbrev pub code_there : CodeAt classes at.class at.method
   code_there = record {
     class = s.class;
     method = s.method;
@@ -174,10 +174,10 @@ module _ (laws : NameLaws) {classes : Classes} (tree : IsTree classes) (linked :
     code_is = attr.2;
   }
 
-  abbrev site : Site
+  abbrev pub site : Site
   site = site_of (header_of s.class) (method_member s.class.pool s.method)
 
-  operand_fits : (k : ℕ) (placed : Placed) → DecodedAt s.part k placed
+  pub operand_fits : (k : ℕ) (placed : Placed) → DecodedAt s.part k placed
       → OperandFits s.class.pool s.class.major s.part.max_locals placed.instr
   operand_fits k placed d =
       let have : HaveOperands s.class.pool s.class.major s.part.max_locals (decoded s.part.code) =

@@ -17,7 +17,7 @@ use Rattle.member_link.specs.Rows.ShuffleRows.{Form, Width, one, two, form_in, f
 -- ---- no two forms fit one stack
 
 -- the topmost entries have these widths
-abbrev fit_form : List Width → List VType → Bool
+abbrev pub fit_form : List Width → List VType → Bool
 fit_form widths stack = have_widths widths (topmost (length widths) stack)
 
 -- counted from the top, they differ at an entry
@@ -49,7 +49,7 @@ widths_above [] above entries is = is
 widths_above (width ∷ under) above [] is = absurd cc
 widths_above (width ∷ under) above (entry ∷ entries) is = widths_above under above entries (both_true is).1
 
-form_many : (widths : List Width) (stack : List VType) → fit_form widths stack ≡ true → length widths ≤ length stack
+pub form_many : (widths : List Width) (stack : List VType) → fit_form widths stack ≡ true → length widths ≤ length stack
 form_many widths stack is =
     omega (arith, widths_many widths (topmost (length widths) stack) is, length-drop (length stack - length widths) stack)
 
@@ -118,6 +118,48 @@ forms_apart opcode =
     )
     (either_apart (opcode == SWAP) _ _ (tt, tt) tt))))))))
 
+-- ---- what fits one stack fits another
+
+-- Where each form that fits a stack fits another too, the form of an opcode is the same over both.
+module _ (stack over : List VType) (kept : (widths : List Width) → fit_form widths stack ≡ true → fit_form widths over ≡ true) where
+  record IsFound (first : List Width) (form : Form) : Type 0 where
+    clash : Clash first form.takes
+    fits : fit_form form.takes stack ≡ true
+
+  found_among : (first : List Width) (others : List Form) (form : Form)
+      → AllByRecursion (λ other. Clash first other.takes) others → form_in others stack ≡ Some form → IsFound first form
+  found_among first [] form clash is = absurd cc
+  found_among first (other ∷ others) form clash is =
+      by (fit_form other.takes stack) refl is (found_among first others form clash.1) where
+        by : (fits : Bool) → fit_form other.takes stack ≡ fits → (if fits then Some other else form_in others stack) ≡ Some form
+            → (form_in others stack ≡ Some form → IsFound first form)
+            → IsFound first form
+        by true fits found below =
+            let same : other ≡ form = cc in
+            subst (IsFound first) same (record { clash = clash.0; fits = fits })
+        by false fits found below = below found
+
+  form_over : (forms : List Form) (form : Form) → AreApart forms → form_in forms stack ≡ Some form → form_in forms over ≡ Some form
+  form_over [] form apart is = absurd cc
+  form_over (first ∷ others) form apart is =
+      by (fit_form first.takes stack) refl is (form_over others form apart.1) where
+        other : (fits : Bool) → fit_form first.takes over ≡ fits → form_in others stack ≡ Some form
+            → form_in others over ≡ Some form
+            → (if fits then Some first else form_in others over) ≡ Some form
+        other true fits found also =
+            let of : IsFound first.takes form = found_among first.takes others form apart.0 found in
+            absurd (clash_apart first.takes form.takes over of.clash fits (kept form.takes of.fits))
+        other false fits found also = also
+
+        by : (fits : Bool) → fit_form first.takes stack ≡ fits → (if fits then Some first else form_in others stack) ≡ Some form
+            → (form_in others stack ≡ Some form → form_in others over ≡ Some form)
+            → form_in (first ∷ others) over ≡ Some form
+        by true fits found below = rw (kept first.takes fits) found
+        by false fits found below = other (fit_form first.takes over) refl found (below found)
+
+  pub form_over_both : (opcode : ℕ) (form : Form) → form_in (forms_of opcode) stack ≡ Some form → form_in (forms_of opcode) over ≡ Some form
+  form_over_both opcode form is = form_over (forms_of opcode) form (forms_apart opcode) is
+
 module _ (p : Place) (f : Frame) where
   -- ---- forms
 
@@ -138,42 +180,6 @@ module _ (p : Place) (f : Frame) where
       ap (λ (entries : List VType). have_widths widths entries) (topmost_same p (length widths) stack (form_many widths stack is))
       ∙ widths_same widths (topmost (length widths) stack)
       ∙ is
-
-  pub record IsFound (first : List Width) (form : Form) (stack : List VType) : Type 0 where
-    pub clash : Clash first form.takes
-    pub fits : fit_form form.takes stack ≡ true
-
-  found_among : (first : List Width) (others : List Form) (form : Form) (stack : List VType)
-      → AllByRecursion (λ other. Clash first other.takes) others → form_in others stack ≡ Some form → IsFound first form stack
-  found_among first [] form stack clash is = absurd cc
-  found_among first (other ∷ others) form stack clash is =
-      by (fit_form other.takes stack) refl is (found_among first others form stack clash.1) where
-        by : (fits : Bool) → fit_form other.takes stack ≡ fits → (if fits then Some other else form_in others stack) ≡ Some form
-            → (form_in others stack ≡ Some form → IsFound first form stack)
-            → IsFound first form stack
-        by true fits found below =
-            let same : other ≡ form = cc in
-            subst (λ (g : Form). IsFound first g stack) same (record { clash = clash.0; fits = fits })
-        by false fits found below = below found
-
-  form_same : (forms : List Form) (form : Form) (stack : List VType) → AreApart forms → form_in forms stack ≡ Some form
-      → form_in forms (placed_stack p stack) ≡ Some form
-  form_same [] form stack apart is = absurd cc
-  form_same (first ∷ others) form stack apart is =
-      by (fit_form first.takes stack) refl is (form_same others form stack apart.1) where
-        other : (fits : Bool) → fit_form first.takes (placed_stack p stack) ≡ fits → form_in others stack ≡ Some form
-            → form_in others (placed_stack p stack) ≡ Some form
-            → (if fits then Some first else form_in others (placed_stack p stack)) ≡ Some form
-        other true fits found also =
-            let of : IsFound first.takes form stack = found_among first.takes others form stack apart.0 found in
-            absurd (clash_apart first.takes form.takes (placed_stack p stack) of.clash fits (form_kept form.takes stack of.fits))
-        other false fits found also = also
-
-        by : (fits : Bool) → fit_form first.takes stack ≡ fits → (if fits then Some first else form_in others stack) ≡ Some form
-            → (form_in others stack ≡ Some form → form_in others (placed_stack p stack) ≡ Some form)
-            → form_in (first ∷ others) (placed_stack p stack) ≡ Some form
-        by true fits found below = rw (form_kept first.takes stack fits) found
-        by false fits found below = other (fit_form first.takes (placed_stack p stack)) refl found (below found)
 
   -- ---- the row
 
@@ -214,4 +220,4 @@ module _ (p : Place) (f : Frame) where
           of : (entries : List VType) → AllFit p.scope (nothing ∷ []) entries → ⊥
           of [] none = none
           of (entry ∷ entries) none = none.0
-    by (Some form) is held = rw (is, form_same (forms_of opcode) form f.stack (forms_apart opcode) is) (form_moves form held)
+    by (Some form) is held = rw (is, form_over_both f.stack (placed_stack p f.stack) (λ widths. form_kept widths f.stack) opcode form is) (form_moves form held)

@@ -36,6 +36,142 @@ use Rattle.member_link.specs.Signatures.{result_of}
 use Rattle.same_runs.specs.FlatBodies.{caught_class}
 use Rattle.same_runs.specs.Flats.{host_scope, instr_scope}
 
+-- A return of a callee in a flat code, whose points stand from a number on: what holds of each of its points.
+module _ (flat : FlatCode) (t : Setting) (at : ℕ) (frame : Frame) (behind start : ℕ)
+    (there : (n : ℕ) (point : Point) → slice_get (return_points t at (set_frame t frame) behind) n ≡ Some point
+    → point_at flat (start + n) ≡ Some point) (Holds : ℕ → Point → Type 0)
+    (goto_holds : (number : ℕ) → point_at flat number ≡ Some (point_in t at (set_frame t frame) (Goto behind))
+    → Holds number (point_in t at (set_frame t frame) (Goto behind)))
+    (int_holds : (below : List VType) → (set_frame t frame).stack ≡ below ++ types.Int ∷ [] → (opcode : ℕ) (opcodes : List ℕ)
+    → operation_in pure_operations opcode ≡ Some (record { opcodes = opcodes; takes = kinds.Int ∷ []; gives = kinds.Int })
+    → (number : ℕ) (next : Point)
+    → point_at flat (number + 1) ≡ Some next
+    → next.typed ≡ set_frame t frame
+    → Holds number (point_in t at (record (set_frame t frame) { stack = (set_frame t frame).stack ++ [] }) (Pure opcode)))
+    (one_holds : (below : List VType) → (set_frame t frame).stack ≡ below ++ types.Int ∷ [] → (number : ℕ) (next : Point)
+    → point_at flat (number + 1) ≡ Some next
+    → next.typed ≡ record (set_frame t frame) { stack = (set_frame t frame).stack ++ types.Int ∷ [] }
+    → Holds number (point_in t at (record (set_frame t frame) { stack = (set_frame t frame).stack ++ [] }) (Const (imms.Int (pos 1)))))
+    (and_holds : (below : List VType) → (set_frame t frame).stack ≡ below ++ types.Int ∷ [] → (number : ℕ) (next : Point)
+    → point_at flat (number + 1) ≡ Some next
+    → next.typed ≡ set_frame t frame
+    → Holds number (point_in t at (record (set_frame t frame) { stack = (set_frame t frame).stack ++ types.Int ∷ [] }) (Pure IAND))) where
+  -- above the result
+  abbrev with_above : List VType → Frame
+  with_above above = record (set_frame t frame) { stack = (set_frame t frame).stack ++ above }
+
+  abbrev points_by : List Narrowing → List Point
+  points_by narrows =
+      map (λ (n : Narrowing). point_in t at (record (set_frame t frame) { stack = (set_frame t frame).stack ++ n.above }) n.instr) narrows
+      ++ point_in t at (set_frame t frame) (Goto behind)
+      ∷ []
+
+  -- an int is on top where a result is narrowed
+  abbrev Narrows : List Narrowing → Type 0
+  Narrows [] = Unit {0}
+  Narrows (n ∷ narrows) = (below : List VType) × ((set_frame t frame).stack ≡ below ++ types.Int ∷ [])
+
+  holds_by : (result : Option FieldType) → narrowing result ≡ own_narrowing t.coded.scope → Narrows (narrowing result)
+      → (n : ℕ) (point : Point) → slice_get (points_by (narrowing result)) n ≡ Some point
+      → Holds (start + n) point
+  holds_by result own int n point is = by result own int n point is where
+    stands : (narrows : List Narrowing) → narrows ≡ own_narrowing t.coded.scope → (m : ℕ) (one : Point) → slice_get (points_by narrows) m ≡ Some one
+        → point_at flat (start + m) ≡ Some one
+    stands narrows same m one there_is =
+        there m one (subst (λ (all : List Narrowing). slice_get (points_by all) m ≡ Some one) same there_is)
+
+    goto : (narrows : List Narrowing) → narrows ≡ own_narrowing t.coded.scope → (m : ℕ) (one : Point)
+        → slice_get (points_by narrows) m ≡ Some (point_in t at (set_frame t frame) (Goto behind))
+        → point_in t at (set_frame t frame) (Goto behind) ≡ one
+        → Holds (start + m) one
+    goto narrows same m one there_is is =
+        subst (Holds (start + m)) is
+        (goto_holds (start + m) (stands narrows same m (point_in t at (set_frame t frame) (Goto behind)) there_is))
+
+    -- an operation on an int, and the goto
+    narrow : (opcode : ℕ) (opcodes : List ℕ)
+        → operation_in pure_operations opcode ≡ Some (record { opcodes = opcodes; takes = kinds.Int ∷ []; gives = kinds.Int })
+        → (record { instr = Pure opcode; above = [] } ∷ []) ≡ own_narrowing t.coded.scope
+        → Narrows (record { instr = Pure opcode; above = [] } ∷ [])
+        → (m : ℕ) (one : Point) → slice_get (points_by (record { instr = Pure opcode; above = [] } ∷ [])) m ≡ Some one
+        → Holds (start + m) one
+    narrow opcode opcodes found same int zero one is =
+        let next : start + 1 ≡ start + 0 + 1 = omega arith in
+        subst (Holds (start + 0)) (same_Some _ one is)
+        (int_holds int.0 int.1 opcode opcodes found (start + 0) (point_in t at (set_frame t frame) (Goto behind))
+        (subst (λ (k : ℕ). point_at flat k ≡ Some (point_in t at (set_frame t frame) (Goto behind))) next
+        (stands (record { instr = Pure opcode; above = [] } ∷ []) same 1 (point_in t at (set_frame t frame) (Goto behind)) refl)) refl)
+    narrow opcode opcodes found same int (suc zero) one is =
+        goto (record { instr = Pure opcode; above = [] } ∷ []) same 1 one refl (same_Some _ one is)
+    narrow opcode opcodes found same int (suc (suc m)) one is = absurd (none-some one is)
+
+    alone : [] ≡ own_narrowing t.coded.scope → (m : ℕ) (one : Point) → slice_get (points_by []) m ≡ Some one
+        → Holds (start + m) one
+    alone same zero one is = goto [] same 0 one refl (same_Some _ one is)
+    alone same (suc m) one is = absurd (none-some one is)
+
+    bits : narrowing (Some field_types.Bool) ≡ own_narrowing t.coded.scope → Narrows (narrowing (Some field_types.Bool))
+        → (m : ℕ) (one : Point) → slice_get (points_by (narrowing (Some field_types.Bool))) m ≡ Some one
+        → Holds (start + m) one
+    bits same int zero one is =
+        let next : start + 1 ≡ start + 0 + 1 = omega arith in
+        subst (Holds (start + 0)) (same_Some _ one is)
+        (one_holds int.0 int.1 (start + 0) (point_in t at (with_above (types.Int ∷ [])) (Pure IAND))
+        (subst (λ (k : ℕ). point_at flat k ≡ Some (point_in t at (with_above (types.Int ∷ [])) (Pure IAND))) next
+        (stands (narrowing (Some field_types.Bool)) same 1 (point_in t at (with_above (types.Int ∷ [])) (Pure IAND)) refl)) refl)
+    bits same int (suc zero) one is =
+        let next : start + 2 ≡ start + 1 + 1 = omega arith in
+        subst (Holds (start + 1)) (same_Some _ one is)
+        (and_holds int.0 int.1 (start + 1) (point_in t at (set_frame t frame) (Goto behind))
+        (subst (λ (k : ℕ). point_at flat k ≡ Some (point_in t at (set_frame t frame) (Goto behind))) next
+        (stands (narrowing (Some field_types.Bool)) same 2 (point_in t at (set_frame t frame) (Goto behind)) refl)) refl)
+    bits same int (suc (suc zero)) one is = goto (narrowing (Some field_types.Bool)) same 2 one refl (same_Some _ one is)
+    bits same int (suc (suc (suc m))) one is = absurd (none-some one is)
+
+    by : (result : Option FieldType) → narrowing result ≡ own_narrowing t.coded.scope → Narrows (narrowing result)
+        → (m : ℕ) (one : Point) → slice_get (points_by (narrowing result)) m ≡ Some one
+        → Holds (start + m) one
+    by None same int m one is = alone same m one is
+    by (Some field_types.Byte) same int m one is = narrow I2B _ refl same int m one is
+    by (Some field_types.Short) same int m one is = narrow I2S _ refl same int m one is
+    by (Some field_types.Char) same int m one is = narrow I2C _ refl same int m one is
+    by (Some field_types.Bool) same int m one is = bits same int m one is
+    by (Some field_types.Int) same int m one is = alone same m one is
+    by (Some field_types.Long) same int m one is = alone same m one is
+    by (Some field_types.Float) same int m one is = alone same m one is
+    by (Some field_types.Double) same int m one is = alone same m one is
+    by (Some (field_types.Named name)) same int m one is = alone same m one is
+
+  -- what is narrowed is an int
+  int : {headers : Headers} (type : FieldType) → Returned headers (Some type) frame.stack → kind_of type ≡ kinds.Int
+      → (below : List VType) × ((set_frame t frame).stack ≡ below ++ types.Int ∷ [])
+  int type (returned_none none empty) is = absurd cc
+  int type (returned_one other value some alone kind assignable) is =
+      let same : other ≡ type = sym (same_Some type other some) in
+      let int_value : value ≡ types.Int = subst (λ (k : Kind). IsOfKind k value) (ap kind_of same ∙ is) kind in (
+        t.below.stack,
+        ap (λ (l : List VType). t.below.stack ++ map (set_type t) l) (alone ∙ ap (λ (v : VType). v ∷ []) int_value),
+      )
+
+  narrows : {headers : Headers} (result : Option FieldType) → Returned headers result frame.stack → Narrows (narrowing result)
+  narrows None returned = tt
+  narrows (Some field_types.Byte) returned = int field_types.Byte returned refl
+  narrows (Some field_types.Short) returned = int field_types.Short returned refl
+  narrows (Some field_types.Char) returned = int field_types.Char returned refl
+  narrows (Some field_types.Bool) returned = int field_types.Bool returned refl
+  narrows (Some field_types.Int) returned = tt
+  narrows (Some field_types.Long) returned = tt
+  narrows (Some field_types.Float) returned = tt
+  narrows (Some field_types.Double) returned = tt
+  narrows (Some (field_types.Named name)) returned = tt
+
+  -- It holds of each.
+  pub return_points_hold : {headers : Headers} → Returned headers (result_of (own_descriptor t.coded.scope)) frame.stack
+      → (n : ℕ) (point : Point) → slice_get (return_points t at (set_frame t frame) behind) n ≡ Some point
+      → Holds (start + n) point
+  return_points_hold returned n point is =
+      holds_by (result_of (own_descriptor t.coded.scope)) refl (narrows (result_of (own_descriptor t.coded.scope)) returned) n point is
+
 -- A return of a callee in a flat code: its points stand from a number on, the frame before it may stand for that behind the call, and its
 -- handlers take over from its locals.
 module _ (classes : Classes) (s : Scope) (flat : FlatCode) (t : Setting) (at : ℕ) (frame : Frame) (behind start : ℕ)
@@ -179,120 +315,9 @@ module _ (classes : Classes) (s : Scope) (flat : FlatCode) (t : Setting) (at : �
 
   -- ---- all
 
-  at_start : (n : ℕ) (point : Point) → slice_get (return_points t at (set_frame t frame) behind) n ≡ Some point → point_at flat (start + n) ≡ Some point
-  at_start = there
-
-  abbrev Typed : ℕ → Point → Type 0
-  Typed number point = TypesPoint classes s flat number point
-
-  abbrev points_by : List Narrowing → List Point
-  points_by narrows =
-      map (λ (n : Narrowing). point_in t at (record (set_frame t frame) { stack = (set_frame t frame).stack ++ n.above }) n.instr) narrows
-      ++ point_in t at (set_frame t frame) (Goto behind)
-      ∷ []
-
-  -- an int is on top where a result is narrowed
-  abbrev Narrows : List Narrowing → Type 0
-  Narrows [] = Unit {0}
-  Narrows (n ∷ narrows) = (below : List VType) × ((set_frame t frame).stack ≡ below ++ types.Int ∷ [])
-
-  typed_by : (result : Option FieldType) → narrowing result ≡ own_narrowing t.coded.scope → Narrows (narrowing result)
-      → (n : ℕ) (point : Point) → slice_get (points_by (narrowing result)) n ≡ Some point
-      → TypesPoint classes s flat (start + n) point
-  typed_by result own int n point is = by result own int n point is where
-    stands : (narrows : List Narrowing) → narrows ≡ own_narrowing t.coded.scope → (m : ℕ) (one : Point) → slice_get (points_by narrows) m ≡ Some one
-        → point_at flat (start + m) ≡ Some one
-    stands narrows same m one there_is =
-        there m one (subst (λ (all : List Narrowing). slice_get (points_by all) m ≡ Some one) same there_is)
-
-    goto : (narrows : List Narrowing) → narrows ≡ own_narrowing t.coded.scope → (m : ℕ) (one : Point)
-        → slice_get (points_by narrows) m ≡ Some (point_in t at (set_frame t frame) (Goto behind))
-        → point_in t at (set_frame t frame) (Goto behind) ≡ one
-        → TypesPoint classes s flat (start + m) one
-    goto narrows same m one there_is is =
-        subst (TypesPoint classes s flat (start + m)) is
-        (goto_typed (start + m) (stands narrows same m (point_in t at (set_frame t frame) (Goto behind)) there_is))
-
-    -- an operation on an int, and the goto
-    narrow : (opcode : ℕ) (opcodes : List ℕ)
-        → operation_in pure_operations opcode ≡ Some (record { opcodes = opcodes; takes = kinds.Int ∷ []; gives = kinds.Int })
-        → (record { instr = Pure opcode; above = [] } ∷ []) ≡ own_narrowing t.coded.scope
-        → Narrows (record { instr = Pure opcode; above = [] } ∷ [])
-        → (m : ℕ) (one : Point) → slice_get (points_by (record { instr = Pure opcode; above = [] } ∷ [])) m ≡ Some one
-        → TypesPoint classes s flat (start + m) one
-    narrow opcode opcodes found same int zero one is =
-        let next : start + 1 ≡ start + 0 + 1 = omega arith in
-        subst (TypesPoint classes s flat (start + 0)) (same_Some _ one is)
-        (int_typed int.0 int.1 opcode opcodes found (start + 0) (point_in t at (set_frame t frame) (Goto behind))
-        (subst (λ (k : ℕ). point_at flat k ≡ Some (point_in t at (set_frame t frame) (Goto behind))) next
-        (stands (record { instr = Pure opcode; above = [] } ∷ []) same 1 (point_in t at (set_frame t frame) (Goto behind)) refl)) refl)
-    narrow opcode opcodes found same int (suc zero) one is =
-        goto (record { instr = Pure opcode; above = [] } ∷ []) same 1 one refl (same_Some _ one is)
-    narrow opcode opcodes found same int (suc (suc m)) one is = absurd (none-some one is)
-
-    alone : [] ≡ own_narrowing t.coded.scope → (m : ℕ) (one : Point) → slice_get (points_by []) m ≡ Some one
-        → TypesPoint classes s flat (start + m) one
-    alone same zero one is = goto [] same 0 one refl (same_Some _ one is)
-    alone same (suc m) one is = absurd (none-some one is)
-
-    bits : narrowing (Some field_types.Bool) ≡ own_narrowing t.coded.scope → Narrows (narrowing (Some field_types.Bool))
-        → (m : ℕ) (one : Point) → slice_get (points_by (narrowing (Some field_types.Bool))) m ≡ Some one
-        → TypesPoint classes s flat (start + m) one
-    bits same int zero one is =
-        let next : start + 1 ≡ start + 0 + 1 = omega arith in
-        subst (TypesPoint classes s flat (start + 0)) (same_Some _ one is)
-        (one_typed int.0 int.1 (start + 0) (point_in t at (upon (types.Int ∷ [])) (Pure IAND))
-        (subst (λ (k : ℕ). point_at flat k ≡ Some (point_in t at (upon (types.Int ∷ [])) (Pure IAND))) next
-        (stands (narrowing (Some field_types.Bool)) same 1 (point_in t at (upon (types.Int ∷ [])) (Pure IAND)) refl)) refl)
-    bits same int (suc zero) one is =
-        let next : start + 2 ≡ start + 1 + 1 = omega arith in
-        subst (TypesPoint classes s flat (start + 1)) (same_Some _ one is)
-        (and_typed int.0 int.1 (start + 1) (point_in t at (set_frame t frame) (Goto behind))
-        (subst (λ (k : ℕ). point_at flat k ≡ Some (point_in t at (set_frame t frame) (Goto behind))) next
-        (stands (narrowing (Some field_types.Bool)) same 2 (point_in t at (set_frame t frame) (Goto behind)) refl)) refl)
-    bits same int (suc (suc zero)) one is = goto (narrowing (Some field_types.Bool)) same 2 one refl (same_Some _ one is)
-    bits same int (suc (suc (suc m))) one is = absurd (none-some one is)
-
-    by : (result : Option FieldType) → narrowing result ≡ own_narrowing t.coded.scope → Narrows (narrowing result)
-        → (m : ℕ) (one : Point) → slice_get (points_by (narrowing result)) m ≡ Some one
-        → TypesPoint classes s flat (start + m) one
-    by None same int m one is = alone same m one is
-    by (Some field_types.Byte) same int m one is = narrow I2B _ refl same int m one is
-    by (Some field_types.Short) same int m one is = narrow I2S _ refl same int m one is
-    by (Some field_types.Char) same int m one is = narrow I2C _ refl same int m one is
-    by (Some field_types.Bool) same int m one is = bits same int m one is
-    by (Some field_types.Int) same int m one is = alone same m one is
-    by (Some field_types.Long) same int m one is = alone same m one is
-    by (Some field_types.Float) same int m one is = alone same m one is
-    by (Some field_types.Double) same int m one is = alone same m one is
-    by (Some (field_types.Named name)) same int m one is = alone same m one is
-
-  -- what is narrowed is an int
-  int : {headers : Headers} (type : FieldType) → Returned headers (Some type) frame.stack → kind_of type ≡ kinds.Int
-      → (below : List VType) × ((set_frame t frame).stack ≡ below ++ types.Int ∷ [])
-  int type (returned_none none empty) is = absurd cc
-  int type (returned_one other value some alone kind assignable) is =
-      let same : other ≡ type = sym (same_Some type other some) in
-      let int_value : value ≡ types.Int = subst (λ (k : Kind). IsOfKind k value) (ap kind_of same ∙ is) kind in (
-        t.below.stack,
-        ap (λ (l : List VType). t.below.stack ++ map (set_type t) l) (alone ∙ ap (λ (v : VType). v ∷ []) int_value),
-      )
-
-  narrows : {headers : Headers} (result : Option FieldType) → Returned headers result frame.stack → Narrows (narrowing result)
-  narrows None returned = tt
-  narrows (Some field_types.Byte) returned = int field_types.Byte returned refl
-  narrows (Some field_types.Short) returned = int field_types.Short returned refl
-  narrows (Some field_types.Char) returned = int field_types.Char returned refl
-  narrows (Some field_types.Bool) returned = int field_types.Bool returned refl
-  narrows (Some field_types.Int) returned = tt
-  narrows (Some field_types.Long) returned = tt
-  narrows (Some field_types.Float) returned = tt
-  narrows (Some field_types.Double) returned = tt
-  narrows (Some (field_types.Named name)) returned = tt
-
   -- Each is typed.
   pub return_points_typed : {headers : Headers} → Returned headers (result_of (own_descriptor t.coded.scope)) frame.stack
       → (n : ℕ) (point : Point) → slice_get (return_points t at (set_frame t frame) behind) n ≡ Some point
       → TypesPoint classes s flat (start + n) point
   return_points_typed returned n point is =
-      typed_by (result_of (own_descriptor t.coded.scope)) refl (narrows (result_of (own_descriptor t.coded.scope)) returned) n point is
+      return_points_hold flat t at frame behind start there (TypesPoint classes s flat) goto_typed int_typed one_typed and_typed returned n point is

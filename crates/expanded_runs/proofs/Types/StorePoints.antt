@@ -72,6 +72,100 @@ points_more t at frame [] argument = refl
 points_more t at frame (one ∷ ones) argument =
     ap (λ (points : List Point). point_in t at frame (Store one.kind one.unit) ∷ points) (points_more t at (frame_stored frame one) ones argument)
 
+-- ---- all stores of a call
+
+-- What holds of each store, where control goes from it to the next, and from the last to what is behind.
+module _ (flat : FlatCode) (t : Setting) (at : ℕ) (locals : List VType) (least : ℕ) (Goes : Frame → ℕ → Type 0) (Holds : ℕ → Point → Type 0)
+    (itself_goes : (number : ℕ) (point : Point) → point_at flat number ≡ Some point → Goes point.typed number)
+    (one_holds : (next : ℕ) (more : List VType) (number : ℕ) (below : List VType) (type : VType) (argument : Argument)
+    → least ≤ next
+    → next + length (units_of_entries more) ≤ length locals
+    → AreFree more
+    → IsOfKind argument.kind type
+    → HasRoom argument.kind (overlaid next (units_of_entries more) locals) argument.unit
+    → point_at flat number
+    ≡ Some (point_in t at (record { locals = overlaid next (units_of_entries more) locals; stack = below ++ type ∷ [] })
+    (Store argument.kind argument.unit))
+    → Goes (record { locals = stored argument.unit type (overlaid next (units_of_entries more) locals); stack = below }) (number + 1)
+    → Holds number
+    (point_in t at (record { locals = overlaid next (units_of_entries more) locals; stack = below ++ type ∷ [] })
+    (Store argument.kind argument.unit))) where
+  -- All stores.
+  pub stores_hold : (unit : ℕ) (args : List Argument) (entries below : List VType) → ArgumentsLaid unit args entries
+      → least ≤ unit
+      → unit + length (units_of_entries entries) ≤ length locals
+      → IsClear unit locals
+      → TopsFrom unit locals
+      → AreFree entries
+      → (number : ℕ)
+      → ((n : ℕ) (point : Point)
+      → slice_get (store_points t at (record { locals = locals; stack = below ++ entries }) (reverse args)) n ≡ Some point
+      → point_at flat (number + n) ≡ Some point)
+      → Goes (record { locals = overlaid unit (units_of_entries entries) locals; stack = below }) (number + length args)
+      → (n : ℕ) (point : Point)
+      → slice_get (store_points t at (record { locals = locals; stack = below ++ entries }) (reverse args)) n ≡ Some point
+      → Holds (number + n) point
+  stores_hold unit _ _ below none_laid behind fits clear tops none number there after n point is = absurd (none-some point is)
+  stores_hold unit _ _ below (one_more_laid {argument = argument} {type = type} {others = others} {more = more} at_unit kind laid) behind fits clear tops
+      none number there after n point is
+      =
+      let next = unit + length (units type) in
+      let some = some_units type in
+      let both : length (units type ++ units_of_entries more) ≡ length (units type) + length (units_of_entries more) =
+      length-append (units type) (units_of_entries more) in
+      let begin : List VType → Frame = λ stack. record { locals = locals; stack = stack } in
+      let stack : below ++ type ∷ more ≡ (below ++ type ∷ []) ++ more = sym (append_assoc below (type ∷ []) more) in
+      let fits_next : next + length (units_of_entries more) ≤ length locals = omega (arith, fits, both) in
+      let clear_next = clear_tops unit next locals (omega (arith, some)) (omega (arith, fits, both)) tops in
+      let tops_next = later_tops unit next locals (omega arith) tops in
+      let rest = stores_over next others more locals (below ++ type ∷ []) laid fits_next clear_next tops_next in
+      let now = overlaid next (units_of_entries more) locals in
+      let own = point_in t at (record { locals = now; stack = below ++ type ∷ [] }) (Store argument.kind argument.unit) in
+      let front = store_points t at (begin ((below ++ type ∷ []) ++ more)) (reverse others) in
+      let list_is : store_points t at (begin (below ++ type ∷ more)) (reverse (argument ∷ others)) ≡ front ++ own ∷ [] =
+      ap (store_points t at (begin (below ++ type ∷ more))) (last_reversed argument others)
+      ∙ points_more t at (begin (below ++ type ∷ more)) (reverse others) argument
+      ∙ ap (λ (l : List VType). store_points t at (begin l) (reverse others)
+      ++ point_in t at (frame_behind_stores (begin l) (reverse others)) (Store argument.kind argument.unit)
+      ∷ []) stack
+      ∙ ap (λ (f : Frame). front ++ point_in t at f (Store argument.kind argument.unit) ∷ []) rest in
+      let stands : (m : ℕ) (one : Point) → slice_get (front ++ own ∷ []) m ≡ Some one → point_at flat (number + m) ≡ Some one =
+      λ m one one_is. there m one (subst (λ (points : List Point). slice_get points m ≡ Some one) (sym list_is) one_is) in
+      let long : length front ≡ length others =
+      length_stores t at (begin ((below ++ type ∷ []) ++ more)) (reverse others) ∙ length-reverse others in
+      let here : point_at flat (number + length others) ≡ Some own =
+      stands (length others) own
+      (ap (slice_get (front ++ own ∷ [])) (omega (arith, long)) ∙ get_back front (own ∷ []) 0) in
+      let into : Goes (record { locals = now; stack = below ++ type ∷ [] }) (number + length others) =
+      itself_goes (number + length others) own here in
+      let over : stored argument.unit type now ≡ overlaid unit (units type ++ units_of_entries more) locals =
+      ap (λ (u : ℕ). stored u type now) at_unit ∙ stored_over unit type (units_of_entries more) locals (omega (arith, fits, both)) clear in
+      let last : Goes (record { locals = stored argument.unit type now; stack = below }) (number + length others + 1) =
+      subst (λ (m : ℕ). Goes (record { locals = stored argument.unit type now; stack = below }) m) (omega arith)
+      (subst (λ (l : List VType). Goes (record { locals = l; stack = below }) (number + length (argument ∷ others))) (sym over) after) in
+      let room : HasRoom argument.kind now argument.unit =
+      subst (λ (u : ℕ). HasRoom argument.kind now u) (sym at_unit)
+      (room_of argument.kind type unit now kind (omega (arith, fits, both, block_long next (units_of_entries more) locals fits_next))) in
+      elim (slice_either front (own ∷ []) n point (subst (λ (points : List Point). slice_get points n ≡ Some point) list_is is)) [
+        | inl before ↦
+            stores_hold next others more (below ++ type ∷ []) laid (omega (arith, behind)) fits_next clear_next tops_next none.1 number
+            (λ m one one_is. stands m one (slice_left front (own ∷ []) m one one_is)) into n point before
+        | inr last_one ↦ by front own last_one
+            (one_holds next more (number + length others) below type argument (omega (arith, behind)) fits_next none.1 kind room here last) long
+      ]
+    where
+      by : (front : List Point) (own : Point) → InSecond (length front) n (own ∷ []) point
+          → Holds (number + length others) own
+          → length front ≡ length others
+          → Holds (number + n) point
+      by front own second typed long = whole second.behind second.there second.number_is where
+        whole : (m : ℕ) → slice_get (own ∷ []) m ≡ Some point → n ≡ length front + m → Holds (number + n) point
+        whole zero is same =
+            let place : number + length others ≡ number + n = omega (arith, same, long) in
+            subst (λ (k : ℕ). Holds k point) place
+            (subst (Holds (number + length others)) (same_Some own point is) typed)
+        whole (suc m) is same = absurd (none-some point is)
+
 -- ---- the points
 
 module _ (classes : Classes) (s : Scope) (flat : FlatCode) (t : Setting) (at : ℕ) (locals : List VType) (most : ℕ)
@@ -162,69 +256,10 @@ module _ (classes : Classes) (s : Scope) (flat : FlatCode) (t : Setting) (at : �
       → (n : ℕ) (point : Point)
       → slice_get (store_points t at (record { locals = locals; stack = below ++ entries }) (reverse args)) n ≡ Some point
       → TypesPoint classes s flat (number + n) point
-  stores_typed unit _ _ below none_laid behind fits clear tops none number there after n point is = absurd (none-some point is)
-  stores_typed unit _ _ below (one_more_laid {argument = argument} {type = type} {others = others} {more = more} at_unit kind laid) behind fits clear tops
-      none number there after n point is
-      =
-      let next = unit + length (units type) in
-      let some = some_units type in
-      let both : length (units type ++ units_of_entries more) ≡ length (units type) + length (units_of_entries more) =
-      length-append (units type) (units_of_entries more) in
-      let begin : List VType → Frame = λ stack. record { locals = locals; stack = stack } in
-      let stack : below ++ type ∷ more ≡ (below ++ type ∷ []) ++ more = sym (append_assoc below (type ∷ []) more) in
-      let fits_next : next + length (units_of_entries more) ≤ length locals = omega (arith, fits, both) in
-      let clear_next = clear_tops unit next locals (omega (arith, some)) (omega (arith, fits, both)) tops in
-      let tops_next = later_tops unit next locals (omega arith) tops in
-      let rest = stores_over next others more locals (below ++ type ∷ []) laid fits_next clear_next tops_next in
-      let now = overlaid next (units_of_entries more) locals in
-      let own = point_in t at (record { locals = now; stack = below ++ type ∷ [] }) (Store argument.kind argument.unit) in
-      let front = store_points t at (begin ((below ++ type ∷ []) ++ more)) (reverse others) in
-      let list_is : store_points t at (begin (below ++ type ∷ more)) (reverse (argument ∷ others)) ≡ front ++ own ∷ [] =
-      ap (store_points t at (begin (below ++ type ∷ more))) (last_reversed argument others)
-      ∙ points_more t at (begin (below ++ type ∷ more)) (reverse others) argument
-      ∙ ap (λ (l : List VType). store_points t at (begin l) (reverse others)
-      ++ point_in t at (frame_behind_stores (begin l) (reverse others)) (Store argument.kind argument.unit)
-      ∷ []) stack
-      ∙ ap (λ (f : Frame). front ++ point_in t at f (Store argument.kind argument.unit) ∷ []) rest in
-      let stands : (m : ℕ) (one : Point) → slice_get (front ++ own ∷ []) m ≡ Some one → point_at flat (number + m) ≡ Some one =
-      λ m one one_is. there m one (subst (λ (points : List Point). slice_get points m ≡ Some one) (sym list_is) one_is) in
-      let long : length front ≡ length others =
-      length_stores t at (begin ((below ++ type ∷ []) ++ more)) (reverse others) ∙ length-reverse others in
-      let here : point_at flat (number + length others) ≡ Some own =
-      stands (length others) own
-      (ap (slice_get (front ++ own ∷ [])) (omega (arith, long)) ∙ get_back front (own ∷ []) 0) in
-      let into : MayGoToPoint classes s flat (Some (read_frame flat (record { locals = now; stack = below ++ type ∷ [] }))) (number + length others) =
-      subst (MayGoTo (host_scope classes s flat) (Some (read_frame flat (record { locals = now; stack = below ++ type ∷ [] }))))
-      (sym (read_there classes s flat (number + length others) own (record { locals = now; stack = below ++ type ∷ [] }) here refl))
-      (itself s.headers (read_frame flat (record { locals = now; stack = below ++ type ∷ [] }))) in
-      let over : stored argument.unit type now ≡ overlaid unit (units type ++ units_of_entries more) locals =
-      ap (λ (u : ℕ). stored u type now) at_unit ∙ stored_over unit type (units_of_entries more) locals (omega (arith, fits, both)) clear in
-      let last : MayGoToPoint classes s flat (Some (read_frame flat (record { locals = stored argument.unit type now; stack = below })))
-      (number + length others + 1) =
-      subst (λ (m : ℕ). MayGoToPoint classes s flat
-      (Some (read_frame flat (record { locals = stored argument.unit type now; stack = below }))) m) (omega arith)
-      (subst (λ (l : List VType). MayGoToPoint classes s flat (Some (read_frame flat (record { locals = l; stack = below }))) (number + length (argument ∷ others)))
-      (sym over) after) in
-      let room : HasRoom argument.kind now argument.unit =
-      subst (λ (u : ℕ). HasRoom argument.kind now u) (sym at_unit)
-      (room_of argument.kind type unit now kind (omega (arith, fits, both, block_long next (units_of_entries more) locals fits_next))) in
-      elim (slice_either front (own ∷ []) n point (subst (λ (points : List Point). slice_get points n ≡ Some point) list_is is)) [
-        | inl before ↦
-            stores_typed next others more (below ++ type ∷ []) laid (omega (arith, behind)) fits_next clear_next tops_next none.1 number
-            (λ m one one_is. stands m one (slice_left front (own ∷ []) m one one_is)) into n point before
-        | inr last_one ↦ by front own last_one
-            (store_typed (number + length others) now below type argument kind room here last
-            (same_over next more (omega (arith, behind)) fits_next none.1)) long
-      ]
-    where
-      by : (front : List Point) (own : Point) → InSecond (length front) n (own ∷ []) point
-          → TypesPoint classes s flat (number + length others) own
-          → length front ≡ length others
-          → TypesPoint classes s flat (number + n) point
-      by front own second typed long = whole second.behind second.there second.number_is where
-        whole : (m : ℕ) → slice_get (own ∷ []) m ≡ Some point → n ≡ length front + m → TypesPoint classes s flat (number + n) point
-        whole zero is same =
-            let place : number + length others ≡ number + n = omega (arith, same, long) in
-            subst (λ (k : ℕ). TypesPoint classes s flat k point) place
-            (subst (TypesPoint classes s flat (number + length others)) (same_Some own point is) typed)
-        whole (suc m) is same = absurd (none-some point is)
+  stores_typed unit args entries below laid behind fits clear tops none number there after n point is =
+      stores_hold flat t at locals most (λ frame number. MayGoToPoint classes s flat (Some (read_frame flat frame)) number) (TypesPoint classes s flat)
+      (λ number own here. subst (MayGoTo (host_scope classes s flat) (Some (read_frame flat own.typed)))
+      (sym (read_there classes s flat number own own.typed here refl)) (itself s.headers (read_frame flat own.typed)))
+      (λ next more number below type argument behind fits none kind room here after.
+      store_typed number (overlaid next (units_of_entries more) locals) below type argument kind room here after (same_over next more behind fits none))
+      unit args entries below laid behind fits clear tops none number there after n point is

@@ -31,18 +31,18 @@ use Rattle.member_link.specs.Scope.{Scope, instructions, scope_at}
 
 module _ (u : Setup) (is_setup : IsSetup u) (linked : IsLinked u.classes) (name_laws : NameLaws) (call_laws : CallLaws) (laws : TypingLaws)
     (one : OneEach) where
-  facts : FrameFacts u.classes u.typed
+  pub facts : FrameFacts u.classes u.typed
   facts = frame_facts name_laws laws is_setup.tree linked is_setup.hierarchy is_setup.types
 
   known : KnownTypes u.classes u.typed
   known = record { known = facts.known }
 
-  arrays : (at : MethodAt) (s : Scope) → scope_at u.classes at ≡ Some s → ArrayInterfaces (headers_of u.classes)
+  pub arrays : (at : MethodAt) (s : Scope) → scope_at u.classes at ≡ Some s → ArrayInterfaces (headers_of u.classes)
   arrays at s is = subst ArrayInterfaces (scope_headers u.classes at s is) (arrays_known is_setup.tree at s is)
 
   module _ (host : Coded) (e : Expansion) (has : HasFrames u.classes u.typed host.at host.scope host.frames)
       (expands : Expands u.classes u.typed host.at [] host.at (instructions host.scope) e) (no_host : ¬ IsNoHost u.classes host.at) where
-    stands : (chain : List MethodAt) (p : Standing) → IsStanding host e chain p → Stands u.classes u.typed host e chain p
+    pub stands : (chain : List MethodAt) (p : Standing) → IsStanding host e chain p → Stands u.classes u.typed host e chain p
     stands chain p standing = stands_so laws.types_each one u.classes u.typed is_setup.types host e has expands standing
 
     says : {chain : List MethodAt} {p : Standing} → IsStanding host e chain p → (k : ℕ) (placed : Placed) (frame : Frame) (g : Coded)
@@ -62,7 +62,7 @@ module _ (u : Setup) (is_setup : IsSetup u) (linked : IsLinked u.classes) (name_
       passes = λ chain p standing k placed frame g inner here. (says standing k placed frame g inner here).passes;
     }
 
-    outside : NoThisStanding host e
+    pub outside : NoThisStanding host e
     outside = no_this_standing u laws host e stands host.scope has.is_scope
 
     -- and so of all instructions
