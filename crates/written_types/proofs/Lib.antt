@@ -1,0 +1,15 @@
+mod FromClasses
+mod SlotTypes
+mod TwoUnits
+mod Standing
+mod OperandRows
+mod StackRows
+mod SiteFields
+mod MemberRows
+mod CallRows
+mod RowTable
+mod Arrivals
+mod Edges
+mod Starts
+mod ObjectInits
+mod Ways

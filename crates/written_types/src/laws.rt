@@ -1,0 +1,40 @@
+//! Types along the ways that a plan leads.
+ghost use Rattle.std.specs.Prelude.{ℕ, Bool};
+ghost use Rattle.class_tree.specs.Headers.{Classes, headers_of};
+ghost use Rattle.class_tree.specs.Trees.{IsTree};
+ghost use Rattle.expanded_code.specs.CandidateSites.{HasCandidateSites};
+ghost use Rattle.flow_code.specs.FlatCode.{FlatCode};
+ghost use Rattle.member_link.specs.Machine.Links.{AreLinksOf};
+ghost use Rattle.member_link.specs.Machine.Programs.{Links};
+ghost use Rattle.member_link.specs.Scope.{Scope};
+ghost use Rattle.plan_flow.specs.PlanScope.{PlanScope, scope_of};
+ghost use Rattle.plan_flow.specs.Plans.{IsValid, Plan};
+ghost use Rattle.plan_flow.specs.Written.Routes.{IsRouted, Routes};
+ghost use Rattle.same_runs.specs.ReadyCode.{IsReadyCode};
+ghost use Rattle.virtual_state.specs.States.{State};
+ghost use Rattle.virtual_state.specs.Without.{without};
+ghost use Rattle.written_types.specs.FitsTypes.{FitsRoutes, FitsTypes};
+
+/// A valid plan of a flat code from which code can be written keeps its types: in the state of each reached point, before and after objects are made
+/// there, and in the state behind each edge, what holds a virtual object may hold one of its class; each uninitialised object that is none of a
+/// candidate site is made at a point that is reached; none is an uninitialised `this`; and a long or double is followed by its second unit.
+pub fn ways_of_a_plan_keep_types()
+    ensures { (classes : Classes) (links : Links) (s : Scope) (flat : FlatCode) (plan : Plan)
+        (routes : Routes)
+        → IsTree classes
+        → AreLinksOf (headers_of classes) links
+        → IsReadyCode classes s flat
+        → HasCandidateSites classes flat
+        → IsValid (scope_of classes links flat) plan
+        → IsRouted (scope_of classes links flat) plan routes
+        → FitsRoutes (scope_of classes links flat) routes }
+{
+    class_tree::classes_of_a_tree_are_a_hierarchy();
+}
+
+/// Where objects are made, types stay: what held one of them is plain.
+pub fn made_objects_keep_types()
+    ensures { (s : PlanScope) (reached : ℕ → Bool) (at : ℕ) (state : State) (away : ℕ → Bool)
+        → FitsTypes s reached at state
+        → FitsTypes s reached at (without state away) }
+{}

@@ -1,0 +1,6 @@
+//! What types written code has: functions that do nothing, whose contracts say what always holds.
+#![tactic(auto)]
+
+mod laws;
+
+pub use laws::{made_objects_keep_types, ways_of_a_plan_keep_types};
