@@ -1,5 +1,5 @@
 -- From a class assignability is transitive: a class above an interface is java/lang/Object, and each interface is reached at once.
-use Rattle.std.proofs.Common.{◌≡◌, ◌⊎◌, Bool, true, false, Some, IsTrue, refl, sym, ap, subst, ◌∙◌, inl, inr}
+use Rattle.std.proofs.Common.{◌≡◌, Bool, true, false, Some, IsTrue, refl, sym, subst, ◌∙◌, inl, inr}
 use Rattle.std.proofs.lemmas.Option.{none-some}
 use Rattle.class_model.specs.declared.frame.VType.{VType}
 use Rattle.class_model.specs.declared.frame.VType.TheVariants as types
@@ -10,7 +10,7 @@ use Rattle.class_tree.specs.Laws.Above.{above_is_there, below_more, class_above_
 use Rattle.class_tree.specs.Laws.Arrays.{is_array_of}
 use Rattle.class_tree.specs.Laws.Headers.{class_there}
 use Rattle.class_tree.specs.Names.{is_interface, object}
-use Rattle.class_tree.specs.Subtype.{IsArray, IsBelow, IsSubtype, itself, below, of_arrays, components, directly, onwards}
+use Rattle.class_tree.specs.Subtype.{IsArray, IsBelow, IsSubtype, itself, below, of_arrays, components, directly}
 use Rattle.member_link.specs.Assignability.{IsAssignable, IsNameAssignable, from_array, from_null, of_components, of_names, to_class_above, to_interface, to_itself, to_same, to_top}
 
 module _ (headers : Headers) (hierarchy : IsHierarchy headers) where

@@ -4,7 +4,7 @@ use Rattle.std.specs.Prelude.{◌==◌, slice_set}
 use Rattle.std.specs.List.{AllByRecursion}
 use Rattle.std.proofs.lemmas.List.{length-map, length-replicate}
 use Rattle.class_model.specs.Code.{verification_type}
-use Rattle.class_model.specs.Frames.{is_wide, units}
+use Rattle.class_model.specs.Frames.{is_wide}
 use Rattle.class_model.specs.declared.descriptor.FieldType.{FieldType}
 use Rattle.class_model.specs.declared.descriptor.FieldType.TheVariants as field_types
 use Rattle.class_model.specs.declared.descriptor.Kind.{Kind}
@@ -26,7 +26,7 @@ use Rattle.member_link.specs.Rows.LocalRows.{HasRoom, HoldsKind, const_row, cut_
 use Rattle.member_link.specs.Rows.Operands.{AllFit, Need, array_of_references, initialised, lowest_of, nothing, of_kind, topmost, under}
 use Rattle.member_link.specs.Rows.Row.{Row, either, no_row, plain, stack_behind}
 use Rattle.member_link.specs.Rows.Table.{jump_row}
-use Rattle.plan_flow.specs.PlanRows.{Change, PlanRow, Source, from_place, no_change, plain_value}
+use Rattle.plan_flow.specs.PlanRows.{Change, PlanRow, from_place, no_change, plain_value}
 use Rattle.plan_flow.specs.PlanScope.{PlanScope}
 use Rattle.plan_flow.specs.PlanSlots.{changed, held, slot_from, slots_from}
 use Rattle.plan_flow.specs.PlanTable.{held_locals, moving, null_row, operand, operands_of, same_row, throwing}
@@ -35,7 +35,7 @@ use Rattle.virtual_state.specs.States.{State}
 use Rattle.virtual_state.specs.declared.slot.Slot.{Slot}
 use Rattle.written_types.proofs.SlotTypes.{put_both, put_top}
 use Rattle.written_types.proofs.Standing.{HaveFieldTypes, Left, Standing, all_at, all_dropped, kept_locals, left_by, local_has, moved, new_under, operand_has}
-use Rattle.written_types.proofs.TwoUnits.{room_of_wide, stored_pairs}
+use Rattle.written_types.proofs.TwoUnits.{UnitsOf, one_unit, room_of_wide, stored_pairs, two_units, units_of}
 use Rattle.written_types.specs.FitsTypes.{HasItsNew, HasType, HaveTypes}
 
 -- what is asked of the operands of a row holds
@@ -128,15 +128,6 @@ cut_of (suc at) locals = by (slice_get locals at) refl where
   by None none = rw none no_cut
   by (Some type) some = rw some (by_width (is_wide type))
 
-data Units (type : VType) : List VType → Type 0 where
-  alone : Units type (type ∷ [])
-  with_top : Units type (type ∷ types.Top ∷ [])
-
-units_are : (type : VType) → Units type (units type)
-units_are types.Long = with_top
-units_are types.Double = with_top
-units_are other = alone
-
 module _ (s : PlanScope) (reached : ℕ → Bool) where
   cut_have : {all cut : List VType} (slots : List Slot) → Cut all cut → HaveTypes s all slots → HaveTypes s cut slots
   cut_have slots no_cut have = have
@@ -146,19 +137,19 @@ module _ (s : PlanScope) (reached : ℕ → Bool) where
   cut_new no_cut new = new
   cut_new {all} (one_cut at) new = set_new s reached all at types.Top new tt
 
-  units_have : {type : VType} {own : List VType} → Units type own → (at : ℕ) (all : List VType) (slots : List Slot) (slot : Slot)
+  units_have : {type : VType} {own : List VType} → UnitsOf type own → (at : ℕ) (all : List VType) (slots : List Slot) (slot : Slot)
       → HaveTypes s all slots
       → HasType s type slot
       → HaveTypes s (with_units at own all) (slice_set slots at slot)
-  units_have {type} alone at all slots slot have has = put_both s all slots at type slot have has
-  units_have {type} with_top at all slots slot have has =
+  units_have {type} (one_unit narrow) at all slots slot have has = put_both s all slots at type slot have has
+  units_have {type} (two_units wide) at all slots slot have has =
       put_top s (slice_set all at type) (slice_set slots at slot) (at + 1) (put_both s all slots at type slot have has)
 
-  units_new : {type : VType} {own : List VType} → Units type own → (at : ℕ) (all : List VType) → AllByRecursion (HasItsNew s reached) all
+  units_new : {type : VType} {own : List VType} → UnitsOf type own → (at : ℕ) (all : List VType) → AllByRecursion (HasItsNew s reached) all
       → HasItsNew s reached type
       → AllByRecursion (HasItsNew s reached) (with_units at own all)
-  units_new {type} alone at all new own = set_new s reached all at type new own
-  units_new {type} with_top at all new own =
+  units_new {type} (one_unit narrow) at all new own = set_new s reached all at type new own
+  units_new {type} (two_units wide) at all new own =
       set_new s reached (slice_set all at type) (at + 1) types.Top (set_new s reached all at type new own) tt
 
 -- ---- rows
@@ -228,10 +219,10 @@ module _ (s : PlanScope) (reached : ℕ → Bool) (f : Frame) (before : State) (
       subst (λ (type : VType). Left s reached before (plan_store f at) (stored at type rf.locals) (under 1 rf.stack ++ []) true) (sym lowest)
       (left_by s reached f before st (plan_store f at) 1 [] (stored at value rf.locals) (under 1 rf.stack) [] refl
       (subst (HaveTypes s (stored at value rf.locals)) (sym slots_are)
-      (units_have s reached (units_are value) at (cut_before at rf.locals) _ (held before (operand f 0))
+      (units_have s reached (units_of value) at (cut_before at rf.locals) _ (held before (operand f 0))
       (cut_have s reached _ (cut_of at rf.locals) (kept_locals s reached f before st no_change)) has))
       (λ have. have) tt st.objects
-      (units_new s reached (units_are value) at (cut_before at rf.locals) (cut_new s reached (cut_of at rf.locals) st.locals) new)
+      (units_new s reached (units_of value) at (cut_before at rf.locals) (cut_new s reached (cut_of at rf.locals) st.locals) new)
       (new_under s reached f before st 1) tt
       (stored_pairs at value rf.locals st.pairs (λ wide. room_of_wide kind value rf.locals at fit.0 room wide)))
   store_of kind at (value ∷ other ∷ entries) are room fit = absurd fit.1

@@ -1,5 +1,5 @@
 -- Slots with types: one by one, in lists, and where they are moved, fitted to a point or made plain.
-use Rattle.std.proofs.Common.{◌≡◌, ◌+◌, ◌⊎◌, ℕ, zero, suc, Bool, true, false, List, [], ◌∷◌, ◌++◌, length, map, replicate, slice_get, Option, Some, None, if◌then◌else◌, IsTrue, refl, sym, ap, subst, ◌∙◌, arith, inl, inr}
+use Rattle.std.proofs.Common.{◌≡◌, ◌+◌, ℕ, zero, suc, Bool, true, false, List, [], ◌∷◌, ◌++◌, length, map, replicate, slice_get, Option, Some, None, if◌then◌else◌, refl, sym, ap, subst, ◌∙◌, arith}
 use Rattle.std.specs.List.{AllByRecursion}
 use Rattle.std.specs.Prelude.{slice_set}
 use Rattle.std.proofs.lemmas.Option.{none-some, same_Some}
@@ -56,10 +56,6 @@ read_wide flat (types.Uninit at) = by (class_of_site flat.sites at) refl where
   by (Some class) some = rw some refl
 read_wide flat type = refl
 
-pub read_wide_itself : (flat : FlatCode) (type : VType) → is_wide type ≡ true → read_type flat type ≡ type
-read_wide_itself flat (types.Uninit at) wide = absurd cc
-read_wide_itself flat type wide = refl
-
 module _ (s : PlanScope) where
   -- ---- one slot
 
@@ -67,9 +63,6 @@ module _ (s : PlanScope) where
   of_virtual type Plain is = tt
   of_virtual type (Virt site) is = is site refl
   of_virtual type Unusable is = tt
-
-  pub when_virtual : (type : VType) (slot : Slot) (site : ℕ) → HasType s type slot → slot ≡ Virt site → IsOfType s site type
-  when_virtual type slot site has is = subst (HasType s type) is has
 
   pub read_slot : (type : VType) (slot : Slot) → HasType s type slot → HasType s type (readable (Some slot))
   read_slot type Plain has = tt

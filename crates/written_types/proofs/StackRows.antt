@@ -1,10 +1,10 @@
 -- What pop, dup, swap and the like leave, with types: a plan and the typing of code take the same form.
-use Rattle.std.proofs.Common.{◌≡◌, ◌+◌, ◌-◌, ◌<◌, ℕ, zero, suc, Bool, true, false, List, [], ◌∷◌, ◌++◌, length, map, drop, slice_get, Option, Some, None, if◌then◌else◌, refl, sym, ap, subst, ◌∙◌, arith}
+use Rattle.std.proofs.Common.{◌≡◌, ◌+◌, ◌-◌, ◌<◌, ℕ, Bool, true, false, List, [], ◌∷◌, ◌++◌, length, map, drop, slice_get, Option, Some, None, if◌then◌else◌, refl, sym, ap, subst, ◌∙◌, arith}
 use Rattle.std.specs.Prelude.{◌==◌, ◌&&◌, not}
 use Rattle.std.specs.List.{AllByRecursion}
 use Rattle.std.proofs.lemmas.List.{drop-map, length-map}
 use Rattle.std.proofs.lemmas.Option.{none-some, same_Some}
-use Rattle.class_model.specs.Frames.{is_top, is_wide}
+use Rattle.class_model.specs.Frames.{is_top}
 use Rattle.class_model.specs.declared.frame.Frame.{Frame}
 use Rattle.class_model.specs.declared.frame.VType.{VType}
 use Rattle.class_model.specs.declared.frame.VType.TheVariants as types
@@ -17,7 +17,7 @@ use Rattle.member_link.specs.Rows.ShuffleRows.{Form, Width, form_in, form_row, f
 use Rattle.plan_flow.specs.PlanRows.{no_change}
 use Rattle.plan_flow.specs.PlanScope.{PlanScope}
 use Rattle.plan_flow.specs.PlanSlots.{slots_from}
-use Rattle.plan_flow.specs.PlanTable.{operand, picked_operands, shuffle_row}
+use Rattle.plan_flow.specs.PlanTable.{picked_operands, shuffle_row}
 use Rattle.virtual_state.specs.States.{State}
 use Rattle.written_types.proofs.OperandRows.{Fit, Leaves, no_operand}
 use Rattle.written_types.proofs.SlotTypes.{read_wide}

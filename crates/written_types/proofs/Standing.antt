@@ -1,5 +1,5 @@
 -- The state before an instruction and what the instruction leaves, with types, where it moves values and gives others.
-use Rattle.std.proofs.Common.{◌≡◌, ◌+◌, ◌-◌, ◌≤◌, ◌<◌, ℕ, zero, suc, Bool, true, false, List, [], ◌∷◌, ◌++◌, length, map, take, drop, slice_get, Some, None, refl, sym, ap, subst, ◌∙◌, arith}
+use Rattle.std.proofs.Common.{◌≡◌, ◌+◌, ◌-◌, ◌≤◌, ◌<◌, ℕ, zero, suc, Bool, true, List, [], ◌∷◌, ◌++◌, length, map, take, drop, slice_get, Some, refl, sym, ap, subst, ◌∙◌, arith}
 use Rattle.std.specs.List.{AllByRecursion}
 use Rattle.std.proofs.lemmas.List.{length-drop, length-map, length-take-le, map-append}
 use Rattle.std.proofs.lemmas.Option.{none-some, same_Some}
@@ -9,8 +9,7 @@ use Rattle.class_model.specs.declared.frame.VType.TheVariants as types
 use Rattle.flow_code.specs.ReadTypes.{read_frame, read_type}
 use Rattle.member_link.specs.RowScope.{RowScope}
 use Rattle.member_link.specs.Rows.Operands.{AllFit, Need, topmost, under}
-use Rattle.member_link.specs.Rows.Row.{Row, stack_behind}
-use Rattle.plan_flow.specs.PlanRows.{Change, PlanRow, Source, from_place}
+use Rattle.plan_flow.specs.PlanRows.{Change, PlanRow, Source}
 use Rattle.plan_flow.specs.PlanScope.{PlanScope}
 use Rattle.plan_flow.specs.PlanSlots.{changed, held, slot_from, slots_from}
 use Rattle.plan_flow.specs.PlanTable.{held_from, held_locals, operand}

@@ -1,11 +1,11 @@
 -- The first point: no uninitialised object is in the frame that a host begins with, and no virtual object in the state.
-use Rattle.std.proofs.Common.{◌≡◌, ◌-◌, ℕ, zero, suc, Bool, true, false, List, [], ◌∷◌, ◌++◌, length, map, replicate, Option, Some, None, IsTrue, option_and_then, option_map, refl, sym, ap, subst, ◌∙◌, inl, slice_get}
+use Rattle.std.proofs.Common.{◌≡◌, ◌-◌, ℕ, zero, suc, Bool, true, false, List, [], ◌∷◌, ◌++◌, length, map, replicate, Option, Some, None, option_and_then, option_map, refl, sym, ap, subst, ◌∙◌, slice_get}
 use Rattle.std.specs.List.{AllByRecursion}
 use Rattle.std.proofs.lemmas.List.{map-append}
 use Rattle.std.proofs.lemmas.Option.{none-some, same_Some}
 use Rattle.class_model.specs.Code.{entry_frame, verification_type}
 use Rattle.class_model.specs.Descriptors.{parameters_of}
-use Rattle.class_model.specs.Frames.{filled, is_top, units, units_of_entries}
+use Rattle.class_model.specs.Frames.{filled, units, units_of_entries}
 use Rattle.class_model.specs.Members.{STATIC, has, is_text}
 use Rattle.class_model.specs.MethodCode.{code_of}
 use Rattle.class_model.specs.Methods.{home_of}
@@ -19,19 +19,17 @@ use Rattle.class_model.specs.declared.descriptor.FieldType.{FieldType}
 use Rattle.class_model.specs.declared.frame.VType.{VType}
 use Rattle.class_model.specs.declared.frame.VType.TheVariants as types
 use Rattle.class_tree.specs.Headers.{Classes, Headers, headers_of}
-use Rattle.flow_code.specs.FlatCode.{FlatCode, point_at}
+use Rattle.flow_code.specs.FlatCode.{point_at}
 use Rattle.flow_code.specs.ReadTypes.{read_frame, read_type}
 use Rattle.flow_code.specs.declared.point.Point.{Point}
 use Rattle.member_link.specs.Rows.FrameAssignability.{IsFrameAssignable}
 use Rattle.member_link.specs.Scope.{Scope, is_init, scope_at, scope_of}
-use Rattle.plan_flow.specs.PlanScope.{PlanScope, local_types, stack_types}
+use Rattle.plan_flow.specs.PlanScope.{PlanScope, stack_types}
 use Rattle.plan_flow.specs.PlanSlots.{fit_locals, fit_stack}
 use Rattle.plan_flow.specs.Plans.{state_without_sites}
-use Rattle.plan_flow.specs.ReadyForPlans.{place_types}
 use Rattle.same_runs.specs.FlatBodies.{flat_entry}
 use Rattle.same_runs.specs.TypedFlats.{MayGoToPoint}
-use Rattle.virtual_state.specs.States.{State, is_unusable}
-use Rattle.virtual_state.specs.declared.slot.VObject.{VObject}
+use Rattle.virtual_state.specs.States.{is_unusable}
 use Rattle.written_types.proofs.Arrivals.{FitsPoint, fits_types, news_assigned, types_there}
 use Rattle.written_types.proofs.OperandRows.{new_of_type}
 use Rattle.written_types.proofs.SlotTypes.{joined, no_locals, no_stack, unusable_locals, usable_stack}

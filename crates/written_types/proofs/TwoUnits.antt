@@ -1,5 +1,5 @@
 -- Longs and doubles with their second units: behind a store, where types are changed or assigned, and as they are written.
-use Rattle.std.proofs.Common.{◌≡◌, ◌+◌, ◌≤◌, ◌⊎◌, ℕ, zero, suc, Bool, true, false, List, [], ◌∷◌, ◌++◌, length, map, replicate, slice_get, Option, Some, None, if◌then◌else◌, IsTrue, refl, sym, ap, subst, ◌∙◌, arith, inl, inr}
+use Rattle.std.proofs.Common.{◌≡◌, ◌+◌, ◌≤◌, ℕ, zero, suc, Bool, true, false, List, [], ◌∷◌, ◌++◌, length, map, replicate, slice_get, Option, Some, None, if◌then◌else◌, refl, sym, ap, subst, ◌∙◌, arith}
 use Rattle.std.specs.Prelude.{slice_set}
 use Rattle.std.proofs.lemmas.List.{append_assoc}
 use Rattle.class_model.specs.Frames.{filled, is_top, is_wide, units, units_of_entries}
@@ -19,7 +19,7 @@ use Rattle.plan_flow.specs.Written.WrittenFrames.{local_types_from, type_of_slot
 use Rattle.virtual_state.specs.States.{is_unusable}
 use Rattle.virtual_state.specs.declared.slot.Slot.{Slot}
 use Rattle.virtual_state.specs.declared.slot.Slot.TheVariants.{Plain, Virt, Unusable}
-use Rattle.written_types.proofs.SlotTypes.{not_wide, read_as_top, read_wide, read_wide_itself}
+use Rattle.written_types.proofs.SlotTypes.{not_wide, read_as_top, read_wide}
 use Rattle.written_types.specs.FitsTypes.{BeginsWithTop, HasType, HavePairs, HaveTypes, HoldPairs}
 
 -- ---- types that are changed
@@ -72,11 +72,11 @@ tops_paired zero = tt
 tops_paired (suc count) = (λ wide. absurd cc, tops_paired count)
 
 -- the units of a type, in front of others
-data UnitsOf (type : VType) : List VType → Type 0 where
+pub data UnitsOf (type : VType) : List VType → Type 0 where
   one_unit : is_wide type ≡ false → UnitsOf type (type ∷ [])
   two_units : is_wide type ≡ true → UnitsOf type (type ∷ types.Top ∷ [])
 
-units_of : (type : VType) → UnitsOf type (units type)
+pub units_of : (type : VType) → UnitsOf type (units type)
 units_of types.Long = two_units refl
 units_of types.Double = two_units refl
 units_of types.Top = one_unit refl

@@ -1,5 +1,5 @@
 -- What types have where a plan leads: at each point that it reaches, and behind each edge. It is this project's profile.
-use Rattle.std.specs.Prelude.{◌≡◌, ◌++◌, ℕ, Bool, List, [], ◌∷◌, map, slice_get, is_some, Some, IsTrue}
+use Rattle.std.specs.Prelude.{◌≡◌, ℕ, Bool, List, [], ◌∷◌, map, slice_get, is_some, Some, IsTrue}
 use Rattle.std.specs.List.{AllByRecursion}
 use Rattle.std.specs.Option.{option_flatten}
 use Rattle.class_model.specs.Code.{verification_type}
