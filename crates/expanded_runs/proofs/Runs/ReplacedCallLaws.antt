@@ -53,7 +53,7 @@ use Rattle.member_link.specs.Choices.{IsRunnable}
 use Rattle.member_link.specs.CodedMethods.{placed_at}
 use Rattle.member_link.specs.DeclaredMembers.{Declared, IsMethod}
 use Rattle.member_link.specs.FoundAbove.{IsMethodAbove}
-use Rattle.member_link.specs.Machine.CallSteps.{is_polymorphic, special_on, virtual_on}
+use Rattle.member_link.specs.Machine.CallSteps.{is_object_init, is_polymorphic, special_on, virtual_on}
 use Rattle.member_link.specs.Machine.Codes.{call_op, code_points, instr_op, method_code, number_at, or_meaningless, special_start}
 use Rattle.member_link.specs.Machine.Completions.{calls, ends, raises}
 use Rattle.member_link.specs.Machine.Links.{reference_to}
@@ -68,6 +68,7 @@ use Rattle.member_link.specs.Methods.{FindsMethod, IsPolymorphic}
 use Rattle.member_link.specs.References.{Reference}
 use Rattle.member_link.specs.Rows.MemberRows.{MayInitialise, argument_needs, call_row, init_row, receiver, special_row}
 use Rattle.member_link.specs.Rows.Operands.{AllFit, assignable_to, topmost, uninitialised}
+use Rattle.member_link.specs.Rows.Readings.{Reading, reads_itself, row_by}
 use Rattle.member_link.specs.Rows.Row.{access_aside, either}
 use Rattle.member_link.specs.Scope.{Scope, instructions, is_init, own_descriptor, row_scope}
 use Rattle.member_link.specs.Selection.{Selects, chosen_method}
@@ -79,6 +80,7 @@ use Rattle.same_runs.specs.Laws.Operations.{WorksOnOperands}
 use Rattle.type_rules.specs.Rule.{row_checks}
 use Rattle.typed_runs.specs.Conforming.{HoldsShape}
 use Rattle.typed_runs.specs.TypedFrames.{Does}
+use Rattle.typed_runs.specs.Laws.PlainReadings.{IsPlainlyRead, plainly_read}
 use Rattle.typed_runs.specs.TypedPoints.{IsLinkedOp}
 use Rattle.typed_runs.specs.TypedWorlds.{TypedWorld}
 
@@ -157,11 +159,28 @@ module _ (u : Setup) (is : IsSetup u) (laws : CallLaws) (read : AreRead u.classe
     linked : (op : Op) → point.op ≡ op → IsLinkedOp (before u) (u.typings f.at).scope d.stands.fits.place op
     linked op e = subst (IsLinkedOp (before u) (u.typings f.at).scope d.stands.fits.place) (same_point op e) d.stands.fits.linked
 
-    holds : (op : Op) → point.op ≡ op → HoldsCall d.stands.fits.scope d.stands.fits.frame op
-    holds op e =
-        let own =
-        holds_call d.stands.fits.scope d.stands.fits.frame u.links d.stands.fits.numbered d.stands.fits.place d.stands.fits.item d.stands.fits.row in
+    -- its row is read as it is
+    holds : (op : Op) → point.op ≡ op → IsPlainlyRead op → HoldsCall d.stands.fits.scope d.stands.fits.frame op
+    holds op e plain =
+        let p = d.stands.fits in
+        let itself : p.reading ≡ reads_itself =
+        plainly_read p.reading p.frame d.stands.point.op p.read (subst IsPlainlyRead (sym (same_point op e)) plain) in
+        let row =
+        subst (λ (reading : Reading). RowHolds p.scope p.frame (row_by reading p.frame (item_row p.scope p.frame p.place p.item))) itself p.row in
+        let own = holds_call p.scope p.frame u.links p.numbered p.place p.item row in
         subst (HoldsCall d.stands.fits.scope d.stands.fits.frame) (sym d.stands.fits.is_op ∙ same_point op e) own
+
+    -- an instance initialiser of another class than java/lang/Object
+    plain_init : (r : Reference) (from : Name) → r.class ≢ object → IsPlainlyRead (call_special r from)
+    plain_init r from other = record {
+      no_new = λ name e. cc;
+      no_init = λ named start e.
+          let same : r ≡ named = cc in
+          subst (λ (x : Reference). is_object_init x ≡ false) same (by (bytes_eq r.class object) refl);
+    } where
+      by : (b : Bool) → bytes_eq r.class object ≡ b → is_object_init r ≡ false
+      by true e = absurd (other ((bytes_eq-Decides r.class object).0 e))
+      by false e = rw e refl
 
     going : (op : Op) → point.op ≡ op → WorksOnOperands op → GoesOn (before u) u.typings laws.steps w f rest typed frames op
     going op e works = goes_on (before u) u.typings laws.steps w f rest typed frames point op point_is e works
@@ -274,7 +293,7 @@ module _ (u : Setup) (is : IsSetup u) (laws : CallLaws) (read : AreRead u.classe
           no_interface = class.no_interface;
         } in
         let no_init : its_calls.method.member.name ≢ init = λ e. l.1 (sym above.same_name ∙ e) in
-        let row = holds (call_virtual r) op in
+        let row = holds (call_virtual r) op (record { no_new = λ name e. cc; no_init = λ other start e. cc }) in
         let t = typed_receiver d.stands.fits.scope (assignable_to (types.Object r.class)) d.stands.fits.frame r f row.operands d.stack in
         let vs : List Value = t.value ∷ t.others in
         let assignable = subst (λ hs. IsAssignable hs t.type (types.Object r.class)) scope_headers t.fits in
@@ -475,7 +494,7 @@ module _ (u : Setup) (is : IsSetup u) (laws : CallLaws) (read : AreRead u.classe
           let yes : bytes_eq r.name init ≡ true = (bytes_eq-Decides r.name init).1 named in
           let row = subst (λ (b : Bool). RowHolds d.stands.fits.scope d.stands.fits.frame
           (access_aside (either b (init_row d.stands.fits.scope d.stands.fits.frame r) (special_row d.stands.fits.scope d.stands.fits.frame r)))) yes
-          (holds (call_special r from) special.op) in
+          (holds (call_special r from) special.op (plain_init r from (λ e. apart (class ∙ e)))) in
           let t = typed_receiver d.stands.fits.scope uninitialised d.stands.fits.frame r f row.operands d.stack in
           let may_be = subst (MayInitialise d.stands.fits.scope r) t.lowest row.further in
           let o = init_object d.stands.fits.scope r g.at.class objects d.stands.fits.reads.news number t.conforms may_be in
