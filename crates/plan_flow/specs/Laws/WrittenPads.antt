@@ -144,10 +144,10 @@ pad_of_all pads is_it at points routes point route block left right is is_route 
   before ++ left,
   right ++ behind,
   parts ∙ ap (λ (blocks : List Block). before ++ (blocks ++ behind)) here
-  ∙ ap (λ (blocks : List Block). before ++ blocks) (append_assoc left (block ∷ right) behind)
-  ∙ sym (append_assoc before left (block ∷ (right ++ behind))),
+      ∙ ap (λ (blocks : List Block). before ++ blocks) (append_assoc left (block ∷ right) behind)
+      ∙ sym (append_assoc before left (block ∷ (right ++ behind))),
   holds_of_both (λ block. is_it block.of ≡ false) before left
-  (none_of_reached is_it pads 0 (take at points) (take at routes) (λ other one onwards low.
+      (none_of_reached is_it pads 0 (take at points) (take at routes) (λ other one onwards low.
       earlier other one onwards (omega (arith, low, few at points)))) none,
 ) where
   before : List Block
@@ -234,25 +234,25 @@ jumps_begin_none : (s : PlanScope) (to : ℕ) (points : List Point) (routes : Ro
     → AreNone (begins_point to) (of_reached (jump_pads s) 0 points routes)
 jumps_begin_none s to points routes =
     none_of_reached (begins_point to) (jump_pads s) 0 points routes (λ at point route low.
-        none_of_edges (begins_point to) (λ edge. jump_pad_of s at (is_decided point route) edge edge.by) route.edges
-        (λ edge. of_kind at edge (is_decided point route) edge.by)) where
-          of_kind : (at : ℕ) (edge : RouteEdge) (decided : Bool) (by : EdgeKind) → AreNone (begins_point to) (jump_pad_of s at decided edge by)
-          of_kind at edge false (edges.Jump one) = none_made (begins_point to) s (jump_pad at one) edge edge.made refl
-          of_kind at edge true (edges.Jump one) = tt
-          of_kind at edge false edges.Next = tt
-          of_kind at edge true edges.Next = tt
-          of_kind at edge false (edges.Handler one) = tt
-          of_kind at edge true (edges.Handler one) = tt
+    none_of_edges (begins_point to) (λ edge. jump_pad_of s at (is_decided point route) edge edge.by) route.edges
+    (λ edge. of_kind at edge (is_decided point route) edge.by)) where
+      of_kind : (at : ℕ) (edge : RouteEdge) (decided : Bool) (by : EdgeKind) → AreNone (begins_point to) (jump_pad_of s at decided edge by)
+      of_kind at edge false (edges.Jump one) = none_made (begins_point to) s (jump_pad at one) edge edge.made refl
+      of_kind at edge true (edges.Jump one) = tt
+      of_kind at edge false edges.Next = tt
+      of_kind at edge true edges.Next = tt
+      of_kind at edge false (edges.Handler one) = tt
+      of_kind at edge true (edges.Handler one) = tt
 
 handlers_begin_none : (s : PlanScope) (to : ℕ) (points : List Point) (routes : Routes)
     → AreNone (begins_point to) (of_reached (handler_pads s) 0 points routes)
 handlers_begin_none s to points routes =
     none_of_reached (begins_point to) (handler_pads s) 0 points routes (λ at point route low.
-        none_of_edges (begins_point to) (λ edge. handler_pad_of s at edge edge.by) route.edges (λ edge. of_kind at edge edge.by)) where
-          of_kind : (at : ℕ) (edge : RouteEdge) (by : EdgeKind) → AreNone (begins_point to) (handler_pad_of s at edge by)
-          of_kind at edge (edges.Handler one) = none_made (begins_point to) s (handler_pad at one) edge edge.made refl
-          of_kind at edge edges.Next = tt
-          of_kind at edge (edges.Jump one) = tt
+    none_of_edges (begins_point to) (λ edge. handler_pad_of s at edge edge.by) route.edges (λ edge. of_kind at edge edge.by)) where
+      of_kind : (at : ℕ) (edge : RouteEdge) (by : EdgeKind) → AreNone (begins_point to) (handler_pad_of s at edge by)
+      of_kind at edge (edges.Handler one) = none_made (begins_point to) s (handler_pad at one) edge edge.made refl
+      of_kind at edge edges.Next = tt
+      of_kind at edge (edges.Jump one) = tt
 
 -- ---- jump pads
 
@@ -319,16 +319,16 @@ jump_pad_stands s routes at number point route edge site sites is is_route undec
       of_all (before, behind, whole, none) = (
         length (own ++ before),
         stands_first s routes (is_jump_pad at number) block (own ++ before) (behind ++ handlers)
-        (ap (λ (pads : List Block). own ++ pads ++ handlers) whole
-        ∙ ap (λ (all : List Block). all ++ handlers) (sym (append_assoc own before (block ∷ behind)))
-        ∙ append_assoc (own ++ before) (block ∷ behind) handlers)
-        (holds_of_both (λ one. is_jump_pad at number one.of ≡ false) own before
-        (none_of_reached (is_jump_pad at number) (point_blocks s) 0 s.flat.points routes
-        (λ other one onwards low. none_of_point (is_jump_pad at number) s other one onwards (jump_of_no_point at number))) none)
-        (λ to. holds_of_both (λ one. begins_point to one.of ≡ false) behind handlers
-        (none_right (begins_point to) (before ++ block ∷ []) behind
-        (subst (AreNone (begins_point to)) (whole ∙ sym (append_assoc before (block ∷ []) behind)) (jumps_begin_none s to s.flat.points routes)))
-        (handlers_begin_none s to s.flat.points routes)),
+            (ap (λ (pads : List Block). own ++ pads ++ handlers) whole
+            ∙ ap (λ (all : List Block). all ++ handlers) (sym (append_assoc own before (block ∷ behind)))
+            ∙ append_assoc (own ++ before) (block ∷ behind) handlers)
+            (holds_of_both (λ one. is_jump_pad at number one.of ≡ false) own before
+            (none_of_reached (is_jump_pad at number) (point_blocks s) 0 s.flat.points routes
+            (λ other one onwards low. none_of_point (is_jump_pad at number) s other one onwards (jump_of_no_point at number))) none)
+            (λ to. holds_of_both (λ one. begins_point to one.of ≡ false) behind handlers
+            (none_right (begins_point to) (before ++ block ∷ []) behind
+            (subst (AreNone (begins_point to)) (whole ∙ sym (append_assoc before (block ∷ []) behind)) (jumps_begin_none s to s.flat.points routes)))
+            (handlers_begin_none s to s.flat.points routes)),
       )
 
 -- ---- handler pads
@@ -399,16 +399,16 @@ handler_pad_stands s routes at number point route edge site sites is is_route fo
       of_all (before, behind, whole, none) = (
         length (earlier ++ before),
         stands_first s routes (is_handler_pad at number) block (earlier ++ before) behind
-        (ap (λ (pads : List Block). earlier ++ pads) whole ∙ sym (append_assoc earlier before (block ∷ behind)))
-        (holds_of_both (λ one. is_handler_pad at number one.of ≡ false) earlier before
-        (holds_of_both (λ one. is_handler_pad at number one.of ≡ false) (of_reached (point_blocks s) 0 s.flat.points routes)
-        (of_reached (jump_pads s) 0 s.flat.points routes)
-        (none_of_reached (is_handler_pad at number) (point_blocks s) 0 s.flat.points routes
-        (λ other one onwards low. none_of_point (is_handler_pad at number) s other one onwards (handler_of_no_point at number)))
-        (none_of_reached (is_handler_pad at number) (jump_pads s) 0 s.flat.points routes
-        (λ other one onwards low. no_jump_pads s at number other one onwards))) none)
-        (λ to. none_right (begins_point to) (before ++ block ∷ []) behind
-        (subst (AreNone (begins_point to)) (whole ∙ sym (append_assoc before (block ∷ []) behind)) (handlers_begin_none s to s.flat.points routes))),
+            (ap (λ (pads : List Block). earlier ++ pads) whole ∙ sym (append_assoc earlier before (block ∷ behind)))
+            (holds_of_both (λ one. is_handler_pad at number one.of ≡ false) earlier before
+            (holds_of_both (λ one. is_handler_pad at number one.of ≡ false) (of_reached (point_blocks s) 0 s.flat.points routes)
+            (of_reached (jump_pads s) 0 s.flat.points routes)
+            (none_of_reached (is_handler_pad at number) (point_blocks s) 0 s.flat.points routes
+            (λ other one onwards low. none_of_point (is_handler_pad at number) s other one onwards (handler_of_no_point at number)))
+            (none_of_reached (is_handler_pad at number) (jump_pads s) 0 s.flat.points routes
+            (λ other one onwards low. no_jump_pads s at number other one onwards))) none)
+            (λ to. none_right (begins_point to) (before ++ block ∷ []) behind
+            (subst (AreNone (begins_point to)) (whole ∙ sym (append_assoc before (block ∷ []) behind)) (handlers_begin_none s to s.flat.points routes))),
       )
 
 -- ---- a goto that is not written
