@@ -1,0 +1,247 @@
+-- Each turn of the program with flat codes keeps runs related: so the program with written codes runs the same.
+use Rattle.std.proofs.Common.{◌≡◌, ◌⊎◌, ◌≤◌, ◌-◌, ◌++◌, ℕ, Bool, true, false, List, [], ◌∷◌, length, map, Option, None, refl, sym, ap, subst, ◌∙◌, arith, inl, inr}
+use Rattle.std.proofs.lemmas.Bool.{false≢true}
+use Rattle.std.proofs.lemmas.Option.{none-some}
+use Rattle.machine_values.specs.Frames.{MethodState}
+use Rattle.machine_values.specs.declared.action.Action.{Action}
+use Rattle.machine_values.specs.declared.frame.RunFrame.{RunFrame}
+use Rattle.machine_values.specs.declared.frame.RunFrame.TheVariants.{Beginning, Library, Method}
+use Rattle.member_link.specs.Machine.Programs.{Program}
+use Rattle.member_link.specs.Machine.Runs.{Run, begins_with, end_of, shown}
+use Rattle.member_link.specs.Machine.SameRuns.{IsSameShown, SameRuns}
+use Rattle.member_link.specs.Machine.Stepping.{is_library_turn}
+use Rattle.member_link.specs.Machine.Worlds.{World, start}
+use Rattle.same_runs.specs.Laws.QuietCalls.{quiet_keeps}
+use Rattle.same_runs.specs.Laws.Simulated.{ends_over_same, ends_same, events_no_more, simulated}
+use Rattle.same_runs.specs.Renamings.{Names, SameHeld, no_references, none_held}
+use Rattle.same_runs.specs.SameMemories.{HasOwnConstants, SameMemories}
+use Rattle.same_runs.specs.SameWorlds.{SameSeen, no_events}
+use Rattle.same_runs.specs.Simulations.{Keeps, Quietly, at_once, turn_first}
+use Rattle.typed_runs.specs.TypedFrames.{FramesConform, nothing_awaited}
+use Rattle.typed_runs.specs.TypedWorlds.{TypedWorld}
+use Rattle.written_runs.specs.Inner.PlannedFrames.{InPlanned, Known}
+use Rattle.written_runs.specs.Inner.Setup.{Setup, first, second}
+use Rattle.written_runs.specs.Inner.Standing.{InOwn, Stands, apart, beginnings_stand, comparison, is_awaited, libraries_stand, none_stand, own_stand, planned_stand}
+use Rattle.written_runs.specs.Inner.Together.{IsSettled, NoTurnBelow, Over, Related, Together, TopIsSettled, points_left, weight}
+use Rattle.written_runs.specs.VirtualObjects.{Virtuals}
+
+-- a turn of the first, where both go together
+abbrev pub KeepsTurn : (u : Setup) → ℕ → Run → Run → Type 0
+KeepsTurn u measure one other = Keeps (first u) (second u) (Related u) measure one other
+
+-- what the parts of the proof give together: a turn of the first by what stands on top
+pub record Parts (u : Setup) : Type 0 where
+  -- a beginning of a class that the first has begun alone
+  pub alone : (measure : ℕ) (one other : Run) (t : Together u measure one other) (class : ℕ) (now : List ℕ)
+      → t.along.now ≡ class ∷ now
+      → KeepsTurn u measure one other
+  -- the library's turn
+  pub library : (measure : ℕ) (one other : Run) (t : Together u measure one other)
+      → t.along.now ≡ []
+      → (made made_also : Option ℕ) (ones others : List RunFrame)
+      → t.along.ones ≡ Library made ∷ ones
+      → t.along.others ≡ Library made_also ∷ others
+      → SameHeld t.along.names made made_also
+      → Stands u t.along.virtuals t.along.known true t.along.names ones others
+      → KeepsTurn u measure one other
+  -- a beginning in both
+  pub beginning : (measure : ℕ) (one other : Run) (t : Together u measure one other)
+      → t.along.now ≡ []
+      → (class : ℕ) (ones others : List RunFrame)
+      → t.along.ones ≡ Beginning class ∷ ones
+      → t.along.others ≡ Beginning class ∷ others
+      → Stands u t.along.virtuals t.along.known false t.along.names ones others
+      → KeepsTurn u measure one other
+  -- a method that runs its own code in both
+  pub own : (measure : ℕ) (one other : Run) (t : Together u measure one other)
+      → t.along.now ≡ []
+      → (f g : MethodState) (ones others : List RunFrame)
+      → t.along.ones ≡ Method f ∷ ones
+      → t.along.others ≡ Method g ∷ others
+      → InOwn u t.along.names f g
+      → Stands u t.along.virtuals t.along.known (is_awaited u g.at) t.along.names ones others
+      → KeepsTurn u measure one other
+  -- a method that is rewritten
+  pub planned : (measure : ℕ) (one other : Run) (t : Together u measure one other)
+      → t.along.now ≡ []
+      → (f g : MethodState) (ones others : List RunFrame)
+      → t.along.ones ≡ Method f ∷ ones
+      → t.along.others ≡ Method g ∷ others
+      → (in_planned : InPlanned u t.along.virtuals t.along.known t.along.names (length ones) f g)
+      → IsSettled u one.world.memory in_planned.one f g in_planned.block
+      → Stands u t.along.virtuals t.along.known (is_awaited u g.at) t.along.names ones others
+      → weight (first u) one.world.memory [] (length in_planned.one.flat.points - f.place) ≤ measure
+      → KeepsTurn u measure one other
+  -- both are over
+  pub over : (measure : ℕ) (one other : Run) → Over u one other → KeepsTurn u measure one other
+  pub starts : TypedWorld (first u) u.typings start
+
+module _ (u : Setup) (parts : Parts u) where
+  abbrev P : Program
+  P = first u
+
+  abbrev Q : Program
+  Q = second u
+
+  -- ---- one turn
+
+  module _ (measure : ℕ) (one other : Run) (t : Together u measure one other) (none : t.along.now ≡ []) where
+    stands : one.world.frames ≡ t.along.ones
+    stands = t.along.stands ∙ ap (λ (now : List ℕ). map Beginning now ++ t.along.ones) none
+
+    -- frames that stand in the first
+    some_frames : t.along.ones ≡ [] → ⊥
+    some_frames is =
+        no_frames (subst (FramesConform P u.typings one.world.memory.heap nothing_awaited) (stands ∙ is) t.along.typed.frames) where
+          no_frames : FramesConform P u.typings one.world.memory.heap nothing_awaited [] → ⊥
+          no_frames impossible = elim impossible [ ]
+
+    by_top : (ones others : List RunFrame) (frames : Stands u t.along.virtuals t.along.known false t.along.names ones others)
+        → t.along.ones ≡ ones
+        → t.along.others ≡ others
+        → TopIsSettled one.world.memory frames
+        → weight P one.world.memory [] (points_left frames) ≤ measure
+        → KeepsTurn u measure one other
+    by_top ones others none_stand is is_also settled low = absurd (some_frames is)
+    by_top ones others (libraries_stand {made = made} {made_also = made_also} {ones = rest} {others = rest_also} held below) is is_also settled low =
+        parts.library measure one other t none made made_also rest rest_also is is_also held below
+    by_top ones others (beginnings_stand {class = class} {ones = rest} {others = rest_also} below) is is_also settled low =
+        parts.beginning measure one other t none class rest rest_also is is_also below
+    by_top ones others (own_stand {f = f} {g = g} {ones = rest} {others = rest_also} in_own below) is is_also settled low =
+        parts.own measure one other t none f g rest rest_also is is_also in_own below
+    by_top ones others (planned_stand {f = f} {g = g} {ones = rest} {others = rest_also} in_planned waiting below) is is_also settled low =
+        parts.planned measure one other t none f g rest rest_also is is_also in_planned settled below low
+
+  together_keeps : (measure : ℕ) (one other : Run) → Together u measure one other → KeepsTurn u measure one other
+  together_keeps measure one other t = by t.along.now refl where
+    by : (now : List ℕ) → t.along.now ≡ now → KeepsTurn u measure one other
+    by [] none =
+        by_top measure one other t none t.along.ones t.along.others t.along.frames refl refl t.settled
+        (subst (λ (now : List ℕ). weight P one.world.memory now (points_left t.along.frames) ≤ measure) none t.low)
+    by (class ∷ now) some = parts.alone measure one other t class now some
+
+  keeps : (measure : ℕ) (one other : Run) → Related u measure one other → Keeps P Q (Related u) measure one other
+  keeps measure one other related = by related.state where
+    by : Together u measure one related.later ⊎ Over u one related.later → Keeps P Q (Related u) measure one other
+    by (inl t) = quiet_keeps related.quietly (together_keeps measure one related.later t)
+    by (inr over) = quiet_keeps related.quietly (parts.over measure one related.later over)
+
+  -- ---- what is shown
+
+  quietly_shows : {R : Program} {r later : Run} → Quietly R r later → shown later ≡ shown r
+  quietly_shows at_once = refl
+  quietly_shows (turn_first same more) = quietly_shows more ∙ same
+
+  -- it is the library's turn in both or in none
+  same_turn : {virtuals : Virtuals} {known : Known} {waiting : Bool} {names : Names} {ones others : List RunFrame}
+      → Stands u virtuals known waiting names ones others
+      → is_library_turn others ≡ is_library_turn ones
+  same_turn none_stand = refl
+  same_turn (libraries_stand held below) = refl
+  same_turn (beginnings_stand below) = refl
+  same_turn (own_stand in_own below) = refl
+  same_turn (planned_stand in_planned waiting below) = refl
+
+  -- with equal ends, and events whose counts are not more
+  same_shown : {virtuals : Virtuals} {known : Known} {names : Names} (one other : Run)
+      → SameSeen (comparison u virtuals known) names one.world other.world
+      → end_of other ≡ end_of one
+      → IsSameShown (shown one) (shown other)
+  same_shown one other seen end =
+      record { events = events_no_more (λ n m less. less) (λ n m less. less) seen.events; end = end }
+
+  together_shows : (measure : ℕ) (one other : Run) → Together u measure one other → IsSameShown (shown one) (shown other)
+  together_shows measure one other t =
+      same_shown one other t.along.seen (ends_same one other (t.along.goes_also ∙ sym t.along.goes) (by t.along.now refl) t.along.actions t.along.used) where
+        by : (now : List ℕ) → t.along.now ≡ now → is_library_turn other.world.frames ≡ is_library_turn one.world.frames
+        by [] none =
+            ap is_library_turn t.along.stands_also ∙ same_turn t.along.frames
+            ∙ sym (ap is_library_turn (t.along.stands ∙ ap (λ (classes : List ℕ). map Beginning classes ++ t.along.ones) none))
+        by (class ∷ now) some =
+            let below = subst (λ (classes : List ℕ). NoTurnBelow classes t.along.ones) some t.along.no_turn in
+            ap is_library_turn t.along.stands_also ∙ same_turn t.along.frames ∙ below
+            ∙ sym (ap is_library_turn (t.along.stands ∙ ap (λ (classes : List ℕ). map Beginning classes ++ t.along.ones) some))
+
+  shows : (measure : ℕ) (one other : Run) → Related u measure one other → IsSameShown (shown one) (shown other)
+  shows measure one other related =
+      subst (IsSameShown (shown one)) (quietly_shows related.quietly) (by related.state) where
+        by : Together u measure one related.later ⊎ Over u one related.later → IsSameShown (shown one) (shown related.later)
+        by (inl t) = together_shows measure one related.later t
+        by (inr over) = same_shown one related.later over.seen (ends_over_same one related.later over.over over.same over.used)
+
+  -- ---- both runs from the start
+
+  abbrev none_named : Names
+  none_named reference = None
+
+  starts_together : (actions : List Action) → (measure : ℕ) × Related u measure (begins_with actions) (begins_with actions)
+  starts_together actions = (
+    weight P start.memory [] 0,
+    record {
+      later = begins_with actions;
+      quietly = at_once;
+      state = inl (record {
+        along = record {
+          virtuals = [];
+          are_apart = tt;
+          known = [];
+          are_known = record { each = λ reference class is. absurd (none-some (reference, class) is.is_there) };
+          names = none_named;
+          now = [];
+          ones = start.frames;
+          stands = refl;
+          others = start.frames;
+          stands_also = refl;
+          frames = libraries_stand none_held none_stand;
+          owned = record {
+            owner = λ number virtual is. absurd (none-some virtual is);
+            begun = λ number class virtual is. absurd (none-some virtual is);
+          };
+          alone = tt;
+          no_turn = tt;
+          memories = start_memories;
+          seen = record { known = no_references; events = no_events };
+          goes = refl;
+          goes_also = refl;
+          actions = refl;
+          used = refl;
+          typed = parts.starts;
+        };
+        settled = tt;
+        low = omega arith;
+      });
+    },
+  ) where
+    no_constants : HasOwnConstants start.memory.heap
+    no_constants = record {
+      there = λ constant reference kept. absurd (none-some reference kept);
+      is_of = λ constant reference kept. absurd (none-some reference kept);
+      has = λ constant reference kept. absurd (none-some constant kept);
+    }
+
+    start_memories : SameMemories P (comparison u [] []).allocated (comparison u [] []).entered (apart []) none_named [] start.memory start.memory
+    start_memories = record {
+      heaps = record {
+        renaming = record { once = λ first second reference is also. absurd (none-some reference is) };
+        objects = λ reference named is. absurd (none-some named is);
+        own = no_constants;
+        own_also = no_constants;
+        kept = λ constant named is. absurd (none-some named is);
+        named = λ constant reference named kept is. absurd (none-some named is);
+        fresh = λ constant reference kept none. absurd (none-some reference kept);
+        stays = tt;
+      };
+      statics = record {
+        begun = λ class is. is;
+        values = λ class field begun. absurd (false≢true begun);
+        alone = λ class begun none. absurd (false≢true begun);
+        unwritten = λ class field none. refl;
+        unwritten_also = λ class field none. refl;
+      };
+      allocations = omega arith;
+      entries = omega arith;
+    }
+
+  -- The program with written codes runs the same.
+  pub runs_the_same : SameRuns P Q
+  runs_the_same = simulated (record { shows = shows; keeps = keeps }) starts_together

@@ -1,0 +1,4 @@
+pub mod VirtualObjects
+pub mod WrittenRuns
+pub mod Inner
+pub mod Laws
