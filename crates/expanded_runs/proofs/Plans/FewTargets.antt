@@ -255,20 +255,20 @@ wide_rows_aim = (
 
 -- ---- one instruction
 
-many_targets : (at : ℕ) (bytes : List ℕ) (from count : ℕ) → length (targets_in at bytes from count) ≡ count
+pub many_targets : (at : ℕ) (bytes : List ℕ) (from count : ℕ) → length (targets_in at bytes from count) ≡ count
 many_targets at bytes from zero = refl
 many_targets at bytes from (suc count) = ap suc (many_targets at bytes (from + 4) count)
 
-many_pairs : (at : ℕ) (bytes : List ℕ) (from count : ℕ) → length (pairs_in at bytes from count) ≡ count
+pub many_pairs : (at : ℕ) (bytes : List ℕ) (from count : ℕ) → length (pairs_in at bytes from count) ≡ count
 many_pairs at bytes from zero = refl
 many_pairs at bytes from (suc count) = ap suc (many_pairs at bytes (from + 8) count)
 
-not_fault : {A : Type 0} (failing : Bool) (f : Fault) (r : Result A Fault) (y : A) → cond failing (Err f) r ≡ Ok y → (failing ≡ false) × (r ≡ Ok y)
+pub not_fault : {A : Type 0} (failing : Bool) (f : Fault) (r : Result A Fault) (y : A) → cond failing (Err f) r ≡ Ok y → (failing ≡ false) × (r ≡ Ok y)
 not_fault true f r y e = absurd cc
 not_fault false f r y e = (refl, e)
 
-no_fault : {A : Type 0} (good : Bool) (f : Fault) (r : Result A Fault) (y : A) → cond good r (Err f) ≡ Ok y → r ≡ Ok y
-no_fault true f r y e = e
+pub no_fault : {A : Type 0} (good : Bool) (f : Fault) (r : Result A Fault) (y : A) → cond good r (Err f) ≡ Ok y → (good ≡ true) × (r ≡ Ok y)
+no_fault true f r y e = (refl, e)
 no_fault false f r y e = absurd cc
 
 abbrev IsFewIn : List ℕ → Instr × ℕ → Type 0
@@ -283,7 +283,7 @@ module _ (at : ℕ) (bytes : List ℕ) (read : Instr × ℕ) where
   sized_if_few : (allowed : Bool) (len : ℕ) (instr : Instr) → length (targets instr) ≤ 1 → sized_if allowed at bytes len instr ≡ Ok read → IsFewIn bytes read
   sized_if_few allowed len instr few e =
       let long = not_fault (ltb (length bytes) len) (fault at rules.Operand) _ read e in
-      let is : Ok (instr, len) ≡ Ok read = no_fault allowed (fault at rules.Operand) (Ok (instr, len)) read long.1 in
+      let is : Ok (instr, len) ≡ Ok read = (no_fault allowed (fault at rules.Operand) (Ok (instr, len)) read long.1).1 in
       subst (IsFewIn bytes) (same_done (instr, len) read is) (omega (arith, few))
 
   table_few : table_switch_at at bytes ≡ Ok read → IsFewIn bytes read
@@ -313,7 +313,7 @@ module _ (at : ℕ) (bytes : List ℕ) (read : Instr × ℕ) where
       let two = not_fault (nat_le (2 ^ 31) count) operand _ read one.1 in
       let three = not_fault (nat_lt (length bytes) (start + 8 + 8 * count)) operand _ read two.1 in
       let within = ltb-false _ _ three.0 in
-      let four : Ok (Lookup (target_of at (s4_in bytes start)) pairs, start + 8 + 8 * count) ≡ Ok read = no_fault (keys_increase pairs) operand _ read three.1 in
+      let four : Ok (Lookup (target_of at (s4_in bytes start)) pairs, start + 8 + 8 * count) ≡ Ok read = (no_fault (keys_increase pairs) operand _ read three.1).1 in
       let many : length pairs ≡ count = many_pairs at bytes (start + 8) count in
       let is = same_done (Lookup (target_of at (s4_in bytes start)) pairs, start + 8 + 8 * count) read four in
       subst (IsFewIn bytes) is (few_count (length (map (λ (p : Pair). p.to) pairs)) count start (length-map pairs (λ (p : Pair). p.to) ∙ many) within)
@@ -323,7 +323,7 @@ module _ (at : ℕ) (bytes : List ℕ) (read : Instr × ℕ) where
 
   wide_few : (operands : Option Operands) → ((given : Operands) → operands ≡ Some given → AimsAtOne given) → wide_operands at bytes operands ≡ Ok read → IsFewIn bytes read
   wide_few (Some (U2 makes)) aims e = sized_few 4 _ (aims (U2 makes) refl _) e
-  wide_few operands aims e = sized_few 6 (Iinc (u2_in bytes 2) (s2_in bytes 4)) (omega arith) (no_fault (u1_in bytes 1 == IINC) (fault at rules.Opcode) _ read e)
+  wide_few operands aims e = sized_few 6 (Iinc (u2_in bytes 2) (s2_in bytes 4)) (omega arith) (no_fault (u1_in bytes 1 == IINC) (fault at rules.Opcode) _ read e).1
 
   operands_few : (operands : Operands) → AimsAtOne operands → with_operands at bytes (Some operands) ≡ Ok read → IsFewIn bytes read
   operands_few (Alone instr) aims e = subst (IsFewIn bytes) (same_done (instr, 1) read e) (omega (arith, aims))

@@ -1,6 +1,6 @@
 -- The sites of an expanded flat code are of candidate classes, and where it stores into a final field of a candidate's chain it has a site of a
 -- class whose chain has the field's class: the store stands in an initialiser of that class, which stands in place of a call on a site's object.
-use Rattle.std.proofs.Common.{◌≡◌, ℕ, suc, List, [], ◌∷◌, bytes_eq, slice_get, Option, Some, IsTrue, refl, sym, ap, subst, ◌∙◌, inl, inr}
+use Rattle.std.proofs.Common.{◌≡◌, ℕ, suc, List, [], ◌∷◌, bytes_eq, slice_get, Some, IsTrue, refl, sym, ap, subst, ◌∙◌, inl, inr}
 use Rattle.std.specs.List.{AllByRecursion, list_any}
 use Rattle.std.proofs.lemmas.Option.{same_Some}
 use Rattle.class_model.specs.Laws.Lists.{at_index}
@@ -8,14 +8,14 @@ use Rattle.class_model.specs.Pool.{constant_at}
 use Rattle.class_model.specs.declared.class_file.ClassFile.{ClassFile}
 use Rattle.class_model.specs.declared.class_file.MethodAt.{MethodAt}
 use Rattle.class_model.specs.declared.instr.Instr.{Instr}
-use Rattle.class_model.specs.declared.instr.Instr.TheVariants.{New, PutField}
+use Rattle.class_model.specs.declared.instr.Instr.TheVariants.{PutField}
 use Rattle.class_model.specs.declared.instr.Placed.{Placed}
 use Rattle.class_tree.specs.Headers.{Headers, Name, headers_of}
 use Rattle.class_tree.specs.Layouts.{chain as chain_of}
 use Rattle.expanded_code.specs.Alone.{number_in}
 use Rattle.expanded_code.specs.Callees.{own_name}
 use Rattle.expanded_code.specs.CandidateSites.{HasCandidateSites, StoresFinal, IsSite as IsFlatSite}
-use Rattle.expanded_code.specs.Candidates.{Initialises, IsCandidate, StoresInto}
+use Rattle.expanded_code.specs.Candidates.{IsCandidate, StoresInto}
 use Rattle.expanded_code.specs.ExpandAnswers.{IsExpanded, IsNoHost, is_initialiser}
 use Rattle.expanded_code.specs.Expanded.{Setting, class_of, expanded, set_frame, set_instr}
 use Rattle.expanded_code.specs.Expansions.{Coded, Expands, Expansion}
@@ -29,21 +29,21 @@ use Rattle.expanded_runs.proofs.Runs.LinkedInstrs.{EachInstrTyped}
 use Rattle.expanded_runs.proofs.Runs.NativeMethods.{scope_is_at}
 use Rattle.expanded_runs.proofs.Runs.Positions.{Becomes, Standing, becomes, block_of, instrs_of, makes_site, scope_of, start_of}
 use Rattle.expanded_runs.proofs.Runs.Setup.{IsSetup, Setup}
-use Rattle.expanded_runs.proofs.Runs.SiteInitialisers.{OfSite, initialiser_of_site, this_in_init}
+use Rattle.expanded_runs.proofs.Runs.SiteInitialisers.{initialiser_of_site, this_in_init}
 use Rattle.expanded_runs.proofs.Runs.StandingLaws.{BecomesAs, becomes_as, it_makes_site, stands_so}
 use Rattle.expanded_runs.proofs.Runs.Standings.{IsStanding, Stands, host_stands}
-use Rattle.expanded_runs.proofs.Types.FlatParts.{EntryPart, OwnPart, Part, part_of}
+use Rattle.expanded_runs.proofs.Types.FlatParts.{Part, part_of}
 use Rattle.expanded_runs.proofs.Types.OwnPoints.{TypingLaws, own_point, scope_headers}
 use Rattle.expanded_runs.proofs.Types.StandingPlaces.{frame_there, new_at, new_point, number_of_instr}
 use Rattle.flow_code.specs.FlatCode.{FlatCode}
 use Rattle.flow_code.specs.declared.point.FlatInstr.{FlatInstr}
-use Rattle.flow_code.specs.declared.point.FlatInstr.TheVariants.{NullTest, Of}
+use Rattle.flow_code.specs.declared.point.FlatInstr.TheVariants.{Of}
 use Rattle.flow_code.specs.declared.point.Point.{Point}
 use Rattle.flow_code.specs.declared.point.Site.{Site}
 use Rattle.member_link.specs.DeclaredMembers.{Declared}
 use Rattle.member_link.specs.FieldConstructors.{field_types}
 use Rattle.member_link.specs.Fields.{FindsField}
-use Rattle.member_link.specs.Scope.{Scope, class_of_new, instructions, is_init, scope_at}
+use Rattle.member_link.specs.Scope.{instructions, is_init}
 use Rattle.member_link.specs.Signatures.{reference_of}
 
 -- ---- stores

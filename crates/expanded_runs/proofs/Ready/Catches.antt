@@ -1,5 +1,5 @@
 -- The handlers around what stands in flat code are the host's: what their points have of objects of sites was there before.
-use Rattle.std.proofs.Common.{◌≡◌, ◌+◌, ◌<◌, ◌≤◌, ◌⊎◌, ℕ, zero, suc, List, [], ◌∷◌, length, map, slice_get, Option, Some, None, IsTrue, refl, sym, ap, subst, ◌∙◌, arith, inl, inr}
+use Rattle.std.proofs.Common.{◌≡◌, ◌+◌, ◌<◌, ◌≤◌, ℕ, zero, suc, List, [], ◌∷◌, length, map, slice_get, Option, Some, None, IsTrue, sym, ap, subst, ◌∙◌, arith}
 use Rattle.std.specs.List.{AllByRecursion}
 use Rattle.std.proofs.lemmas.List.{length-map}
 use Rattle.std.proofs.lemmas.Option.{none-some, same_Some, slice_get_within}
@@ -15,7 +15,7 @@ use Rattle.expanded_code.specs.Expanded.{Setting, expanded, set_frame, set_type}
 use Rattle.expanded_code.specs.Expansions.{Coded, Expansion}
 use Rattle.expanded_runs.proofs.Ready.Comes.{CatchKept, FrameThere, set_site, top_no_site}
 use Rattle.expanded_runs.proofs.Ready.RowKeeps.{local_outside, local_set, new_before}
-use Rattle.expanded_runs.proofs.Runs.Positions.{IsReplacedAt, Standing, frames_of, host_standing, inner_setting, instrs_of, start_of}
+use Rattle.expanded_runs.proofs.Runs.Positions.{Standing, frames_of, host_standing, inner_setting, instrs_of, start_of}
 use Rattle.expanded_runs.proofs.Runs.Standings.{IsStanding, Stands, callee_stands, host_stands}
 use Rattle.expanded_runs.proofs.TypedAloneNumbers.{frame_found}
 use Rattle.expanded_runs.proofs.Types.Edges.{set_unit}
@@ -23,8 +23,7 @@ use Rattle.expanded_runs.proofs.Types.FrameFacts.{FrameFacts, frame_fits, has_ro
 use Rattle.expanded_runs.proofs.Types.Handlers.{all_caught, callee_before}
 use Rattle.expanded_runs.proofs.Types.OwnPoints.{TypingLaws, edges_at, instr_there, one_frame, own_headers}
 use Rattle.expanded_runs.proofs.Types.Starts.{start_typed}
-use Rattle.expanded_runs.proofs.Types.Units.{as_long, get_inside, inside, outside, where_is}
-use Rattle.flow_code.specs.FlatCode.{FlatCode}
+use Rattle.expanded_runs.proofs.Types.Units.{get_inside, inside, outside, where_is}
 use Rattle.flow_code.specs.ReadTypes.{is_site_object}
 use Rattle.flow_code.specs.TypedFrames.{FolderFrames}
 use Rattle.flow_code.specs.declared.handlers.FlatHandler.{FlatHandler}

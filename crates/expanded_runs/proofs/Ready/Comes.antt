@@ -1,17 +1,16 @@
 -- Where types of uninitialised objects of candidate sites come from along the edges of a point.
-use Rattle.std.proofs.Common.{◌≡◌, ◌≢◌, ◌+◌, ◌-◌, ◌≤◌, ◌<◌, ℕ, zero, suc, Bool, true, false, List, [], ◌∷◌, ◌++◌, length, slice_get, Option, Some, None, IsTrue, if◌then◌else◌, refl, sym, ap, subst, ◌∙◌, arith, inl, inr}
+use Rattle.std.proofs.Common.{◌≡◌, ◌≢◌, ◌+◌, ◌-◌, ◌<◌, ℕ, zero, suc, Bool, true, false, List, [], ◌∷◌, ◌++◌, length, slice_get, Option, Some, None, IsTrue, refl, sym, ap, subst, ◌∙◌, arith, inl, inr}
 use Rattle.std.specs.Prelude.{◌==◌, is_some, slice_set}
 use Rattle.std.specs.List.{AllByRecursion}
 use Rattle.std.proofs.lemmas.List.{length-append}
-use Rattle.std.proofs.lemmas.Option.{none-some, slice_get_within}
+use Rattle.std.proofs.lemmas.Option.{slice_get_within}
 use Rattle.class_model.specs.declared.frame.Frame.{Frame}
 use Rattle.class_model.specs.declared.frame.VType.{VType}
 use Rattle.class_model.specs.declared.frame.VType.TheVariants as types
-use Rattle.class_tree.specs.Headers.{Name}
 use Rattle.expanded_code.specs.Expanded.{Setting, set_type}
 use Rattle.expanded_runs.proofs.Ready.StoredBack.{stored_back}
 use Rattle.expanded_runs.proofs.Runs.PositionLaws.{slice_left, slice_right}
-use Rattle.expanded_runs.proofs.Types.Units.{get_back, get_front}
+use Rattle.expanded_runs.proofs.Types.Units.{get_back}
 use Rattle.flow_code.specs.FlatCode.{FlatCode, point_at}
 use Rattle.flow_code.specs.ReadTypes.{class_of_site, is_site_object}
 use Rattle.flow_code.specs.declared.handlers.FlatHandler.{FlatHandler}
@@ -21,11 +20,10 @@ use Rattle.member_link.specs.Machine.Programs.{number_of_first}
 use Rattle.member_link.specs.Rows.LocalRows.{stored}
 use Rattle.member_link.specs.Rows.Operands.{IsUninitialised}
 use Rattle.plan_flow.specs.Must.{row_of_point}
-use Rattle.plan_flow.specs.PlanRows.{Guard, PlanRow, RowEdge, Source, from_place, plain_value}
-use Rattle.plan_flow.specs.PlanScope.{PlanScope, local_types, site_at, stack_types}
+use Rattle.plan_flow.specs.PlanRows.{Guard, PlanRow, Source, from_place}
+use Rattle.plan_flow.specs.PlanScope.{PlanScope, local_types, stack_types}
 use Rattle.plan_flow.specs.PlanTable.{edges_of, falls_on, handler_edges, held_from, held_locals, jump_edges, next_edges, operand, store_row, targets_at, thrown_edges}
 use Rattle.plan_flow.specs.ReadyForPlans.{KeepsAlong, KeepsType, KeepsTypes, from_its_type, place_types}
-use Rattle.plan_flow.specs.declared.edge.EdgeKind.TheVariants as edges
 use Rattle.same_runs.specs.Laws.ComeFirst.{all_appended}
 use Rattle.same_runs.specs.Laws.Objects.{set_other}
 use Rattle.same_runs.specs.Laws.Stored.{set_in}

@@ -1,6 +1,6 @@
 -- The instructions of a code have their forms: each has a spelling, wherever it stands.
-use Rattle.std.proofs.Common.{◌≡◌, ℕ, zero, suc, ◌+◌, ◌-◌, ◌*◌, ◌≤◌, ◌<◌, ◌^◌, ℤ, leb, ltb, Bool, true, false, ◌&&◌, cond, List, [], ◌∷◌, drop, length, map, slice_get, Option, Some, None, Result, Ok, Err, refl, sym, ap, subst, ◌∙◌, arith, inl, inr}
-use Rattle.std.specs.Prelude.{◌==◌, ◌+ℤ◌, ◌≤ℤ◌, ◌⊎◌, FitsSigned, int_lt, nat_le, nat_lt, not, pos}
+use Rattle.std.proofs.Common.{◌≡◌, ℕ, zero, suc, ◌+◌, ◌-◌, ◌*◌, ◌≤◌, ◌<◌, ◌^◌, ℤ, leb, ltb, Bool, true, false, ◌&&◌, List, [], ◌∷◌, drop, length, map, slice_get, Option, Some, None, Ok, refl, sym, ap, subst, ◌∙◌, arith, inl, inr}
+use Rattle.std.specs.Prelude.{◌==◌, ◌+ℤ◌, ◌≤ℤ◌, FitsSigned, int_lt, nat_le, nat_lt, not, pos}
 use Rattle.std.specs.Int.Signed.{lt_z_no}
 use Rattle.std.proofs.Math.Dec.{T}
 use Rattle.std.proofs.Math.Facts.{sfits_to_z}
@@ -9,7 +9,7 @@ use Rattle.std.specs.Int.{cast_signed, w16, w32, w8}
 use Rattle.std.specs.List.{AllByRecursion}
 use Rattle.std.proofs.lemmas.Bool.{and_parts, cases_Bool, cases_lt, le-ltb, leb-true, lt-ltb, ltb-false, ltb-true}
 use Rattle.std.proofs.lemmas.List.{length-drop, length-map}
-use Rattle.class_model.specs.Checks.{Fault, fault}
+use Rattle.class_model.specs.Checks.{fault}
 use Rattle.class_model.specs.Cutting.{IsBytes}
 use Rattle.class_model.specs.Instructions.{Alone, ArrayCode, Dimensions, Jump2, Jump4, LookupSwitch, Operands, S1, S2, TableSwitch, U1, U1S1, U2, U2U1Zero, U2ZeroZero, Wide, decoded, has_dimensions, instr_at, instrs_at, is_array_code, keys_increase, lookup_switch_at, operands_in, pad_of, pairs_in, rows, s1_in, s2_in, s4_in, sized, sized_if, span, table_switch_at, target_of, targets_in, u1_in, u2_in, u4_in, wide_operands, wide_rows, with_operands}
 use Rattle.class_model.specs.Laws.Cuts.{IsBytes-drop, bind_ok, guard_false, same_done}
@@ -21,6 +21,7 @@ use Rattle.class_model.specs.declared.instr.Pair.{Pair}
 use Rattle.class_model.specs.declared.instr.Placed.{Placed}
 use Rattle.class_model.specs.declared.opcodes.TheConstants.{IINC}
 use Rattle.code_bytes.specs.Encoding.{OpcodeTakes}
+use Rattle.expanded_runs.proofs.Plans.FewTargets.{many_pairs, many_targets, no_fault, not_fault}
 use Rattle.member_link.specs.Targets.{HasForm, pair_to}
 
 -- ---- the table
@@ -78,7 +79,205 @@ FormsAt number opcode = of_row (slice_get rows number) where
   of_row (Some r) = HaveForms (r.gives opcode)
 
 rows_form : AllByRecursion RowForms rows
-rows_form = ((λ opcode low high takes. tt), ((λ opcode low high takes. tt), ((λ opcode low high takes. omega arith), ((λ opcode low high takes. omega (arith, low, high)), ((λ opcode low high takes. one_of_two (FormsAt 4) 9 opcode low high (inl refl) (inr refl)), ((λ opcode low high takes. one_of_three (FormsAt 5) 11 opcode low high (inl refl) (inr (inl refl)) (inr (inr refl))), ((λ opcode low high takes. one_of_two (FormsAt 6) 14 opcode low high (inl refl) (inr refl)), ((λ opcode low high takes. λ n fits. fits), ((λ opcode low high takes. λ n fits. fits), ((λ opcode low high takes. λ n. tt), ((λ opcode low high takes. λ n. tt), ((λ opcode low high takes. λ n. tt), ((λ opcode low high takes. λ n. tt), ((λ opcode low high takes. tt), ((λ opcode low high takes. takes), ((λ opcode low high takes. λ n. tt), ((λ opcode low high takes. tt), ((λ opcode low high takes. takes), ((λ opcode low high takes. takes), ((λ opcode low high takes. takes), ((λ opcode low high takes. takes), ((λ opcode low high takes. takes), ((λ opcode low high takes. takes), ((λ opcode low high takes. takes), ((λ opcode low high takes. takes), ((λ opcode low high takes. takes), ((λ opcode low high takes. takes), ((λ opcode low high takes. takes), ((λ opcode low high takes. takes), ((λ opcode low high takes. takes), ((λ opcode low high takes. takes), ((λ opcode low high takes. takes), ((λ opcode low high takes. λ n m. tt), ((λ opcode low high takes. refl), ((λ opcode low high takes. takes), ((λ opcode low high takes. refl), ((λ opcode low high takes. takes), ((λ opcode low high takes. takes), ((λ opcode low high takes. takes), ((λ opcode low high takes. λ n. (takes, omega arith)), ((λ opcode low high takes. λ n. (takes, omega arith)), ((λ opcode low high takes. λ n. (takes, omega arith)), ((λ opcode low high takes. λ n. tt), ((λ opcode low high takes. tt), ((λ opcode low high takes. tt), ((λ opcode low high takes. tt), ((λ opcode low high takes. tt), ((λ opcode low high takes. λ n. tt), ((λ opcode low high takes. λ n. tt), ((λ opcode low high takes. λ n. tt), ((λ opcode low high takes. λ n. tt), ((λ opcode low high takes. λ n. inl (takes, refl)), ((λ opcode low high takes. λ n m. inr refl), ((λ opcode low high takes. λ n. tt), ((λ opcode low high takes. λ n. tt), ((λ opcode low high takes. tt), ((λ opcode low high takes. λ n. tt), ((λ opcode low high takes. tt), ((λ opcode low high takes. tt), ((λ opcode low high takes. λ n. tt), ((λ opcode low high takes. λ n. tt), ((λ opcode low high takes. tt), ((λ opcode low high takes. tt), ((λ opcode low high takes. tt), ((λ opcode low high takes. tt), ((λ opcode low high takes. λ n. (takes, omega arith)), ((λ opcode low high takes. λ n. tt), tt)))))))))))))))))))))))))))))))))))))))))))))))))))))))))))))))))))
+rows_form = (
+  (λ opcode low high takes. tt),
+  (
+    (λ opcode low high takes. tt),
+    (
+      (λ opcode low high takes. omega arith),
+      (
+        (λ opcode low high takes. omega (arith, low, high)),
+        (
+          (λ opcode low high takes. one_of_two (FormsAt 4) 9 opcode low high (inl refl) (inr refl)),
+          (
+            (λ opcode low high takes. one_of_three (FormsAt 5) 11 opcode low high (inl refl) (inr (inl refl)) (inr (inr refl))),
+            (
+              (λ opcode low high takes. one_of_two (FormsAt 6) 14 opcode low high (inl refl) (inr refl)),
+              (
+                (λ opcode low high takes. λ n fits. fits),
+                (
+                  (λ opcode low high takes. λ n fits. fits),
+                  (
+                    (λ opcode low high takes. λ n. tt),
+                    (
+                      (λ opcode low high takes. λ n. tt),
+                      (
+                        (λ opcode low high takes. λ n. tt),
+                        (
+                          (λ opcode low high takes. λ n. tt),
+                          (
+                            (λ opcode low high takes. tt),
+                            (
+                              (λ opcode low high takes. takes),
+                              (
+                                (λ opcode low high takes. λ n. tt),
+                                (
+                                  (λ opcode low high takes. tt),
+                                  (
+                                    (λ opcode low high takes. takes),
+                                    (
+                                      (λ opcode low high takes. takes),
+                                      (
+                                        (λ opcode low high takes. takes),
+                                        (
+                                          (λ opcode low high takes. takes),
+                                          (
+                                            (λ opcode low high takes. takes),
+                                            (
+                                              (λ opcode low high takes. takes),
+                                              (
+                                                (λ opcode low high takes. takes),
+                                                (
+                                                  (λ opcode low high takes. takes),
+                                                  (
+                                                    (λ opcode low high takes. takes),
+                                                    (
+                                                      (λ opcode low high takes. takes),
+                                                      (
+                                                        (λ opcode low high takes. takes),
+                                                        (
+                                                          (λ opcode low high takes. takes),
+                                                          (
+                                                            (λ opcode low high takes. takes),
+                                                            (
+                                                              (λ opcode low high takes. takes),
+                                                              (
+                                                                (λ opcode low high takes. takes),
+                                                                (
+                                                                  (λ opcode low high takes. λ n m. tt),
+                                                                  (
+                                                                    (λ opcode low high takes. refl),
+                                                                    (
+                                                                      (λ opcode low high takes. takes),
+                                                                      (
+                                                                        (λ opcode low high takes. refl),
+                                                                        (
+                                                                          (λ opcode low high takes. takes),
+                                                                          (
+                                                                            (λ opcode low high takes. takes),
+                                                                            (
+                                                                              (λ opcode low high takes. takes),
+                                                                              (
+                                                                                (λ opcode low high takes. λ n. (takes, omega arith)),
+                                                                                (
+                                                                                  (λ opcode low high takes. λ n. (takes, omega arith)),
+                                                                                  (
+                                                                                    (λ opcode low high takes. λ n. (takes, omega arith)),
+                                                                                    (
+                                                                                      (λ opcode low high takes. λ n. tt),
+                                                                                      (
+                                                                                        (λ opcode low high takes. tt),
+                                                                                        (
+                                                                                          (λ opcode low high takes. tt),
+                                                                                          (
+                                                                                            (λ opcode low high takes. tt),
+                                                                                            (
+                                                                                              (λ opcode low high takes. tt),
+                                                                                              (
+                                                                                                (λ opcode low high takes. λ n. tt),
+                                                                                                (
+                                                                                                  (λ opcode low high takes. λ n. tt),
+                                                                                                  (
+                                                                                                    (λ opcode low high takes. λ n. tt),
+                                                                                                    (
+                                                                                                      (λ opcode low high takes. λ n. tt),
+                                                                                                      (
+                                                                                                        (λ opcode low high takes. λ n. inl (takes, refl)),
+                                                                                                        (
+                                                                                                          (λ opcode low high takes. λ n m. inr refl),
+                                                                                                          (
+                                                                                                            (λ opcode low high takes. λ n. tt),
+                                                                                                            (
+                                                                                                              (λ opcode low high takes. λ n. tt),
+                                                                                                              (
+                                                                                                                (λ opcode low high takes. tt),
+                                                                                                                (
+                                                                                                                  (λ opcode low high takes. λ n. tt),
+                                                                                                                  (
+                                                                                                                    (λ opcode low high takes. tt),
+                                                                                                                    (
+                                                                                                                      (λ opcode low high takes. tt),
+                                                                                                                      (
+                                                                                                                        (λ opcode low high takes. λ n. tt),
+                                                                                                                        (
+                                                                                                                          (λ opcode low high takes. λ n. tt),
+                                                                                                                          (
+                                                                                                                            (λ opcode low high takes. tt),
+                                                                                                                            (
+                                                                                                                              (λ opcode low high takes. tt),
+                                                                                                                              (
+                                                                                                                                (λ opcode low high takes. tt),
+                                                                                                                                (
+                                                                                                                                  (λ opcode low high takes. tt),
+                                                                                                                                  (
+                                                                                                                                    (λ opcode low high takes. λ n. (takes, omega arith)),
+                                                                                                                                    ((λ opcode low high takes. λ n. tt), tt),
+                                                                                                                                  ),
+                                                                                                                                ),
+                                                                                                                              ),
+                                                                                                                            ),
+                                                                                                                          ),
+                                                                                                                        ),
+                                                                                                                      ),
+                                                                                                                    ),
+                                                                                                                  ),
+                                                                                                                ),
+                                                                                                              ),
+                                                                                                            ),
+                                                                                                          ),
+                                                                                                        ),
+                                                                                                      ),
+                                                                                                    ),
+                                                                                                  ),
+                                                                                                ),
+                                                                                              ),
+                                                                                            ),
+                                                                                          ),
+                                                                                        ),
+                                                                                      ),
+                                                                                    ),
+                                                                                  ),
+                                                                                ),
+                                                                              ),
+                                                                            ),
+                                                                          ),
+                                                                        ),
+                                                                      ),
+                                                                    ),
+                                                                  ),
+                                                                ),
+                                                              ),
+                                                            ),
+                                                          ),
+                                                        ),
+                                                      ),
+                                                    ),
+                                                  ),
+                                                ),
+                                              ),
+                                            ),
+                                          ),
+                                        ),
+                                      ),
+                                    ),
+                                  ),
+                                ),
+                              ),
+                            ),
+                          ),
+                        ),
+                      ),
+                    ),
+                  ),
+                ),
+              ),
+            ),
+          ),
+        ),
+      ),
+    ),
+  ),
+)
 
 -- behind a wide
 abbrev WideForms : Row Operands → Type 0
@@ -155,22 +354,6 @@ pub keys_same : (place : ℕ → ℕ) (pairs : List Pair) → keys_increase (map
 keys_same place [] = refl
 keys_same place (first ∷ []) = refl
 keys_same place (first ∷ second ∷ pairs) = ap (λ (b : Bool). int_lt first.key second.key && b) (keys_same place (second ∷ pairs))
-
-many_targets : (at : ℕ) (bytes : List ℕ) (from count : ℕ) → length (targets_in at bytes from count) ≡ count
-many_targets at bytes from zero = refl
-many_targets at bytes from (suc count) = ap suc (many_targets at bytes (from + 4) count)
-
-many_pairs : (at : ℕ) (bytes : List ℕ) (from count : ℕ) → length (pairs_in at bytes from count) ≡ count
-many_pairs at bytes from zero = refl
-many_pairs at bytes from (suc count) = ap suc (many_pairs at bytes (from + 8) count)
-
-not_fault : {A : Type 0} (failing : Bool) (f : Fault) (r : Result A Fault) (y : A) → cond failing (Err f) r ≡ Ok y → (failing ≡ false) × (r ≡ Ok y)
-not_fault true f r y e = absurd cc
-not_fault false f r y e = (refl, e)
-
-no_fault : {A : Type 0} (good : Bool) (f : Fault) (r : Result A Fault) (y : A) → cond good r (Err f) ≡ Ok y → (good ≡ true) × (r ≡ Ok y)
-no_fault true f r y e = (refl, e)
-no_fault false f r y e = absurd cc
 
 -- ---- one instruction
 

@@ -1,55 +1,53 @@
 -- Along the edges of the points before a callee's instructions, types of uninitialised objects of sites come from the same types: the object of a
 -- callee is stored in its first unit.
-use Rattle.std.proofs.Common.{◌≡◌, ◌≢◌, ◌+◌, ◌-◌, ◌≤◌, ◌<◌, ◌⊎◌, ℕ, zero, suc, Bool, true, false, List, [], ◌∷◌, ◌++◌, length, map, reverse, slice_get, Option, Some, None, IsTrue, if◌then◌else◌, refl, sym, ap, subst, ◌∙◌, arith, inl, inr, append-nil}
+use Rattle.std.proofs.Common.{◌≡◌, ◌≢◌, ◌+◌, ◌-◌, ◌≤◌, ◌<◌, ◌⊎◌, ℕ, zero, suc, Bool, true, false, List, [], ◌∷◌, ◌++◌, length, map, reverse, slice_get, Some, IsTrue, if◌then◌else◌, refl, sym, ap, subst, ◌∙◌, arith, inl, inr}
 use Rattle.std.specs.Prelude.{IsSome}
 use Rattle.std.specs.List.{AllByRecursion}
-use Rattle.std.proofs.lemmas.Bool.{false≢true}
 use Rattle.std.proofs.lemmas.List.{length-map}
 use Rattle.std.proofs.lemmas.Option.{none-some, same_Some, slice_get_within}
 use Rattle.class_model.specs.Frames.{units_of_entries}
-use Rattle.class_model.specs.Members.{STATIC, has as has_flag}
 use Rattle.class_model.specs.declared.class_file.MethodAt.{MethodAt}
-use Rattle.class_model.specs.declared.descriptor.Kind.{Kind}
 use Rattle.class_model.specs.declared.descriptor.Kind.TheVariants as kinds
 use Rattle.class_model.specs.declared.frame.Frame.{Frame}
 use Rattle.class_model.specs.declared.frame.VType.{VType}
 use Rattle.class_model.specs.declared.frame.VType.TheVariants as types
 use Rattle.class_model.specs.declared.instr.Instr.TheVariants.{Store}
 use Rattle.class_model.specs.declared.instr.Placed.{Placed}
-use Rattle.class_tree.specs.Headers.{Classes, Headers, headers_of}
+use Rattle.class_tree.specs.Headers.{Classes, headers_of}
 use Rattle.class_tree.specs.Hierarchy.{IsHierarchy}
 use Rattle.expanded_code.specs.Expanded.{Argument, Setting, arguments, expanded, points_before, points_of_entry, point_in, set_frame, set_type, store_points, test_points, tests_receiver, frame_behind_stores, overlaid}
 use Rattle.expanded_code.specs.Expansions.{Coded, Expansion}
 use Rattle.expanded_runs.proofs.Ready.Catches.{frame_there, handlers_kept}
-use Rattle.expanded_runs.proofs.Ready.Comes.{CatchKept, FrameThere, GoesKept, KeepsTo, Reaches, SameSites, edges_kept, keeps_more, moving_to, same_frame, set_site, store_to}
+use Rattle.expanded_runs.proofs.Ready.Comes.{CatchKept, FrameThere, Reaches, SameSites, edges_kept, keeps_more, moving_to, same_frame, set_site, store_to}
 use Rattle.expanded_runs.proofs.Ready.EntryTypes.{object_known, static_known}
 use Rattle.expanded_runs.proofs.Ready.RowKeeps.{local_outside, new_before}
-use Rattle.expanded_runs.proofs.Runs.PositionLaws.{block_least, slice_left}
+use Rattle.expanded_runs.proofs.Ready.StoredBack.{room_within}
+use Rattle.expanded_runs.proofs.Runs.PositionLaws.{slice_left}
 use Rattle.expanded_runs.proofs.Runs.Positions.{IsReplacedAt, Standing, block_of, inner_setting, inner_standing, start_of}
 use Rattle.expanded_runs.proofs.Runs.Standings.{IsStanding, Stands, callee_stands}
 use Rattle.expanded_runs.proofs.Types.CallFacts.{CallFacts}
 use Rattle.expanded_runs.proofs.Types.Edges.{set_unit}
-use Rattle.expanded_runs.proofs.Types.Entries.{EntryFacts, FirstFrame, args_before, begins, behind_is, count_same, entered, first_frame, fits, frame_split, least, long, stands_there, stores_long, test_there, tests_is, tests_none, topmost_set, tops}
+use Rattle.expanded_runs.proofs.Types.Entries.{EntryFacts, FirstFrame, args_before, begins, count_same, entered, first_frame, fits, frame_split, least, long, stands_there, stores_long, test_there, tests_is, tests_none, topmost_set, tops}
 use Rattle.expanded_runs.proofs.Types.EntryFrames.{IsEntered, PassedValues, passed_object, passed_static, ref_unit}
-use Rattle.expanded_runs.proofs.Types.FlatParts.{InSecond, slice_either}
+use Rattle.expanded_runs.proofs.Types.FlatParts.{slice_either}
 use Rattle.expanded_runs.proofs.Types.FrameFacts.{FrameFacts, frame_fits}
 use Rattle.expanded_runs.proofs.Types.OwnPoints.{TypingLaws}
+use Rattle.expanded_runs.proofs.Types.ReturnFrames.{no_entries}
 use Rattle.expanded_runs.proofs.Types.StorePoints.{AreFree, stores_hold}
 use Rattle.expanded_runs.proofs.Types.ThroughClass.{ArrayInterfaces}
 use Rattle.expanded_runs.proofs.Types.Units.{get_inside, get_outside, inside, outside, where_is}
-use Rattle.flow_code.specs.FlatCode.{FlatCode, point_at}
+use Rattle.flow_code.specs.FlatCode.{point_at}
 use Rattle.flow_code.specs.ReadTypes.{is_site_object}
 use Rattle.flow_code.specs.TypedFrames.{FolderFrames}
 use Rattle.flow_code.specs.declared.handlers.FlatHandler.{FlatHandler}
 use Rattle.flow_code.specs.declared.point.FlatInstr.TheVariants.{NullTest}
 use Rattle.flow_code.specs.declared.point.Point.{Point}
 use Rattle.member_link.specs.Machine.Programs.{Links}
-use Rattle.member_link.specs.Rows.FrameAssignability.{AreAssignable}
 use Rattle.member_link.specs.Rows.LocalRows.{HasRoom, stored}
 use Rattle.member_link.specs.Rows.Operands.{IsOfKind, IsUninitialised, lowest_of, topmost}
 use Rattle.member_link.specs.Scope.{Scope}
 use Rattle.plan_flow.specs.Must.{row_of_point}
-use Rattle.plan_flow.specs.PlanScope.{PlanScope, scope_of as plan_scope}
+use Rattle.plan_flow.specs.PlanScope.{scope_of as plan_scope}
 use Rattle.plan_flow.specs.PlanTable.{edges_of}
 use Rattle.plan_flow.specs.ReadyForPlans.{KeepsAlong}
 use Rattle.type_rules.specs.Stated.{entry}
@@ -57,13 +55,6 @@ use Rattle.type_rules.specs.Verified.{TypesFolder}
 
 lowest_is : (count : ℕ) (stack rest : List VType) (first : VType) → topmost count stack ≡ first ∷ rest → lowest_of count stack ≡ first
 lowest_is count stack rest first are = rw (are) refl
-
-unit_there : (kind : Kind) (locals : List VType) (unit : ℕ) → HasRoom kind locals unit → unit < length locals
-unit_there kinds.Int locals unit room = omega (arith, room)
-unit_there kinds.Long locals unit room = omega (arith, room)
-unit_there kinds.Float locals unit room = omega (arith, room)
-unit_there kinds.Double locals unit room = omega (arith, room)
-unit_there kinds.Ref locals unit room = omega (arith, room)
 
 module _ (laws : TypingLaws) {classes : Classes} {typed : FolderFrames} (folder : TypesFolder classes typed) (facts : FrameFacts classes typed)
     (host : Coded) (e : Expansion) (stands : (chain : List MethodAt) (p : Standing) → IsStanding host e chain p → Stands classes typed host e chain p)
@@ -119,7 +110,9 @@ module _ (laws : TypingLaws) {classes : Classes} {typed : FolderFrames} (folder 
     first_fits = frame_fits facts host e stands own_stands 0 first.begin first.is
 
     no_more : length (units_of_entries entries) ≤ length first.begin.locals
-    no_more = let all = long laws folder facts host e stands s headers this_known hierarchy arrays calls standing k placed frame g inner at known first x in omega (arith, all)
+    no_more =
+        let all = long laws folder facts host e stands s headers this_known hierarchy arrays calls standing k placed
+        frame g inner at known first x in omega (arith, all)
 
     -- ---- the first frame
 
@@ -129,7 +122,8 @@ module _ (laws : TypingLaws) {classes : Classes} {typed : FolderFrames} (folder 
     this_is object values are =
         lowest_is (length (arguments g.scope (block_of p k))) (set_frame p.setting frame).stack (map (set_type p.setting) values)
         (set_type p.setting object)
-        (ap (λ (n : ℕ). topmost n (set_frame p.setting frame).stack) (count_same laws folder facts host e stands s headers this_known hierarchy arrays calls standing k placed frame g inner at known)
+        (ap (λ (n : ℕ). topmost n (set_frame p.setting frame).stack) (count_same laws folder facts host e stands s headers this_known hierarchy arrays calls standing k placed
+        frame g inner at known)
         ∙ topmost_set p.setting (length (arguments g.scope 0)) p.setting.below.stack frame.stack known.enough
         ∙ ap (map (set_type p.setting)) are)
 
@@ -173,7 +167,8 @@ module _ (laws : TypingLaws) {classes : Classes} {typed : FolderFrames} (folder 
           let one = set_unit (expanded host e) q first.begin.locals m type
           (sym inner_is ∙ ap (slice_get (set_frame q first.begin).locals) (sym place) ∙ is) in
           let new = set_site (expanded host e) q one.0 (subst (λ (y : VType). IsTrue (is_site_object (expanded host e) y)) one.2 site) in
-          let before = new_before s.headers (entry g.scope).locals first.begin.locals (begins laws folder facts host e stands s headers this_known hierarchy arrays calls standing k placed frame g inner at known first).locals m one.0 new one.1 in
+          let before = new_before s.headers (entry g.scope).locals first.begin.locals (begins laws folder facts host e stands s headers this_known hierarchy arrays calls standing k placed
+          frame g inner at known first).locals m one.0 new one.1 in
           ap (slice_get behind.locals) place ∙ own_unit m one.0 new before ∙ ap Some (sym one.2)
     ] where
       narrow : (n < block_of p k) ⊎ (block_of p k + length first.begin.locals ≤ n)
@@ -187,11 +182,10 @@ module _ (laws : TypingLaws) {classes : Classes} {typed : FolderFrames} (folder 
       | inl front ↦ front
       | inr back ↦
           let one = set_unit (expanded host e) q first.begin.stack back.behind type back.there in
-          absurd (no_entry first.begin.stack (begins laws folder facts host e stands s headers this_known hierarchy arrays calls standing k placed frame g inner at known first).stack back.behind one.0 one.1)
-    ] where
-      no_entry : (stack : List VType) → AreAssignable s.headers [] stack → (m : ℕ) (own : VType) → slice_get stack m ≡ Some own → ⊥
-      no_entry [] are m own is = none-some own is
-      no_entry (own ∷ stack) are m other is = are
+          let none = no_entries s.headers first.begin.stack (begins laws folder facts host e stands s headers this_known hierarchy arrays calls standing k placed
+          frame g inner at known first).stack in
+          absurd (none-some one.0 (sym (ap (λ (l : List VType). slice_get l back.behind) none) ∙ one.1))
+    ]
 
     -- what is behind the stores goes to the callee
     into_callee : SameSites (expanded host e) behind (set_frame (inner_setting p k placed frame g inner) first.begin)
@@ -234,7 +228,7 @@ module _ (laws : TypingLaws) {classes : Classes} {typed : FolderFrames} (folder 
         (λ falls. record {
           to = reaches.to;
           there = reaches.there;
-          keeps = keeps_more (store_to (expanded host e) number now under type argument.unit (unit_there argument.kind now argument.unit room))
+          keeps = keeps_more (store_to (expanded host e) number now under type argument.unit (room_within argument.kind now argument.unit room))
               reaches.same;
         }) tt
         (catches now (λ n before.
@@ -245,7 +239,8 @@ module _ (laws : TypingLaws) {classes : Classes} {typed : FolderFrames} (folder 
 
     one_test : tests_receiver g.scope ≡ true → length (arguments g.scope (block_of p k)) + 1 ≡ points_before g.scope
     one_test some =
-        subst (λ (b : Bool). length (arguments g.scope (block_of p k)) + (if b then 1 else 0) ≡ points_before g.scope) some (args_before laws folder facts host e stands s headers this_known hierarchy arrays calls standing k placed frame g inner at known first x)
+        subst (λ (b : Bool). length (arguments g.scope (block_of p k)) + (if b then 1 else 0) ≡ points_before g.scope) some (args_before laws folder facts host e stands s headers this_known hierarchy arrays calls standing k placed
+        frame g inner at known first x)
 
     test_along : tests_receiver g.scope ≡ true → Along (start_of p k + length (arguments g.scope (block_of p k))) test
     test_along some =
@@ -269,12 +264,19 @@ module _ (laws : TypingLaws) {classes : Classes} {typed : FolderFrames} (folder 
           → Reaches (expanded host e) behind (start_of p k + length (arguments g.scope (block_of p k)))
       by true some = record {
         to = behind;
-        there = record { point = test; is = test_there laws folder facts host e stands s headers this_known hierarchy arrays calls standing k placed frame g inner at known first x some; typed = refl };
+        there =
+            record {
+              point = test;
+              is = test_there laws folder facts host e stands s headers this_known hierarchy arrays calls standing k placed
+                  frame g inner at known first x some;
+              typed = refl;
+            };
         same = same_frame (expanded host e) behind;
       }
       by false none =
           let count : length (arguments g.scope (block_of p k)) + 0 ≡ points_before g.scope =
-          subst (λ (b : Bool). length (arguments g.scope (block_of p k)) + (if b then 1 else 0) ≡ points_before g.scope) none (args_before laws folder facts host e stands s headers this_known hierarchy arrays calls standing k placed frame g inner at known first x) in
+          subst (λ (b : Bool). length (arguments g.scope (block_of p k)) + (if b then 1 else 0) ≡ points_before g.scope) none (args_before laws folder facts host e stands s headers this_known hierarchy arrays calls standing k placed
+          frame g inner at known first x) in
           record {
             to = set_frame q first.begin;
             there = subst (λ (n : ℕ). FrameThere (expanded host e) n (set_frame q first.begin)) (omega (arith, count)) callee_there;
@@ -290,15 +292,18 @@ module _ (laws : TypingLaws) {classes : Classes} {typed : FolderFrames} (folder 
         elim (slice_either stores (test_points p.setting placed.at
         (frame_behind_stores (set_frame p.setting frame) (reverse (arguments g.scope (block_of p k)))) g.scope (block_of p k)) n point is) [
           | inl front ↦
-              let split_is = frame_split laws folder facts host e stands s headers this_known hierarchy arrays calls standing k placed frame g inner at known in
+              let split_is = frame_split laws folder facts host e stands s headers this_known hierarchy arrays calls standing k placed
+              frame g inner at known in
               stores_hold (expanded host e) p.setting placed.at locals host.scope.part.max_locals (Reaches (expanded host e)) Along
               (λ number one here. record {
                 to = one.typed;
                 there = record { point = one; is = here; typed = refl };
                 same = same_frame (expanded host e) one.typed;
-              }) store_along (block_of p k) (arguments g.scope (block_of p k)) entries below x.laid host_least block_fits known.clear (tops laws folder facts host e stands s headers this_known hierarchy arrays calls standing k placed frame g inner at known first x) x.free
+              }) store_along (block_of p k) (arguments g.scope (block_of p k)) entries below x.laid host_least block_fits known.clear (tops laws folder facts host e stands s headers this_known hierarchy arrays calls standing k placed
+              frame g inner at known first x) x.free
               (start_of p k)
-              (λ m one one_is. stands_there laws folder facts host e stands s headers this_known hierarchy arrays calls standing k placed frame g inner at known first x m one
+              (λ m one one_is. stands_there laws folder facts host e stands s headers this_known hierarchy arrays calls standing k placed
+              frame g inner at known first x m one
               (slice_left stores _ m one
               (subst (λ (f : Frame). slice_get (store_points p.setting placed.at f (reverse (arguments g.scope (block_of p k)))) m ≡ Some one)
               (sym split_is) one_is))) after_stores n point
@@ -315,11 +320,19 @@ module _ (laws : TypingLaws) {classes : Classes} {typed : FolderFrames} (folder 
               → n ≡ length (store_points p.setting placed.at (set_frame p.setting frame) (reverse (arguments g.scope (block_of p k)))) + m
               → Along (start_of p k + n) point
           by false none m there same =
-              absurd (none-some point (ap (λ (points : List Point). slice_get points m) (sym (tests_none laws folder facts host e stands s headers this_known hierarchy arrays calls standing k placed frame g inner at known first x none)) ∙ there))
+              absurd (none-some point (ap (λ (points : List Point). slice_get points m) (sym (tests_none laws folder facts host e stands s headers this_known hierarchy arrays calls standing k placed
+              frame g inner at known first x none)) ∙ there))
           by true some zero there same =
-              let is_test : test ≡ point = same_Some test point (ap (λ (points : List Point). slice_get points 0) (sym (tests_is laws folder facts host e stands s headers this_known hierarchy arrays calls standing k placed frame g inner at known first x some)) ∙ there) in
-              let place : start_of p k + length (arguments g.scope (block_of p k)) ≡ start_of p k + n = omega (arith, same, stores_long laws folder facts host e stands s headers this_known hierarchy arrays calls standing k placed frame g inner at known first x) in
+              let is_test : test ≡ point = same_Some test point (ap (λ (points : List Point). slice_get points 0) (sym (tests_is laws folder facts host e stands s headers this_known hierarchy arrays calls standing k placed
+              frame g inner at known first x some)) ∙ there) in
+              let place : start_of p k + length (arguments g.scope (block_of p k)) ≡ start_of p k + n = omega (
+                arith,
+                same,
+                stores_long laws folder facts host e stands s headers this_known hierarchy arrays calls standing k placed
+                    frame g inner at known first x,
+              ) in
               subst (λ (number : ℕ). Along number point) place
               (subst (Along (start_of p k + length (arguments g.scope (block_of p k)))) is_test (test_along some))
           by true some (suc m) there same =
-              absurd (none-some point (ap (λ (points : List Point). slice_get points (suc m)) (sym (tests_is laws folder facts host e stands s headers this_known hierarchy arrays calls standing k placed frame g inner at known first x some)) ∙ there))
+              absurd (none-some point (ap (λ (points : List Point). slice_get points (suc m)) (sym (tests_is laws folder facts host e stands s headers this_known hierarchy arrays calls standing k placed
+              frame g inner at known first x some)) ∙ there))

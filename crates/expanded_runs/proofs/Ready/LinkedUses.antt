@@ -1,5 +1,5 @@
 -- What linking asks of an instruction is the same for each method of a class, and where its targets and its local unit are others.
-use Rattle.std.proofs.Common.{◌≡◌, ℕ, List, [], ◌∷◌, ◌++◌, Option, Some, None, refl, sym, ap, subst, ◌∙◌}
+use Rattle.std.proofs.Common.{◌≡◌, ℕ, List, [], ◌∷◌, ◌++◌, Option, Some, None, refl}
 use Rattle.class_model.specs.Checks.{AllHold, Check}
 use Rattle.class_model.specs.Laws.Checks.{first_holds, others_hold}
 use Rattle.class_model.specs.Pool.{Constants, constant_at}
@@ -17,7 +17,7 @@ use Rattle.member_link.specs.Declarations.{site_of}
 use Rattle.member_link.specs.DeclaredMembers.{Declared}
 use Rattle.member_link.specs.Forms.{FitsCall, IsInstanceForm, IsStaticForm}
 use Rattle.member_link.specs.References.{Reference, reference_at}
-use Rattle.member_link.specs.Uses.{HasAnyForm, UseScope, asked_of_reference, class_use_checks, dynamic_use_checks, field_use_checks, fieldref_use_checks, handle_use_checks, instr_use_checks, loaded_checks, method_use_checks, methodref_use_checks, new_checks}
+use Rattle.member_link.specs.Uses.{HasAnyForm, UseScope, asked_of_reference, class_use_checks, dynamic_use_checks, field_use_checks, fieldref_use_checks, instr_use_checks, loaded_checks, method_use_checks, methodref_use_checks, new_checks}
 
 module _ (headers : Headers) (pool : Constants) (header : Header) (one other : Member) where
   abbrev us : Member → UseScope

@@ -1,35 +1,34 @@
 -- Along the edges of a point of an instruction that stays, types of uninitialised objects of sites come from the same types.
-use Rattle.std.proofs.Common.{◌≡◌, ◌≢◌, ◌+◌, ◌≤◌, ◌&&◌, ℕ, suc, Bool, true, false, List, [], ◌∷◌, length, map, bytes_eq, slice_get, Option, Some, None, option_map, if◌then◌else◌, refl, sym, ap, subst, ◌∙◌, arith, inl, inr}
+use Rattle.std.proofs.Common.{◌≡◌, ◌≢◌, ◌+◌, ℕ, suc, Bool, true, false, List, [], ◌∷◌, length, map, bytes_eq, slice_get, Option, Some, None, option_map, if◌then◌else◌, refl, sym, ap, subst, ◌∙◌}
 use Rattle.std.specs.Prelude.{◌==◌}
 use Rattle.std.specs.List.{AllByRecursion}
 use Rattle.std.proofs.lemmas.Bool.{eqb-true}
-use Rattle.std.proofs.lemmas.Option.{none-some, same_Some}
+use Rattle.std.proofs.lemmas.Option.{none-some}
 use Rattle.std.proofs.lemmas.Slice.Eq.{bytes_eq-Decides}
 use Rattle.class_model.specs.Frames.{is_wide}
 use Rattle.class_model.specs.Instructions.{targets}
-use Rattle.class_model.specs.Laws.Lists.{at_index}
 use Rattle.class_model.specs.Names.{init}
-use Rattle.class_model.specs.Pool.{Constants, constant_at}
-use Rattle.class_model.specs.declared.class_file.ClassFile.{ClassFile}
+use Rattle.class_model.specs.Pool.{constant_at}
 use Rattle.class_model.specs.declared.class_file.MethodAt.{MethodAt}
 use Rattle.class_model.specs.declared.descriptor.Kind.{Kind}
 use Rattle.class_model.specs.declared.frame.Frame.{Frame}
 use Rattle.class_model.specs.declared.frame.VType.{VType}
 use Rattle.class_model.specs.declared.frame.VType.TheVariants as types
 use Rattle.class_model.specs.declared.instr.Instr.{Instr}
-use Rattle.class_model.specs.declared.instr.Instr.TheVariants.{Invoke, New, Return}
+use Rattle.class_model.specs.declared.instr.Instr.TheVariants.{Invoke, Return}
 use Rattle.class_model.specs.declared.instr.Placed.{Placed}
 use Rattle.class_model.specs.declared.opcodes.TheConstants.{INVOKESTATIC}
-use Rattle.class_tree.specs.Headers.{Classes, Headers, headers_of}
+use Rattle.class_tree.specs.Headers.{Headers, headers_of}
 use Rattle.class_tree.specs.Names.{object}
 use Rattle.expanded_code.specs.Alone.{number_in}
-use Rattle.expanded_code.specs.Expanded.{Setting, callee_of, class_of, expanded, own_points, set_frame, set_instr, set_type}
+use Rattle.expanded_code.specs.Expanded.{Setting, callee_of, class_of, expanded, own_points, set_frame, set_instr}
 use Rattle.expanded_code.specs.Expansions.{Coded, Expansion}
 use Rattle.expanded_runs.proofs.Plans.RowsGoOn.{goes_on}
 use Rattle.expanded_runs.proofs.Ready.Catches.{frame_there, handlers_kept}
-use Rattle.expanded_runs.proofs.Ready.Comes.{CatchKept, FrameThere, GoesKept, KeepsTo, edges_kept}
+use Rattle.expanded_runs.proofs.Ready.Comes.{FrameThere, GoesKept, KeepsTo, edges_kept}
 use Rattle.expanded_runs.proofs.Ready.OwnRows.{SameWidth, row_keeps}
 use Rattle.expanded_runs.proofs.Ready.RowKeeps.{RowKeeps, goes_kept, went}
+use Rattle.expanded_runs.proofs.Runs.Bars.{never}
 use Rattle.expanded_runs.proofs.Runs.CallLaws.{CallLaws}
 use Rattle.expanded_runs.proofs.Runs.LinkedInstrs.{linked_instr}
 use Rattle.expanded_runs.proofs.Runs.NativeMethods.{scope_is_at}
@@ -47,7 +46,6 @@ use Rattle.expanded_runs.proofs.Types.StandingPlaces.{start_number}
 use Rattle.expanded_runs.proofs.Types.StandingRows.{row_conditions}
 use Rattle.expanded_runs.proofs.Types.ThisWithin.{NoThisStanding}
 use Rattle.flow_code.specs.FlatCode.{FlatCode}
-use Rattle.flow_code.specs.declared.handlers.FlatHandler.{FlatHandler}
 use Rattle.flow_code.specs.declared.point.Point.{Point}
 use Rattle.member_link.specs.Bodies.{falls_through}
 use Rattle.member_link.specs.BodyTyping.{FlowsInto, GoesInto, GoesToStated, RowHolds}
@@ -65,7 +63,7 @@ use Rattle.member_link.specs.Signatures.{reference_of}
 use Rattle.plan_flow.specs.Must.{row_of_point}
 use Rattle.plan_flow.specs.PlanRows.{PlanRow}
 use Rattle.plan_flow.specs.PlanScope.{PlanScope, pool_of, scope_of as plan_scope}
-use Rattle.plan_flow.specs.PlanTable.{edges_of, falls_on, instr_row, targets_at}
+use Rattle.plan_flow.specs.PlanTable.{edges_of}
 use Rattle.plan_flow.specs.ReadyForPlans.{KeepsAlong}
 use Rattle.type_rules.specs.MethodBodies.{body_of, point_of}
 use Rattle.typed_runs.specs.TypedPoints.{IsLinkedOp}
@@ -112,10 +110,6 @@ one_point t placed stays = by t.behind refl placed.instr refl where
   by None b instr i = rw (b) refl
   by (Some behind) b (Return kind) i = absurd (stays (λ none. none-some behind (sym none ∙ b)) kind i)
   by (Some behind) b instr i = rw (b, i) refl
-
-never : (b : Bool) → (b && false) ≡ false
-never true = refl
-never false = refl
 
 module _ (u : Setup) (is_setup : IsSetup u) (call_laws : CallLaws) (laws : TypingLaws) (facts : FrameFacts u.classes u.typed)
     (host : Coded) (e : Expansion)

@@ -1,16 +1,13 @@
 -- The rows of the plan of a point of an instruction that stays: each type of an uninitialised object of a site behind it comes from the same type.
 use Rattle.std.proofs.Common.{◌≡◌, ◌≢◌, ◌+◌, ◌-◌, ◌≤◌, ◌<◌, ◌⊎◌, ℕ, zero, suc, Bool, true, false, List, [], ◌∷◌, ◌++◌, length, map, drop, slice_get, Option, Some, None, option_map, IsTrue, if◌then◌else◌, refl, sym, ap, subst, ◌∙◌, arith, inl, inr}
-use Rattle.std.specs.Prelude.{◌==◌, ◌&&◌, nat_le, slice_set}
+use Rattle.std.specs.Prelude.{◌==◌, ◌&&◌, nat_le}
 use Rattle.std.specs.List.{AllByRecursion}
-use Rattle.std.proofs.lemmas.List.{drop-map, length-append, length-drop, length-map, length-set}
+use Rattle.std.proofs.lemmas.List.{length-drop, length-map}
 use Rattle.std.proofs.lemmas.Option.{none-some, same_Some, slice_get-map, slice_get_within}
-use Rattle.std.proofs.Math.Seq.{drop-append-add}
 use Rattle.class_model.specs.Frames.{is_wide}
-use Rattle.class_model.specs.Laws.Lists.{at_index}
 use Rattle.class_model.specs.Pool.{Constants, constant_at}
 use Rattle.class_model.specs.PoolChecks.{class_at}
 use Rattle.class_model.specs.declared.descriptor.Kind.{Kind}
-use Rattle.class_model.specs.declared.descriptor.Kind.TheVariants as kinds
 use Rattle.class_model.specs.declared.frame.Frame.{Frame}
 use Rattle.class_model.specs.declared.frame.VType.{VType}
 use Rattle.class_model.specs.declared.frame.VType.TheVariants as types
@@ -20,15 +17,16 @@ use Rattle.class_model.specs.declared.opcodes.TheConstants.{DUP, DUP2, DUP2_X1, 
 use Rattle.class_tree.specs.Headers.{Name}
 use Rattle.expanded_code.specs.Expanded.{Setting, class_of, set_frame, set_instr, set_type}
 use Rattle.expanded_runs.proofs.Ready.Comes.{Comes, held_long, other_source, set_source, site_numbered}
-use Rattle.expanded_runs.proofs.Ready.PlainRows.{HasFit, Plan, all_left, array_load_keeps, array_store_keeps, call_keeps, cast_keeps, const_keeps, dynamic_keeps, get_field_keeps, get_static_keeps, imm_known, jump_keeps, keeps_of, like_plain, made_keeps, no_row_keeps, null_plan, operation_keeps, plan_of, plain_holds, put_field_keeps, put_static_keeps, same_plan}
-use Rattle.expanded_runs.proofs.Ready.RowKeeps.{HoldsLocals, LocalsKept, Moving, NotNew, RowKeeps, entry_set, held_kept, keeps_by, local_set, locals_long, stack_long}
-use Rattle.expanded_runs.proofs.Ready.StoredBack.{mapped_back, older_back, stored_back}
+use Rattle.expanded_runs.proofs.Ready.PlainRows.{Plan, all_left, array_load_keeps, array_store_keeps, call_keeps, cast_keeps, const_keeps, dynamic_keeps, get_field_keeps, get_static_keeps, imm_known, jump_keeps, like_plain, made_keeps, no_row_keeps, null_plan, operation_keeps, plan_of, put_field_keeps, put_static_keeps, same_plan}
+use Rattle.expanded_runs.proofs.Ready.RowKeeps.{LocalsKept, RowKeeps, entry_set, held_kept, keeps_by, local_set, locals_long, stack_long}
+use Rattle.expanded_runs.proofs.Ready.StoredBack.{mapped_back, older_back, room_within, stored_back}
 use Rattle.expanded_runs.proofs.Runs.PositionLaws.{slice_left, slice_right}
+use Rattle.expanded_runs.proofs.Types.Entries.{topmost_set}
 use Rattle.expanded_runs.proofs.Types.PlacedRows.{has_enough}
 use Rattle.expanded_runs.proofs.Types.PlacedShuffles.{fit_form, form_many, form_over_both}
 use Rattle.expanded_runs.proofs.Types.Units.{get_drop}
 use Rattle.flow_code.specs.FlatCode.{FlatCode}
-use Rattle.flow_code.specs.ReadTypes.{class_of_site, is_site_object}
+use Rattle.flow_code.specs.ReadTypes.{is_site_object}
 use Rattle.member_link.specs.Machine.CallSteps.{is_object_init}
 use Rattle.member_link.specs.References.{Reference}
 use Rattle.member_link.specs.RowScope.{RowScope}
@@ -36,14 +34,14 @@ use Rattle.member_link.specs.Rows.ArithmeticRows.{divide_operations, float_opera
 use Rattle.member_link.specs.Rows.ArrayRows.{array_of, primitive_array}
 use Rattle.member_link.specs.Rows.LocalRows.{load_row, local_entry, store_row as own_store_row, HasRoom}
 use Rattle.member_link.specs.Rows.Operands.{AllFit, IsUninitialised, is_single, lowest_of, of_kind, topmost}
-use Rattle.member_link.specs.Rows.Row.{Row, plain}
+use Rattle.member_link.specs.Rows.Row.{Row}
 use Rattle.member_link.specs.Rows.ShuffleRows.{Form, Width, have_widths, has_width, form_in, form_row, forms_of, one, picked, two, need_of}
 use Rattle.member_link.specs.Rows.Table.{row_of, new_row as own_new_row, without_older}
 use Rattle.member_link.specs.Signatures.{reference_of}
 use Rattle.plan_flow.specs.PlanRows.{PlanRow, Source, from_new, from_place}
 use Rattle.plan_flow.specs.PlanScope.{PlanScope, pool_of, site_at, field_of}
 use Rattle.plan_flow.specs.PlanTable.{call_row, cast_row, dynamic_row, get_field_row, held_from, held_locals, instr_row, moving, new_row, operand, picked_operands, put_field_row, shuffle_row, store_row}
-use Rattle.plan_flow.specs.ReadyForPlans.{KeepsType, from_its_new, from_its_type, place_types}
+use Rattle.plan_flow.specs.ReadyForPlans.{from_its_new, from_its_type, place_types}
 
 -- ---- forms of stack moves
 
@@ -143,20 +141,10 @@ all_dropped P zero items all = all
 all_dropped P (suc n) [] all = tt
 all_dropped P (suc n) (item ∷ items) all = all_dropped P n items all.1
 
--- the topmost entries in their place
-top_set : (t : Setting) (count : ℕ) (below stack : List VType) → count ≤ length stack
-    → topmost count (below ++ map (set_type t) stack) ≡ map (set_type t) (topmost count stack)
-top_set t count below stack enough =
-    let long : length (below ++ map (set_type t) stack) - count ≡ length below + (length stack - count) =
-    omega (arith, enough, length-append below (map (set_type t) stack), length-map stack (set_type t)) in
-    ap (λ (n : ℕ). drop n (below ++ map (set_type t) stack)) long
-    ∙ drop-append-add below (map (set_type t) stack) (length stack - count)
-    ∙ drop-map (set_type t) (length stack - count) stack
-
 forms_set : (t : Setting) (f : Frame) → AllByRecursion (SameWidth t) f.stack → (widths : List Width) → fit_form widths f.stack ≡ true
     → fit_form widths (set_frame t f).stack ≡ true
 forms_set t f all widths is =
-    ap (have_widths widths) (top_set t (length widths) t.below.stack f.stack (form_many widths f.stack is))
+    ap (have_widths widths) (topmost_set t (length widths) t.below.stack f.stack (form_many widths f.stack is))
     ∙ widths_set t widths (topmost (length widths) f.stack) (all_dropped (SameWidth t) (length f.stack - length widths) f.stack all)
     ∙ is
 
@@ -231,13 +219,6 @@ module _ (flat : FlatCode) (t : Setting) (number : ℕ) (f : Frame) (fits : t.un
         subst (λ (x : VType). slice_get (place_types (set_frame t f)) (operand (set_frame t f) 0) ≡ Some (set_type t x)) (sym low)
         (subst (λ (n : ℕ). slice_get (place_types (set_frame t f)) n ≡ Some (set_type t value)) (omega (arith, within, stack_long t f)) placed)
 
-  unit_there : (kind : Kind) (local : ℕ) → HasRoom kind f.locals local → local < length f.locals
-  unit_there kinds.Int local room = omega (arith, room)
-  unit_there kinds.Long local room = omega (arith, room)
-  unit_there kinds.Float local room = omega (arith, room)
-  unit_there kinds.Double local room = omega (arith, room)
-  unit_there kinds.Ref local room = omega (arith, room)
-
   held_at : (local n : ℕ) (type : VType) → t.unit + local ≢ n → slice_get (set_frame t f).locals n ≡ Some type
       → Comes number (place_types (set_frame t f)) (storing local).locals n type
   held_at local n type other is = record {
@@ -257,7 +238,7 @@ module _ (flat : FlatCode) (t : Setting) (number : ℕ) (f : Frame) (fits : t.un
       }) (λ j type new site is. absurd (none-some type is))
     where
       there : local < length f.locals
-      there = unit_there kind local room
+      there = room_within kind f.locals local room
 
       apart : (n : ℕ) → (n < t.unit) ⊎ (t.unit + length f.locals ≤ n) → t.unit + local ≢ n
       apart n (inl before) same = omega (arith, before, same)

@@ -1,12 +1,11 @@
 -- The rows of instructions that give no uninitialised object: their plans hold what they don't take.
-use Rattle.std.proofs.Common.{◌≡◌, ◌+◌, ◌-◌, ◌≤◌, ◌⊎◌, ℕ, zero, suc, Bool, true, false, List, [], ◌∷◌, length, map, replicate, bytes_eq, slice_get, Option, Some, None, if◌then◌else◌, refl, ap, subst, arith, inl, inr}
-use Rattle.std.specs.Prelude.{◌==◌, ◌&&◌, nat_le, nat_lt}
+use Rattle.std.proofs.Common.{◌≡◌, ◌+◌, ◌-◌, ◌≤◌, ℕ, Bool, true, false, List, [], ◌∷◌, length, map, replicate, bytes_eq, slice_get, Option, Some, None, if◌then◌else◌, refl, ap, subst, arith}
+use Rattle.std.specs.Prelude.{◌==◌, nat_lt}
 use Rattle.std.specs.List.{AllByRecursion}
 use Rattle.std.proofs.lemmas.List.{length-map, length-replicate}
 use Rattle.class_model.specs.Code.{verification_type}
 use Rattle.class_model.specs.Descriptors.{parameters_of}
 use Rattle.class_model.specs.Names.{init}
-use Rattle.class_model.specs.Pool.{Constants}
 use Rattle.class_model.specs.PoolChecks.{descriptor_at}
 use Rattle.class_model.specs.declared.descriptor.FieldType.{FieldType}
 use Rattle.class_model.specs.declared.descriptor.FieldType.TheVariants as field_types
@@ -22,7 +21,7 @@ use Rattle.class_model.specs.declared.pool.Const.{Const as Constant}
 use Rattle.class_model.specs.declared.pool.Const.TheVariants as consts
 use Rattle.class_tree.specs.Headers.{Name}
 use Rattle.expanded_code.specs.Expanded.{Setting, set_frame}
-use Rattle.expanded_runs.proofs.Ready.RowKeeps.{HoldsLocals, LeavesEntries, Moving, NotNew, RowKeeps, keeps_plain}
+use Rattle.expanded_runs.proofs.Ready.RowKeeps.{LeavesEntries, Moving, NotNew, RowKeeps, keeps_plain}
 use Rattle.expanded_runs.proofs.Ready.StoredBack.{initialised_back, mapped_back}
 use Rattle.expanded_runs.proofs.Types.PlacedRows.{has_enough}
 use Rattle.flow_code.specs.FlatCode.{FlatCode}
@@ -36,9 +35,8 @@ use Rattle.member_link.specs.Rows.MemberRows.{argument_needs, get_field_row, get
 use Rattle.member_link.specs.Rows.Operands.{AllFit, IsUninitialised, Need, assignable_to, lowest_of, nothing, of_kind, topmost}
 use Rattle.member_link.specs.Rows.Row.{Row, either, no_row, plain}
 use Rattle.member_link.specs.Rows.Table.{cast_row, jump_row}
-use Rattle.member_link.specs.Signatures.{field_type, result_of}
+use Rattle.member_link.specs.Signatures.{result_of}
 use Rattle.plan_flow.specs.PlanRows.{PlanRow}
-use Rattle.plan_flow.specs.PlanScope.{PlanScope}
 use Rattle.plan_flow.specs.PlanTable.{call_row, calling, dynamic_row, held_locals, moving, null_row, operands_of, receivers, same_row}
 
 -- ---- types that are none of an uninitialised object

@@ -1,5 +1,5 @@
 -- Each point of an expanded flat code is an instruction of a class of the folder that reading and linking accept.
-use Rattle.std.proofs.Common.{◌≡◌, ◌≢◌, ◌+◌, ◌≤◌, ◌<◌, ℕ, zero, suc, Bool, true, false, List, [], ◌∷◌, ◌++◌, length, map, reverse, slice_get, pos, Option, Some, None, Result, Ok, Err, if◌then◌else◌, refl, sym, ap, subst, ◌∙◌, arith, inl, inr}
+use Rattle.std.proofs.Common.{◌≡◌, ◌+◌, ◌≤◌, ◌<◌, ℕ, Bool, true, false, List, [], ◌∷◌, length, map, reverse, slice_get, pos, Some, refl, sym, subst, ◌∙◌, arith, inl, inr}
 use Rattle.std.specs.List.{AllByRecursion}
 use Rattle.std.proofs.lemmas.List.{length-map}
 use Rattle.std.proofs.lemmas.List.Sums.{sum_by-cons}
@@ -21,11 +21,10 @@ use Rattle.class_model.specs.declared.header.Member.{Member}
 use Rattle.class_model.specs.declared.instr.Instr.{Instr}
 use Rattle.class_model.specs.declared.instr.Instr.TheVariants.{Goto, If, If2, IfNull, IfSame, Iinc, Load, Lookup, Store, Table}
 use Rattle.class_model.specs.declared.instr.Placed.{Placed}
-use Rattle.class_tree.specs.Headers.{Headers, IsClassFile, headers_of}
-use Rattle.class_tree.specs.Hierarchy.{IsHierarchy}
+use Rattle.class_tree.specs.Headers.{IsClassFile, headers_of}
 use Rattle.code_bytes.specs.Codes.{HasInstrs, IsReadMethod}
-use Rattle.expanded_code.specs.ExpandAnswers.{IsExpanded, IsNoHost}
-use Rattle.expanded_code.specs.Expanded.{Argument, Setting, arguments, arguments_from, class_of, expanded, set_frame, set_instr, tests_receiver}
+use Rattle.expanded_code.specs.ExpandAnswers.{IsExpanded}
+use Rattle.expanded_code.specs.Expanded.{Argument, Setting, arguments, arguments_from, class_of, expanded, set_frame, set_instr}
 use Rattle.expanded_code.specs.Expansions.{Coded, Expands, Expansion}
 use Rattle.expanded_code.specs.Sites.{HasFrames}
 use Rattle.expanded_runs.proofs.AloneProgram.{OneEach}
@@ -36,17 +35,15 @@ use Rattle.expanded_runs.proofs.Ready.LinkedUses.{uses_same, uses_set}
 use Rattle.expanded_runs.proofs.Ready.PointKinds.{HasNarrowing, OwnKind, entries_have, own_kind, own_returns, own_stays, returns_have}
 use Rattle.expanded_runs.proofs.Runs.ArgumentRoom.{arguments_fit}
 use Rattle.expanded_runs.proofs.Runs.NativeMethods.{IsScopeAt, scope_is_at}
-use Rattle.expanded_runs.proofs.Runs.PositionLaws.{block_least}
 use Rattle.expanded_runs.proofs.Runs.Positions.{Standing, block_of, host_standing, inner_standing, instrs_of, scope_of}
 use Rattle.expanded_runs.proofs.Runs.Setup.{IsSetup, Setup}
 use Rattle.expanded_runs.proofs.Runs.StandingLaws.{stands_so}
 use Rattle.expanded_runs.proofs.Runs.Standings.{IsStanding, Stands, callee_stands, host_stands}
 use Rattle.expanded_runs.proofs.Types.FlatParts.{EntryPart, OwnPart, Part, part_of}
-use Rattle.expanded_runs.proofs.Types.KnownTypes.{DecodedAt, NameLaws, code_there, decoded_at, operand_fits}
-use Rattle.expanded_runs.proofs.Types.OwnPoints.{TypingLaws, own_point}
+use Rattle.expanded_runs.proofs.Types.KnownTypes.{NameLaws, code_there, decoded_at, operand_fits}
+use Rattle.expanded_runs.proofs.Types.OwnPoints.{TypingLaws}
 use Rattle.expanded_runs.specs.ByteCodes.{HaveByteCodes}
 use Rattle.flow_code.specs.FlatCode.{FlatCode}
-use Rattle.flow_code.specs.declared.point.FlatInstr.{FlatInstr}
 use Rattle.flow_code.specs.declared.point.FlatInstr.TheVariants.{Of}
 use Rattle.flow_code.specs.declared.point.Point.{Point}
 use Rattle.member_link.specs.Declarations.{site_of}
@@ -55,7 +52,7 @@ use Rattle.member_link.specs.Scope.{Scope, instructions, own_descriptor}
 use Rattle.member_link.specs.Targets.{HasForm, pair_to}
 use Rattle.member_link.specs.Uses.{instr_use_checks}
 use Rattle.same_runs.specs.Laws.ComeFirst.{all_appended}
-use Rattle.same_runs.specs.ReadyCode.{IsReadyInstr, IsReadyItem}
+use Rattle.same_runs.specs.ReadyCode.{IsReadyItem}
 use Rattle.expanded_runs.proofs.Types.StoredUnits.{last_reversed}
 use Rattle.std.specs.Int.{w32}
 use Rattle.std.specs.Prelude.{◌+ℤ◌, ◌-◌, FitsSigned}

@@ -1,6 +1,6 @@
 -- Along the edges of the points of a return of a callee, types of uninitialised objects of sites come from the same types: what the caller has of them
 -- behind its call it had before.
-use Rattle.std.proofs.Common.{◌≡◌, ◌≢◌, ◌+◌, ◌-◌, ◌≤◌, ◌<◌, ◌⊎◌, ℕ, zero, suc, Bool, true, false, List, [], ◌∷◌, ◌++◌, length, map, take, slice_get, pos, Option, Some, None, option_map, IsTrue, refl, sym, ap, subst, ◌∙◌, arith, inl, inr}
+use Rattle.std.proofs.Common.{◌≡◌, ◌≢◌, ◌+◌, ◌-◌, ◌≤◌, ◌<◌, ◌⊎◌, ℕ, zero, suc, List, [], ◌∷◌, ◌++◌, length, map, slice_get, pos, Option, Some, option_map, IsTrue, refl, sym, ap, subst, ◌∙◌, arith, inl, inr}
 use Rattle.std.specs.Prelude.{IsSome}
 use Rattle.std.specs.List.{AllByRecursion}
 use Rattle.std.proofs.lemmas.List.{length-append, length-map, length-take-le}
@@ -19,7 +19,7 @@ use Rattle.class_model.specs.declared.instr.Instr.TheVariants.{Const, Goto, Invo
 use Rattle.class_model.specs.declared.instr.Placed.{Placed}
 use Rattle.class_model.specs.declared.opcodes.TheConstants.{IAND}
 use Rattle.class_model.specs.Pool.{constant_at}
-use Rattle.class_tree.specs.Headers.{Classes, Headers, headers_of}
+use Rattle.class_tree.specs.Headers.{Classes, headers_of}
 use Rattle.class_tree.specs.Hierarchy.{IsHierarchy}
 use Rattle.expanded_code.specs.Callees.{LeavesResult}
 use Rattle.expanded_code.specs.Expanded.{Setting, arguments, expanded, point_in, points_of_callee, return_points, set_frame, set_type}
@@ -27,7 +27,7 @@ use Rattle.expanded_code.specs.Expansions.{Coded, Expansion}
 use Rattle.expanded_runs.proofs.Ready.Catches.{frame_there, handlers_kept}
 use Rattle.expanded_runs.proofs.Ready.Comes.{CatchKept, FrameThere, GoesKept, KeepsTo, SameSites, edges_kept, moving_to, set_site, top_no_site}
 use Rattle.expanded_runs.proofs.Ready.PlainRows.{HoldsRow, call_holds, results_known}
-use Rattle.expanded_runs.proofs.Ready.RowKeeps.{NotNew, entry_set, local_outside, local_set, new_before, stack_back, went}
+use Rattle.expanded_runs.proofs.Ready.RowKeeps.{NotNew, local_outside, local_set, new_before, stack_back, went}
 use Rattle.expanded_runs.proofs.Runs.PositionLaws.{block_least, length_arguments, part_stands, points_at, slice_left, slice_right}
 use Rattle.expanded_runs.proofs.Runs.Positions.{Becomes, IsReplacedAt, Standing, becomes, block_of, frames_of, inner_setting, inner_standing, instrs_of, scope_of, start_of}
 use Rattle.expanded_runs.proofs.Runs.Standings.{IsStanding, Stands, callee_stands, host_stands}
@@ -36,7 +36,7 @@ use Rattle.expanded_runs.proofs.Types.Edges.{set_unit}
 use Rattle.expanded_runs.proofs.Types.FlatParts.{IsOwn, own_remains, own_site, slice_either}
 use Rattle.expanded_runs.proofs.Types.FlatTyped.{returns_some}
 use Rattle.expanded_runs.proofs.Types.FrameFacts.{FrameFacts, frame_fits, own_long, tops_behind}
-use Rattle.expanded_runs.proofs.Types.OwnPoints.{TypingLaws, own_headers, row_at}
+use Rattle.expanded_runs.proofs.Types.OwnPoints.{TypingLaws, row_at}
 use Rattle.expanded_runs.proofs.Types.ReturnFrames.{BehindCall, behind_call, under_set}
 use Rattle.expanded_runs.proofs.Types.ReturnPoints.{return_points_hold}
 use Rattle.expanded_runs.proofs.Types.Returns.{behind_is, callee_there}
@@ -57,7 +57,7 @@ use Rattle.member_link.specs.Rows.Table.{row_of}
 use Rattle.member_link.specs.Scope.{Scope, own_descriptor, row_scope}
 use Rattle.member_link.specs.Signatures.{reference_of, result_of}
 use Rattle.plan_flow.specs.Must.{row_of_point}
-use Rattle.plan_flow.specs.PlanRows.{PlanRow, Source, plain_value}
+use Rattle.plan_flow.specs.PlanRows.{plain_value}
 use Rattle.plan_flow.specs.PlanScope.{PlanScope, scope_of as plan_scope}
 use Rattle.plan_flow.specs.PlanTable.{edges_of, held_from, moving, operands_of}
 use Rattle.plan_flow.specs.ReadyForPlans.{KeepsAlong}

@@ -1,18 +1,17 @@
 -- What a row of a plan says of where types come from is what the row of the instruction says of them.
-use Rattle.std.proofs.Common.{◌≡◌, ◌≢◌, ◌+◌, ◌-◌, ◌≤◌, ◌<◌, ◌⊎◌, ℕ, zero, suc, Bool, true, false, List, [], ◌∷◌, ◌++◌, length, map, take, slice_get, Option, Some, None, option_map, IsTrue, if◌then◌else◌, refl, sym, ap, subst, ◌∙◌, arith, inl, inr}
-use Rattle.std.specs.Prelude.{slice_set}
+use Rattle.std.proofs.Common.{◌≡◌, ◌+◌, ◌-◌, ◌≤◌, ◌<◌, ◌⊎◌, ℕ, Bool, true, false, List, ◌++◌, length, map, slice_get, Some, None, option_map, IsTrue, if◌then◌else◌, refl, sym, ap, subst, ◌∙◌, arith, inl, inr}
 use Rattle.std.specs.List.{AllByRecursion}
-use Rattle.std.proofs.lemmas.List.{length-append, length-map, length-set, length-take-le}
+use Rattle.std.proofs.lemmas.List.{length-append, length-map, length-take-le}
 use Rattle.std.proofs.lemmas.Option.{none-some, same_Some, slice_get-map, slice_get_within}
 use Rattle.class_model.specs.Laws.Lists.{at_index}
 use Rattle.class_model.specs.declared.frame.Frame.{Frame}
 use Rattle.class_model.specs.declared.frame.VType.{VType}
-use Rattle.expanded_code.specs.Expanded.{Setting, overlaid, set_frame, set_type}
-use Rattle.expanded_runs.proofs.Ready.Comes.{Comes, KeepsTo, get_held, held_long, local_comes, set_site, stack_comes}
-use Rattle.expanded_runs.proofs.Runs.PositionLaws.{slice_left, slice_right}
+use Rattle.expanded_code.specs.Expanded.{Setting, set_frame, set_type}
+use Rattle.expanded_runs.proofs.Ready.Comes.{Comes, KeepsTo, local_comes, set_site, stack_comes}
+use Rattle.expanded_runs.proofs.Runs.PositionLaws.{slice_left}
 use Rattle.expanded_runs.proofs.Types.Edges.{set_unit}
-use Rattle.expanded_runs.proofs.Types.FlatParts.{InSecond, slice_either}
-use Rattle.expanded_runs.proofs.Types.Units.{as_long, block_long, each_assignable, get_back, get_front, get_inside, get_outside, get_take, inside, item_there, le_cases, outside, where_is}
+use Rattle.expanded_runs.proofs.Types.FlatParts.{slice_either}
+use Rattle.expanded_runs.proofs.Types.Units.{as_long, block_long, each_assignable, get_back, get_inside, get_outside, get_take, inside, item_there, outside, where_is}
 use Rattle.flow_code.specs.FlatCode.{FlatCode}
 use Rattle.flow_code.specs.ReadTypes.{is_site_object}
 use Rattle.class_tree.specs.Headers.{Headers}
@@ -20,9 +19,9 @@ use Rattle.member_link.specs.Assignability.{IsAssignable, from_null, of_names, t
 use Rattle.member_link.specs.Rows.FrameAssignability.{AreAssignable, IsFrameAssignable}
 use Rattle.member_link.specs.Rows.Operands.{IsUninitialised, under}
 use Rattle.member_link.specs.Rows.Row.{Row, row_frame, stack_behind}
-use Rattle.plan_flow.specs.PlanRows.{PlanRow, Source, from_place}
+use Rattle.plan_flow.specs.PlanRows.{PlanRow, Source}
 use Rattle.plan_flow.specs.PlanTable.{held_from, held_locals}
-use Rattle.plan_flow.specs.ReadyForPlans.{from_its_type, place_types}
+use Rattle.plan_flow.specs.ReadyForPlans.{place_types}
 
 abbrev pub NotNew : VType → Type 0
 NotNew type = IsUninitialised type → ⊥

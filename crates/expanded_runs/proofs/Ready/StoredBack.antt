@@ -1,13 +1,15 @@
 -- What types of uninitialised objects there are behind a store, and behind an initialiser, were there before.
-use Rattle.std.proofs.Common.{◌≡◌, ◌≢◌, ◌+◌, ◌⊎◌, ℕ, zero, suc, Bool, true, false, List, [], ◌∷◌, map, slice_get, Option, Some, None, option_map, if◌then◌else◌, refl, sym, ap, subst, ◌∙◌, inl, inr}
+use Rattle.std.proofs.Common.{◌≡◌, ◌≢◌, ◌+◌, ◌<◌, ◌⊎◌, ℕ, zero, suc, Bool, true, false, List, [], ◌∷◌, length, map, slice_get, Option, Some, None, option_map, if◌then◌else◌, refl, sym, ap, subst, ◌∙◌, arith, inl, inr}
 use Rattle.std.specs.Prelude.{◌==◌, slice_set}
 use Rattle.std.proofs.lemmas.Option.{none-some, same_Some, slice_get-map}
 use Rattle.class_model.specs.Frames.{is_wide}
+use Rattle.class_model.specs.declared.descriptor.Kind.{Kind}
+use Rattle.class_model.specs.declared.descriptor.Kind.TheVariants as kinds
 use Rattle.class_model.specs.declared.frame.VType.{VType}
 use Rattle.class_model.specs.declared.frame.VType.TheVariants as types
 use Rattle.member_link.specs.References.{Reference}
 use Rattle.member_link.specs.RowScope.{RowScope}
-use Rattle.member_link.specs.Rows.LocalRows.{cut_before, stored, with_units}
+use Rattle.member_link.specs.Rows.LocalRows.{HasRoom, cut_before, stored, with_units}
 use Rattle.member_link.specs.Rows.MemberRows.{initialised_type}
 use Rattle.member_link.specs.Rows.Operands.{IsUninitialised}
 use Rattle.member_link.specs.Rows.Table.{without_older}
@@ -71,6 +73,14 @@ pub stored_back : (at : ℕ) (value : VType) (locals : List VType) (m : ℕ) (ty
 stored_back at types.Long locals m type new is = two_back at types.Long locals m type new is
 stored_back at types.Double locals m type new is = two_back at types.Double locals m type new is
 stored_back at value locals m type new is = one_back at value locals m type new is
+
+-- a unit that is stored is there
+pub room_within : (kind : Kind) (locals : List VType) (unit : ℕ) → HasRoom kind locals unit → unit < length locals
+room_within kinds.Int locals unit room = omega (arith, room)
+room_within kinds.Long locals unit room = omega (arith, room)
+room_within kinds.Float locals unit room = omega (arith, room)
+room_within kinds.Double locals unit room = omega (arith, room)
+room_within kinds.Ref locals unit room = omega (arith, room)
 
 -- ---- each type changed
 

@@ -1,5 +1,5 @@
 -- Along the edges of an expanded flat code types of uninitialised objects of sites come from the same types, or from their news.
-use Rattle.std.proofs.Common.{◌≡◌, ◌≢◌, ◌+◌, ◌≤◌, ◌++◌, ℕ, zero, suc, Bool, true, false, List, [], ◌∷◌, length, map, slice_get, Option, Some, None, IsFalse, IsTrue, refl, sym, ap, subst, ◌∙◌, arith, inl, inr}
+use Rattle.std.proofs.Common.{◌≡◌, ◌≢◌, ◌+◌, ◌≤◌, ◌++◌, ℕ, Bool, true, false, List, [], length, map, slice_get, Some, IsFalse, IsTrue, refl, sym, ap, subst, ◌∙◌, arith, inl, inr}
 use Rattle.std.specs.Prelude.{IsSome}
 use Rattle.std.specs.List.{AllByRecursion}
 use Rattle.std.proofs.lemmas.Option.{none-some, same_Some, slice_get_within}
@@ -9,7 +9,7 @@ use Rattle.class_model.specs.declared.frame.VType.{VType}
 use Rattle.class_model.specs.declared.frame.VType.TheVariants as types
 use Rattle.class_model.specs.declared.instr.Instr.TheVariants.{Invoke}
 use Rattle.class_model.specs.declared.instr.Placed.{Placed}
-use Rattle.class_tree.specs.Headers.{Headers, headers_of}
+use Rattle.class_tree.specs.Headers.{headers_of}
 use Rattle.class_tree.specs.Hierarchy.{IsHierarchy}
 use Rattle.expanded_code.specs.ExpandAnswers.{IsExpanded, IsNoHost}
 use Rattle.expanded_code.specs.Expanded.{Setting, expanded, host_setting, set_frame, set_type}
@@ -25,25 +25,25 @@ use Rattle.expanded_runs.proofs.Ready.PointKinds.{OwnKind, own_kind, own_returns
 use Rattle.expanded_runs.proofs.Ready.ReturnEdges.{return_edges}
 use Rattle.expanded_runs.proofs.Ready.RowKeeps.{new_before}
 use Rattle.expanded_runs.proofs.Runs.CallLaws.{CallLaws}
-use Rattle.expanded_runs.proofs.Runs.Positions.{IsReplacedAt, Standing, becomes, frames_of, host_standing, instrs_of, scope_of, start_of}
+use Rattle.expanded_runs.proofs.Runs.Positions.{IsReplacedAt, Standing, host_standing, instrs_of, start_of}
 use Rattle.expanded_runs.proofs.Runs.Setup.{IsSetup, Setup}
-use Rattle.expanded_runs.proofs.Runs.StandingLaws.{as_replaced, becomes_as, stands_so}
-use Rattle.expanded_runs.proofs.Runs.Standings.{IsStanding, Stands, callee_stands, host_stands}
+use Rattle.expanded_runs.proofs.Runs.StandingLaws.{as_replaced, becomes_as}
+use Rattle.expanded_runs.proofs.Runs.Standings.{IsStanding, Stands, host_stands}
 use Rattle.expanded_runs.proofs.Types.Expanded.{MethodRows, entry_facts, this_known}
-use Rattle.expanded_runs.proofs.Types.FlatParts.{EntryPart, OwnPart, Part, part_of}
+use Rattle.expanded_runs.proofs.Types.FlatParts.{OwnPart, Part, part_of}
 use Rattle.expanded_runs.proofs.Types.FrameFacts.{FrameFacts}
 use Rattle.expanded_runs.proofs.Types.KnownTypes.{NameLaws}
-use Rattle.expanded_runs.proofs.Types.OwnPoints.{TypingLaws, own_point, scope_headers}
+use Rattle.expanded_runs.proofs.Types.OwnPoints.{TypingLaws, scope_headers}
 use Rattle.expanded_runs.proofs.Types.StandingPlaces.{replaced_is_call}
 use Rattle.expanded_runs.proofs.Types.StandingRows.{host_no_init}
 use Rattle.expanded_runs.proofs.Types.ThroughClass.{ArrayInterfaces}
 use Rattle.expanded_runs.proofs.Types.Whole.{arrays, facts, outside, rows, stands}
-use Rattle.flow_code.specs.FlatCode.{FlatCode, point_at}
+use Rattle.flow_code.specs.FlatCode.{FlatCode}
 use Rattle.flow_code.specs.ReadTypes.{is_site_object}
 use Rattle.flow_code.specs.declared.point.Point.{Point}
 use Rattle.member_link.specs.Linked.{IsLinked}
 use Rattle.member_link.specs.Rows.Operands.{IsUninitialised}
-use Rattle.member_link.specs.Scope.{Scope, instructions, is_init, scope_at}
+use Rattle.member_link.specs.Scope.{instructions, is_init}
 use Rattle.plan_flow.specs.Must.{row_of_point}
 use Rattle.plan_flow.specs.PlanScope.{local_types, scope_of as plan_scope, stack_types}
 use Rattle.plan_flow.specs.PlanTable.{edges_of}
@@ -52,13 +52,13 @@ use Rattle.std.proofs.lemmas.List.{length-map}
 use Rattle.class_model.specs.Members.{STATIC, has as has_flag}
 use Rattle.expanded_runs.proofs.Ready.RowKeeps.{local_outside}
 use Rattle.expanded_runs.proofs.Runs.StandingLaws.{as_many, has_first}
-use Rattle.expanded_runs.proofs.Types.CallFacts.{CallFacts}
 use Rattle.expanded_runs.proofs.Types.Edges.{set_unit}
 use Rattle.expanded_runs.proofs.Types.FlatParts.{slice_either}
 use Rattle.expanded_runs.proofs.Types.FrameFacts.{frame_fits, has_room}
+use Rattle.expanded_runs.proofs.Types.ReturnFrames.{no_entries}
 use Rattle.expanded_runs.proofs.Types.ThisWithin.{NoThisStanding}
 use Rattle.expanded_runs.proofs.Types.Units.{get_inside, inside, item_there, outside as out_of, where_is}
-use Rattle.member_link.specs.Rows.FrameAssignability.{AreAssignable, IsFrameAssignable}
+use Rattle.member_link.specs.Rows.FrameAssignability.{IsFrameAssignable}
 use Rattle.type_rules.specs.Stated.{entry}
 
 module _ (u : Setup) (is_setup : IsSetup u) (linked : IsLinked u.classes) (name_laws : NameLaws) (call_laws : CallLaws) (laws : TypingLaws)
@@ -181,10 +181,8 @@ module _ (u : Setup) (is_setup : IsSetup u) (linked : IsLinked u.classes) (name_
   entry_none : (n : ℕ) (type : VType) → slice_get (set_frame (host_setting host e) first_frame).stack n ≡ Some type → ⊥
   entry_none n type is =
       let own = set_unit (expanded host e) (host_setting host e) first_frame.stack n type is in
-      no_entry first_frame.stack entered.stack n own.0 own.1 where
-        no_entry : (stack : List VType) → AreAssignable host.scope.headers [] stack → (m : ℕ) (own : VType) → slice_get stack m ≡ Some own → ⊥
-        no_entry [] are m own is = none-some own is
-        no_entry (own ∷ stack) are m other is = are
+      let none = no_entries host.scope.headers first_frame.stack entered.stack in
+      none-some own.0 (sym (ap (λ (l : List VType). slice_get l n) none) ∙ own.1)
 
   begins_there : FrameThere (expanded host e) 0 (set_frame (host_setting host e) first_frame)
   begins_there = frame_there laws is_setup.types known_facts host e all_stand host.scope headers host_stands 0 first_there.0 first_there.1

@@ -1,6 +1,5 @@
 -- Expanded flat codes are ready to be written.
-use Rattle.std.proofs.Common.{◌≡◌, ℕ, Some, sym, subst}
-use Rattle.std.specs.List.{AllByRecursion}
+use Rattle.std.proofs.Common.{◌≡◌, Some, sym, subst}
 use Rattle.class_model.specs.declared.class_file.MethodAt.{MethodAt}
 use Rattle.expanded_code.specs.ExpandAnswers.{IsExpanded, IsNoHost, IsWide}
 use Rattle.expanded_runs.proofs.AloneProgram.{OneEach}

@@ -128,7 +128,7 @@ not_true : (b : Bool) → ¬ IsTrue b → b ≡ false
 not_true true other = absurd (other refl)
 not_true false other = refl
 
-never : (b : Bool) → (b && false) ≡ false
+pub never : (b : Bool) → (b && false) ≡ false
 never true = refl
 never false = refl
 

@@ -96,7 +96,7 @@ split headers (one ∷ ones) others (high ∷ all) are =
       other = rest.other;
     }
 
-no_entries : (headers : Headers) (entries : List VType) → AreAssignable headers [] entries → entries ≡ []
+pub no_entries : (headers : Headers) (entries : List VType) → AreAssignable headers [] entries → entries ≡ []
 no_entries headers [] are = refl
 no_entries headers (entry ∷ entries) are = absurd are
 
