@@ -1,7 +1,7 @@
 -- Flat codes of hosts have a replacement: of each field it is decided which of its flags are cleared.
 use Rattle.class_tree.specs.Layouts.{chain}
 use Rattle.same_runs.specs.ClearedFields.{ClearsFinal, ConstantFinds, IsInstanceField, OpensPrivate, ReplacesByFlats, StoresInFlat, UsesField, UsesInFlat, reads_field, writes_field}
-use Rattle.std.proofs.Common.{◌≡◌, ◌≢◌, ℕ, zero, suc, Bool, true, false, List, [], ◌∷◌, bytes_eq, slice_get, Option, Some, None, IsTrue, IsFalse, ◌⊎◌, ◌↔◌, ◌+◌, refl, sym, ap, subst, ◌∙◌, inl, inr}
+use Rattle.std.proofs.Common.{◌≡◌, ◌≢◌, ℕ, Bool, true, false, List, [], bytes_eq, slice_get, Option, Some, None, IsTrue, IsFalse, ◌⊎◌, ◌↔◌, ◌+◌, refl, sym, ap, subst, ◌∙◌, inl, inr}
 use Rattle.std.specs.List.{list_any}
 use Rattle.std.proofs.lemmas.Bool.{cases_eq}
 use Rattle.std.proofs.lemmas.Option.{none-some, same_Some}
@@ -15,6 +15,7 @@ use Rattle.class_model.specs.declared.instr.Instr.TheVariants.{GetField, PutFiel
 use Rattle.class_tree.specs.Headers.{Classes, Headers, Name, headers_of}
 use Rattle.class_tree.specs.Laws.Decided.{same_bytes, told, told_is}
 use Rattle.expanded_code.specs.ExpandAnswers.{has_no_code}
+use Rattle.expanded_code.specs.Laws.Searches.{HasOne, HasSome, one_decided, some_decided}
 use Rattle.expanded_runs.proofs.Runs.CallTargets.{HasScope, scope_has}
 use Rattle.expanded_runs.specs.ExpandedPrograms.{AreExpanded}
 use Rattle.flow_code.specs.FlatCode.{FlatCode}
@@ -31,40 +32,6 @@ use Rattle.member_link.specs.References.{Reference}
 use Rattle.member_link.specs.Scope.{Scope, scope_at}
 use Rattle.member_link.specs.Signatures.{reference_of}
 use Rattle.same_runs.specs.Flats.{Flats, flat_body, pool_of}
-
--- ---- one of several
-
--- an item of a list of which this holds; and the item that is there
-record HasOne {A : Type 0} (items : List A) (P : ℕ → A → Type 0) : Type 0 where
-  number : ℕ
-  item : A
-  is : slice_get items number ≡ Some item
-  holds : P number item
-
-record HasSome {A : Type 0} (found : Option A) (P : A → Type 0) : Type 0 where
-  item : A
-  is : found ≡ Some item
-  holds : P item
-
-first_or_other : {A : Type 0} (item : A) (items : List A) (P : ℕ → A → Type 0) (number : ℕ) (found : A)
-    → slice_get (item ∷ items) number ≡ Some found → P number found → P 0 item ⊎ HasOne items (λ n. P (suc n))
-first_or_other item items P zero found is holds = inl (subst (P 0) (sym (same_Some item found is)) holds)
-first_or_other item items P (suc number) found is holds = inr (record { number = number; item = found; is = is; holds = holds })
-
-one_decided : {A : Type 0} (items : List A) (P : ℕ → A → Type 0) → ((number : ℕ) (item : A) → Decision (P number item)) → Decision (HasOne items P)
-one_decided [] P each = inr (λ one. none-some one.item one.is)
-one_decided (item ∷ items) P each = elim (each 0 item) [
-  | inl holds ↦ inl (record { number = 0; item = item; is = refl; holds = holds })
-  | inr fails ↦ elim (one_decided items (λ n. P (suc n)) (λ n. each (suc n))) [
-    | inl one ↦ inl (record { number = suc one.number; item = one.item; is = one.is; holds = one.holds })
-    | inr none ↦ inr (λ one. elim (first_or_other item items P one.number one.item one.is one.holds) [ inl here ↦ fails here | inr there ↦ none there ])
-  ]
-]
-
-some_decided : {A : Type 0} (found : Option A) (P : A → Type 0) → ((item : A) → Decision (P item)) → Decision (HasSome found P)
-some_decided None P each = inr (λ some. none-some some.item some.is)
-some_decided (Some item) P each = mapped (λ holds. record { item = item; is = refl; holds = holds }) (λ some. subst P (sym (same_Some item some.item some.is)) some.holds)
-    (each item)
 
 -- ---- fields that points use
 
@@ -177,7 +144,7 @@ module _ (classes : Classes) (links : Links) (are_links : AreLinksOf (headers_of
   finds_decided field named =
       mapped (λ some. record { reference = some.item; names = some.is; finds = some.holds }) (λ finds. record { item = finds.reference; is = finds.names; holds = finds.finds })
       (some_decided (reference_of (pool_of classes named.0) (constant_at (pool_of classes named.0) named.1)) (λ r. FindsField headers r.class r.name r.desc (Some field))
-      (λ r. found_decided r field))
+      (λ r is. found_decided r field))
 
   stores_decided : (flat : FlatCode) (field : Declared) → Decision (StoresInFlat classes flat field)
   stores_decided flat field =
@@ -196,7 +163,7 @@ module _ (classes : Classes) (links : Links) (are_links : AreLinksOf (headers_of
         holds = record { item = (stores.class, stores.index); is = is_stored stores.point.instr stores.class stores.index stores.stores; holds = stores.finds };
       })
       (one_decided flat.points (λ number point. HasSome (stored point.instr) (λ named. ConstantFinds classes named.0 named.1 field))
-      (λ number point. some_decided (stored point.instr) (λ named. ConstantFinds classes named.0 named.1 field) (finds_decided field)))
+      (λ number point is. some_decided (stored point.instr) (λ named. ConstantFinds classes named.0 named.1 field) (λ named there. finds_decided field named)))
 
   uses_decided : (flat : FlatCode) (field : Declared) → Decision (UsesInFlat classes flat field)
   uses_decided flat field =
@@ -215,7 +182,7 @@ module _ (classes : Classes) (links : Links) (are_links : AreLinksOf (headers_of
         holds = record { item = (uses.class, uses.index); is = is_used uses.uses; holds = uses.finds };
       })
       (one_decided flat.points (λ number point. HasSome (used point.instr) (λ named. ConstantFinds classes named.0 named.1 field))
-      (λ number point. some_decided (used point.instr) (λ named. ConstantFinds classes named.0 named.1 field) (finds_decided field)))
+      (λ number point is. some_decided (used point.instr) (λ named. ConstantFinds classes named.0 named.1 field) (λ named there. finds_decided field named)))
 
   -- ---- methods with flat code
 
@@ -242,8 +209,9 @@ module _ (classes : Classes) (links : Links) (are_links : AreLinksOf (headers_of
       })
       (one_decided classes.folder
       (λ class file. HasOne file.methods (λ method m. HasSome (flats (record { class = class; method = method })) (P (record { class = class; method = method }))))
-      (λ class file. one_decided file.methods (λ method m. HasSome (flats (record { class = class; method = method })) (P (record { class = class; method = method })))
-      (λ method m. some_decided (flats (record { class = class; method = method })) (P (record { class = class; method = method })) (each (record { class = class; method = method })))))
+      (λ class file is. one_decided file.methods (λ method m. HasSome (flats (record { class = class; method = method })) (P (record { class = class; method = method })))
+      (λ method m there. some_decided (flats (record { class = class; method = method })) (P (record { class = class; method = method }))
+      (λ flat found. each (record { class = class; method = method }) flat))))
 
   -- ---- flags of a field
 
@@ -320,7 +288,7 @@ module _ (classes : Classes) (links : Links) (are_links : AreLinksOf (headers_of
       (λ field. both (is_true (has field.member.flags FINAL))
       (flat_decided (λ at flat. SiteAbove headers field flat × StoresInFlat classes flat field)
       (λ at flat. both (one_decided flat.sites (λ number site. IsTrue (list_any (bytes_eq field.class) (chain headers site.class)))
-      (λ number site. is_true (list_any (bytes_eq field.class) (chain headers site.class)))) (stores_decided flat field)))))
+      (λ number site there. is_true (list_any (bytes_eq field.class) (chain headers site.class)))) (stores_decided flat field)))))
 
   private_decided : (class number : ℕ) → Decision (OpensPrivate classes flats class number)
   private_decided class number =
