@@ -1,0 +1,2 @@
+pub mod InstrWords
+pub mod ListingTexts

@@ -1,0 +1,5 @@
+pub mod Mnemonics
+pub mod Operations
+pub mod Lines
+pub mod Listings
+pub mod Inner
