@@ -124,8 +124,8 @@ lookup_operands at bytes =
     switch_operands at bytes ++ count_operand count ∷ listed_keys at bytes (start + 8) count
 
 -- those behind a wide, whose opcode is the second byte (6.5.wide)
-abbrev pub wide_operands : Bytes → List Operand
-wide_operands bytes =
+abbrev pub widened_operands : Bytes → List Operand
+widened_operands bytes =
     u2_operand (u2_in bytes 2)
     ∷ (if u1_in bytes 1 == IINC then s2_operand (s2_in bytes 4) ∷ [] else [])
 
@@ -149,7 +149,7 @@ listed_operands at bytes (Jump2 makes) = jump2_operand (pos at +ℤ s2_in bytes 
 listed_operands at bytes (Jump4 makes) = jump4_operand (far_target at bytes 1) ∷ []
 listed_operands at bytes TableSwitch = table_operands at bytes
 listed_operands at bytes LookupSwitch = lookup_operands at bytes
-listed_operands at bytes Wide = wide_operands bytes
+listed_operands at bytes Wide = widened_operands bytes
 
 -- ---- instructions
 
@@ -170,13 +170,14 @@ operation_bytes at (plain_operation opcode operands) =
 operation_bytes at (wide_operation opcode operands) =
     WIDE ∷ opcode ∷ flat_map (operand_bytes at) operands
 
--- that of an opcode, by what the table of instructions has behind it
-abbrev pub operation_of : ℕ → Bytes → Option Operands → Operation
-operation_of at bytes None = plain_operation (u1_in bytes 0) []
-operation_of at bytes (Some Wide) = wide_operation (u1_in bytes 1) (wide_operands bytes)
-operation_of at bytes (Some operands) =
-    plain_operation (u1_in bytes 0) (listed_operands at bytes operands)
+-- those of an opcode, by what the table of instructions has behind it
+abbrev pub operands_at : ℕ → Bytes → Option Operands → List Operand
+operands_at at bytes None = []
+operands_at at bytes (Some operands) = listed_operands at bytes operands
 
--- the instruction at an offset of a code, whose bytes from there on these are
+-- The instruction at an offset of a code, whose bytes from there on these are: the opcode behind a wide is the second of them.
 abbrev pub operation_at : ℕ → Bytes → Operation
-operation_at at bytes = operation_of at bytes (operands_in rows (u1_in bytes 0))
+operation_at at bytes =
+    let opcode = u1_in bytes 0 in
+    if opcode == WIDE then wide_operation (u1_in bytes 1) (widened_operands bytes)
+    else plain_operation opcode (operands_at at bytes (operands_in rows opcode))

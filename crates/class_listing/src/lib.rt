@@ -5,9 +5,11 @@
 mod attributes;
 mod constants;
 mod instructions;
+mod laws;
 mod listing;
 mod members;
 mod mnemonics;
 mod words;
 
+pub use laws::a_class_file_has_codes;
 pub use listing::list_class;
