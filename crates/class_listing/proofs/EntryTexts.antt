@@ -6,7 +6,9 @@ use Rattle.class_listing.specs.Inner.ListingTexts.{entries_text, entry_text}
 
 next_entry : (from at : ℕ) (pool : Constants) → at < length pool → entries_text from (take (suc at) pool) ≡ entries_text from (take at pool) ++ entry_text (at + from) (constant_at pool at)
 next_entry from at [] within = absurd (omega (arith, within))
-next_entry from zero (entry ∷ pool) within = append-nil (entry_text from entry)
+next_entry from zero (entry ∷ pool) within =
+    append-nil (entry_text from entry)
+    ∙ ap (λ (n : ℕ). entry_text n entry) {x = from} {y = zero + from} (omega arith)
 next_entry from (suc at) (entry ∷ pool) within =
     let lines = entries_text (suc from) (take at pool) in
     ap (λ (t : List ℕ). entry_text from entry ++ t) (next_entry (suc from) at pool (omega (arith, within)))

@@ -5,4 +5,6 @@ mod ShownOperands
 mod ReadInstrs
 mod WholeTexts
 mod EntryTexts
+mod PlacedTexts
+mod PushedTexts
 mod CutAttributes

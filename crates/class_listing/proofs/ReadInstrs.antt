@@ -19,8 +19,7 @@ each_read code (suc left) at (byte ∷ bytes) instrs stands is =
     let others = bind_ok (instrs_at left (at + len) (drop len (byte ∷ bytes))) _ instrs first.2 in
     let rest : drop len (byte ∷ bytes) ≡ drop (at + len) code = ap (drop len) stands ∙ drop-drop len at code in
     let own : Placed = record { at = at; len = len; instr = first.0.0 } in
-    subst (AllByRecursion (IsReadAt code)) (same_done (own ∷ others.0) instrs others.2)
-    (
+    subst (AllByRecursion (IsReadAt code)) (same_done (own ∷ others.0) instrs others.2) (
       record { read = subst (λ (b : List ℕ). instr_at at b ≡ Ok first.0) stands first.1 },
       each_read code left (at + len) (drop len (byte ∷ bytes)) others.0 rest others.1,
     )

@@ -1,5 +1,5 @@
 -- The texts of the parts are the text of all lines.
-use Rattle.std.proofs.Common.{◌≡◌, ℕ, suc, List, [], ◌∷◌, ◌++◌, map, Option, Some, None, Ok, codes, decimal, refl, ap, sym, ◌∙◌, append_assoc}
+use Rattle.std.proofs.Common.{◌≡◌, ℕ, suc, List, [], ◌∷◌, ◌++◌, map, Option, Some, None, Ok, refl, ap, sym, ◌∙◌, append_assoc}
 use Rattle.std.specs.List.{flat_map}
 use Rattle.std.proofs.lemmas.List.{append-nil}
 use Rattle.std.proofs.lemmas.List.Concat.{flat_map-append}
@@ -13,8 +13,6 @@ use Rattle.class_model.specs.declared.class_file.CodePart.{CodePart}
 use Rattle.class_model.specs.declared.class_file.Field.{Field}
 use Rattle.class_model.specs.declared.class_file.Method.{Method}
 use Rattle.class_model.specs.declared.instr.Placed.{Placed}
-use Rattle.script_text.specs.Events.{spaced}
-use Rattle.script_text.specs.Scripts.{Word}
 use Rattle.class_listing.specs.Inner.ListingTexts.{attr_text, attrs_text, class_text, code_text, entries_text, entry_text, field_text, handler_text, inner_attr_text, interface_text, method_text, part_text, placed_text, tail_text}
 use Rattle.class_listing.specs.Lines.{Line, class_line, code_line, end_line, endcode_line, field_line, interface_line, line_text, lines_text, method_line, tail_line}
 use Rattle.class_listing.specs.Listings.{attr_lines, attrs_lines, const_lines, entry_lines, field_lines, handler_line, inner_attr_line, listing, method_lines, part_lines, placed_line, placed_lines, tail_lines}
@@ -100,25 +98,21 @@ class_is class =
     let tail = tail_lines class.attrs in
     let last = end_line ∷ [] in
     sym (
-      ap (λ (t : List ℕ). head ++ t)
-      (
-        together (constants ++ interfaces ++ fields ++ methods ++ tail) last
-        ∙ rw (
-          together (constants ++ interfaces ++ fields ++ methods) tail,
-          together (constants ++ interfaces ++ fields) methods,
-          together (constants ++ interfaces) fields,
-          together constants interfaces,
-          entries_are 0 class.pool,
-          single interface_line class.interfaces,
-          each field_lines field_text field_is class.fields,
-          each method_lines method_text method_is class.methods,
-          tail_is class.attrs,
-          alone end_line,
-        ) refl
-      )
-      ∙ grouped head (entries_text 0 class.pool) (flat_map interface_text class.interfaces) (flat_map field_text class.fields) (flat_map method_text class.methods) (tail_text class.attrs) (line_text end_line)
+    ap (λ (t : List ℕ). head ++ t)
+    (
+    together (constants ++ interfaces ++ fields ++ methods ++ tail) last
+    ∙ rw (
+      together (constants ++ interfaces ++ fields ++ methods) tail,
+      together (constants ++ interfaces ++ fields) methods,
+      together (constants ++ interfaces) fields,
+      together constants interfaces,
+      entries_are 0 class.pool,
+      single interface_line class.interfaces,
+      each field_lines field_text field_is class.fields,
+      each method_lines method_text method_is class.methods,
+      tail_is class.attrs,
+      alone end_line,
+    ) refl
     )
-
--- the parts of the line of an instruction
-pub op_is : (at : ℕ) (name : Word) (words : List Word) → codes "op" ++ spaced (decimal at ∷ name ∷ words) ++ 10 ∷ [] ≡ codes "op " ++ decimal at ++ (32 ∷ name) ++ spaced words ++ 10 ∷ []
-op_is at name words = simp append_assoc
+    ∙ grouped head (entries_text 0 class.pool) (flat_map interface_text class.interfaces) (flat_map field_text class.fields) (flat_map method_text class.methods) (tail_text class.attrs) (line_text end_line)
+    )

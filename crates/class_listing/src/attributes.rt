@@ -53,12 +53,7 @@ fn push_raw(out: &mut Vec<u8>, front: &[u8], name: u16, bytes: &[u8]) -> Result<
 }
 
 /// Appends the lines of a Code attribute (JVM Specification SE 8, 4.7.3).
-fn push_code(
-    alloc: Global,
-    out: &mut Vec<u8>,
-    name: u16,
-    part: &CodePart,
-) -> Result<(), NoMemory>
+fn push_code(alloc: Global, out: &mut Vec<u8>, name: u16, part: &CodePart) -> Result<(), NoMemory>
     requires { AllHold (decoding_checks part.now.code) }
     ensures { OnOk result (out.new.items ≡ out.old.items ++ code_text name part.now) }
 {

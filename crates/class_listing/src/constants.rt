@@ -62,15 +62,31 @@ fn push_fields(out: &mut Vec<u8>, constant: &Const) -> Result<(), NoMemory>
         Const::String(text) => push_named(out, b" String ", *text),
         Const::Fieldref(class, member) => push_pair(out, b" Fieldref ", *class, *member),
         Const::Methodref(class, member) => push_pair(out, b" Methodref ", *class, *member),
-        Const::InterfaceMethodref(class, member) =>
-            push_pair(out, b" InterfaceMethodref ", *class, *member),
-        Const::NameAndType(name, descriptor) =>
-            push_pair(out, b" NameAndType ", *name, *descriptor),
-        Const::MethodHandle(kind, reference) =>
-            push_pair(out, b" MethodHandle ", u16::from(*kind), *reference),
+        Const::InterfaceMethodref(class, member) => push_pair(
+            out,
+            b" InterfaceMethodref ",
+            *class,
+            *member,
+        ),
+        Const::NameAndType(name, descriptor) => push_pair(
+            out,
+            b" NameAndType ",
+            *name,
+            *descriptor,
+        ),
+        Const::MethodHandle(kind, reference) => push_pair(
+            out,
+            b" MethodHandle ",
+            u16::from(*kind),
+            *reference,
+        ),
         Const::MethodType(descriptor) => push_named(out, b" MethodType ", *descriptor),
-        Const::InvokeDynamic(bootstrap, member) =>
-            push_pair(out, b" InvokeDynamic ", *bootstrap, *member),
+        Const::InvokeDynamic(bootstrap, member) => push_pair(
+            out,
+            b" InvokeDynamic ",
+            *bootstrap,
+            *member,
+        ),
     }
 }
 

@@ -39,7 +39,7 @@ pub(crate) fn push_instructions(
 fn push_each(out: &mut Vec<u8>, code: &[u8], instrs: &[Placed]) -> Result<(), NoMemory>
     requires { decoded code.now ≡ Ok instrs.now }
     ensures { OnOk result
-        (out.new.items ≡ out.old.items ++ flat_map (placed_text code.now) instrs.now) }
+        (out.new.items ≡ out.old.items ++ lines_text (placed_lines code.now (decoded code.now))) }
 {
     for placed in instrs {
         push_placed(out, code, placed)?;

@@ -2,7 +2,7 @@
 ghost use Rattle.std.specs.Prelude.{◌≡◌, ◌++◌, IfOk, OnOk};
 ghost use Rattle.std.specs.List.{flat_map, AllByRecursion};
 ghost use Rattle.code_bytes.specs.Codes.{HasInstrs};
-ghost use Rattle.class_listing.specs.Inner.ListingTexts.{class_text, interface_text, tail_text};
+ghost use Rattle.class_listing.specs.Inner.ListingTexts.{interface_text, tail_text};
 ghost use Rattle.class_listing.specs.Lines.{class_line, line_text};
 ghost use Rattle.class_listing.specs.Listings.{HasCodes, listing};
 
@@ -30,7 +30,7 @@ pub fn list_class(alloc: Global, class: &ClassFile) -> Result<ByteList, NoMemory
 /// Appends the listing of a class file.
 fn push_class(alloc: Global, out: &mut Vec<u8>, class: &ClassFile) -> Result<(), NoMemory>
     requires { HasCodes class.now }
-    ensures { OnOk result (out.new.items ≡ out.old.items ++ class_text class.now) }
+    ensures { OnOk result (out.new.items ≡ out.old.items ++ listing class.now) }
 {
     push_class_line(out, class)?;
     push_constants(out, &class.pool)?;
