@@ -5,7 +5,7 @@ use Rattle.std.specs.Fmt.{signed_decimal}
 use Rattle.std.specs.List.{flat_map}
 use Rattle.std.proofs.lemmas.Bool.{eqb-true}
 use Rattle.class_model.specs.Checks.{Fault, fault}
-use Rattle.class_model.specs.Instructions.{Operands, instr_at, keys_increase, lookup_switch_at, operands_in, pad_of, pairs_in, rows, s2_in, s4_in, sized, sized_if, span, table_switch_at, target_of, targets_in, u1_in, u2_in, u4_in, wide_operands, wide_rows, with_operands, Alone, U1, U2, S1, S2, U1S1, ArrayCode, Dimensions, U2U1Zero, U2ZeroZero, Jump2, Jump4, TableSwitch, LookupSwitch, Wide}
+use Rattle.class_model.specs.Instructions.{Operands, has_dimensions, instr_at, is_array_code, keys_increase, lookup_switch_at, operands_in, pad_of, pairs_in, rows, s1_in, s2_in, s4_in, sized, sized_if, span, table_switch_at, target_of, targets_in, u1_in, u2_in, u4_in, wide_operands, wide_rows, with_operands, Alone, U1, U2, S1, S2, U1S1, ArrayCode, Dimensions, U2U1Zero, U2ZeroZero, Jump2, Jump4, TableSwitch, LookupSwitch, Wide}
 use Rattle.class_model.specs.Laws.Cuts.{guard_false, same_done}
 use Rattle.class_model.specs.declared.fault.FileRule.TheVariants as rules
 use Rattle.class_model.specs.declared.instr.Instr.{Instr}
@@ -141,22 +141,23 @@ module _ (at : ℕ) (bytes : Bytes) (read : Instr × ℕ) where
 
   operands_shown : (operands : Operands) → u1_in bytes 1 < 256 → by_instr (Some operands) ≡ by_form (Some operands) → with_operands at bytes (Some operands) ≡ Ok read → IsShown at bytes (listed_operands at bytes operands) read
   operands_shown (Alone instr) small same is = subst (IsShown at bytes []) (same_done (instr, 1) read is) (in_row (Alone instr) same 0 0 (pos 0))
-  operands_shown (U1 makes) small same is = sized_shown 2 _ _ (in_row (U1 makes) same (u1_in bytes 1) 0 (pos 0)) is
-  operands_shown (U2 makes) small same is = sized_shown 3 _ _ (in_row (U2 makes) same (u2_in bytes 1) 0 (pos 0)) is
-  operands_shown (S1 makes) small same is = sized_shown 2 _ _ (in_row (S1 makes) same 0 0 _) is
-  operands_shown (S2 makes) small same is = sized_shown 3 _ _ (in_row (S2 makes) same 0 0 (s2_in bytes 1)) is
-  operands_shown (U1S1 makes) small same is = sized_shown 3 _ _ (in_row (U1S1 makes) same (u1_in bytes 1) 0 _) is
-  operands_shown ArrayCode small same is = sized_if_shown _ 2 (NewArray _) _ refl is
-  operands_shown Dimensions small same is = sized_if_shown _ 4 (NewMulti _ _) _ refl is
-  operands_shown (U2U1Zero makes) small same is = sized_if_shown _ 5 _ _ (in_row (U2U1Zero makes) same (u2_in bytes 1) (u1_in bytes 3) (pos 0)) is
-  operands_shown (U2ZeroZero makes) small same is = sized_if_shown _ 5 _ _ (in_row (U2ZeroZero makes) same (u2_in bytes 1) 0 (pos 0)) is
+  operands_shown (U1 makes) small same is = sized_shown 2 (makes (u1_in bytes 1)) (listed_operands at bytes (U1 makes)) (in_row (U1 makes) same (u1_in bytes 1) 0 (pos 0)) is
+  operands_shown (U2 makes) small same is = sized_shown 3 (makes (u2_in bytes 1)) (listed_operands at bytes (U2 makes)) (in_row (U2 makes) same (u2_in bytes 1) 0 (pos 0)) is
+  operands_shown (S1 makes) small same is = sized_shown 2 (makes (s1_in bytes 1)) (listed_operands at bytes (S1 makes)) (in_row (S1 makes) same 0 0 (s1_in bytes 1)) is
+  operands_shown (S2 makes) small same is = sized_shown 3 (makes (s2_in bytes 1)) (listed_operands at bytes (S2 makes)) (in_row (S2 makes) same 0 0 (s2_in bytes 1)) is
+  operands_shown (U1S1 makes) small same is = sized_shown 3 (makes (u1_in bytes 1) (s1_in bytes 2)) (listed_operands at bytes (U1S1 makes)) (in_row (U1S1 makes) same (u1_in bytes 1) 0 (s1_in bytes 2)) is
+  operands_shown ArrayCode small same is = sized_if_shown (is_array_code (u1_in bytes 1)) 2 (NewArray (u1_in bytes 1)) (listed_operands at bytes ArrayCode) refl is
+  operands_shown Dimensions small same is = sized_if_shown (has_dimensions (u1_in bytes 3)) 4 (NewMulti (u2_in bytes 1) (u1_in bytes 3)) (listed_operands at bytes Dimensions) refl is
+  operands_shown (U2U1Zero makes) small same is = sized_if_shown (u1_in bytes 4 == 0) 5 (makes (u2_in bytes 1) (u1_in bytes 3)) (listed_operands at bytes (U2U1Zero makes)) (in_row (U2U1Zero makes) same (u2_in bytes 1) (u1_in bytes 3) (pos 0)) is
+  operands_shown (U2ZeroZero makes) small same is = sized_if_shown (u2_in bytes 3 == 0) 5 (makes (u2_in bytes 1)) (listed_operands at bytes (U2ZeroZero makes)) (in_row (U2ZeroZero makes) same (u2_in bytes 1) 0 (pos 0)) is
   operands_shown (Jump2 makes) small same is =
       let offset = s2_in bytes 1 in
       let kept = ap (λ (to : ℤ). signed_decimal to ∷ []) (sym (target_kept at offset (s2_fits bytes 1))) in
-      sized_shown 3 _ _ (kept ∙ in_row (Jump2 makes) same (target_of at offset) 0 (pos 0)) is
+      sized_shown 3 (makes (target_of at offset)) (listed_operands at bytes (Jump2 makes)) (kept ∙ in_row (Jump2 makes) same (target_of at offset) 0 (pos 0)) is
   operands_shown (Jump4 makes) small same is =
       let kept = ap (λ (word : Word). word ∷ []) (target_shown at bytes 1) in
-      sized_shown 5 _ _ (kept ∙ in_row (Jump4 makes) same (target_of at (s4_in bytes 1)) 0 (pos 0)) is
+      let to = target_of at (s4_in bytes 1) in
+      sized_shown 5 (makes to) (listed_operands at bytes (Jump4 makes)) (kept ∙ in_row (Jump4 makes) same to 0 (pos 0)) is
   operands_shown TableSwitch small same is = table_shown is
   operands_shown LookupSwitch small same is = lookup_shown is
   operands_shown Wide small same is =

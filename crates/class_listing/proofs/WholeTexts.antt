@@ -14,7 +14,7 @@ use Rattle.class_model.specs.declared.class_file.Field.{Field}
 use Rattle.class_model.specs.declared.class_file.Method.{Method}
 use Rattle.class_model.specs.declared.instr.Placed.{Placed}
 use Rattle.class_listing.specs.Inner.ListingTexts.{attr_text, attrs_text, class_text, code_text, entries_text, entry_text, field_text, handler_text, inner_attr_text, interface_text, method_text, part_text, placed_text, tail_text}
-use Rattle.class_listing.specs.Lines.{Line, class_line, code_line, end_line, endcode_line, field_line, interface_line, line_text, lines_text, method_line, tail_line}
+use Rattle.class_listing.specs.Lines.{Line, attr_line, class_line, code_line, end_line, endcode_line, field_line, interface_line, line_text, lines_text, method_line, tail_line}
 use Rattle.class_listing.specs.Listings.{attr_lines, attrs_lines, const_lines, entry_lines, field_lines, handler_line, inner_attr_line, listing, method_lines, part_lines, placed_line, placed_lines, tail_lines}
 
 -- ---- lines
@@ -55,7 +55,7 @@ part_is part =
     ∙ ap (λ (t : List ℕ). lines_text instrs ++ flat_map handler_text part.handlers ++ t) (single inner_attr_line part.attrs))
 
 attr_is : (attr : Attr) → lines_text (attr_lines attr) ≡ attr_text attr
-attr_is (Raw name bytes) = alone _
+attr_is (Raw name bytes) = alone (attr_line name bytes)
 attr_is (Code name part) =
     let first = line_text (code_line name part.max_stack part.max_locals) in
     ap (λ (t : List ℕ). first ++ t)

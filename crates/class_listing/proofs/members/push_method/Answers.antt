@@ -13,5 +13,5 @@ returns c =
     let member = c.args.method.now in
     let line = c.push_member.new.out.items in
     on_ok_weaker c.push_attributes.result
-    (λ attrs. member_pushed c.args.out.now.items c.extend_from_slice.new.self.items line c.push_attributes.new.out.items (codes "method") (spaced (member_words member.flags member.name member.desc)) (attrs_text member.attrs) c.in_ok-extend_from_slice.ensures.items c.in_ok-push_member.ensures (attrs ∙ ap (λ (as : List Attr). line ++ attrs_text as) c.as_slice.ensures))
+    (λ attrs. member_pushed c.args.out.now.items c.extend_from_slice.new.self.items line c.push_attributes.new.out.items (codes "method") (spaced (member_words member.flags member.name member.desc)) (attrs_text member.attrs) c.in_ok-extend_from_slice.ensures.items c.in_ok-push_member.ensures (attrs ∙ ap (λ (xs : List Attr). line ++ attrs_text xs) c.as_slice.ensures))
     c.push_attributes.ensures
