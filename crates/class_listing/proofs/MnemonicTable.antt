@@ -1,5 +1,5 @@
 -- What a table of names has at an index.
-use Rattle.std.proofs.Common.{◌≡◌, ℕ, zero, suc, ◌<◌, ◌≤◌, List, [], ◌∷◌, map, length, get_or, slice_index_or, Bor, refl, ap, sym, subst, arith}
+use Rattle.std.proofs.Common.{◌≡◌, ℕ, zero, suc, ◌<◌, ◌≤◌, List, [], ◌∷◌, map, length, get_or, slice_index_or, Bor, refl, ap, subst, arith}
 
 at_map : (names : List (Bor (List ℕ))) (at : ℕ) (name : Bor (List ℕ)) → at < length names → name ≡ get_or names at name → name.now ≡ slice_index_or (map (λ (n : Bor (List ℕ)). n.now) names) at []
 at_map [] at name within is = absurd (omega (arith, within))

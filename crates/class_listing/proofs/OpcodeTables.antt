@@ -4,7 +4,7 @@ use Rattle.std.specs.Fmt.{signed_decimal}
 use Rattle.std.specs.List.{range_with_len}
 use Rattle.std.proofs.lemmas.List.FromFn.{get_or-map-range_with_len}
 use Rattle.std.specs.Prelude.{Bool, true, false, ◌==◌, ◌&&◌}
-use Rattle.class_model.specs.Instructions.{Operands, Alone, U1, U2, S1, S2, U1S1, ArrayCode, Dimensions, U2U1Zero, U2ZeroZero, Jump2, Jump4, TableSwitch, LookupSwitch, Wide, rows, wide_rows, operands_in}
+use Rattle.class_model.specs.Instructions.{Operands, Alone, U1, U2, S1, S2, U1S1, U2U1Zero, U2ZeroZero, Jump2, Jump4, rows, wide_rows, operands_in}
 use Rattle.class_model.specs.declared.opcodes.TheConstants.{IINC}
 use Rattle.script_text.specs.PrintedTexts.{Bytes}
 use Rattle.script_text.specs.Scripts.{Word}

@@ -1,5 +1,5 @@
 -- The line of an instruction, part behind part.
-use Rattle.std.proofs.Common.{◌≡◌, ◌++◌, ◌∷◌, [], ℕ, ◌<◌, List, codes, decimal, drop, take, w16, Ok, ap, subst, sym, ◌∙◌, arith, append_assoc}
+use Rattle.std.proofs.Common.{◌≡◌, ◌++◌, ◌∷◌, [], ℕ, ◌<◌, List, codes, decimal, drop, take, w16, Ok, ap, ◌∙◌, arith, append_assoc}
 use Rattle.std.specs.Int.{from_be_bytes}
 use Rattle.class_model.specs.Cutting.{IsBytes}
 use Rattle.class_model.specs.Instructions.{instr_at, u1_in}

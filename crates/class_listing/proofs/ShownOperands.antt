@@ -1,5 +1,5 @@
 -- The operands of an instruction are listed as the decoded instruction shows them.
-use Rattle.std.proofs.Common.{◌≡◌, ℕ, zero, suc, ◌+◌, ◌*◌, ◌-◌, ◌<◌, ◌≤◌, ℤ, pos, ltb, Bool, true, false, ◌&&◌, cond, List, [], ◌∷◌, ◌++◌, length, map, codes, decimal, Option, Some, None, Result, Ok, Err, refl, ap, subst, sym, ◌∙◌, arith}
+use Rattle.std.proofs.Common.{◌≡◌, ℕ, zero, suc, ◌+◌, ◌*◌, ◌-◌, ◌<◌, ℤ, pos, ltb, Bool, true, false, ◌&&◌, cond, List, [], ◌∷◌, ◌++◌, length, map, codes, decimal, Option, Some, None, Result, Ok, Err, refl, ap, subst, sym, ◌∙◌}
 use Rattle.std.specs.Prelude.{◌==◌, ◌^◌, ◌+ℤ◌, int_lt, nat_le, nat_lt}
 use Rattle.std.specs.Fmt.{signed_decimal}
 use Rattle.std.specs.List.{flat_map}
@@ -14,7 +14,7 @@ use Rattle.class_model.specs.declared.instr.Pair.{Pair}
 use Rattle.class_model.specs.declared.opcodes.TheConstants.{IINC, WIDE}
 use Rattle.script_text.specs.PrintedTexts.{Bytes}
 use Rattle.script_text.specs.Scripts.{Word}
-use Rattle.class_listing.specs.Inner.InstrWords.{instr_words, kept_target, lookup_words, pair_word, table_words, target_word}
+use Rattle.class_listing.specs.Inner.InstrWords.{instr_words, lookup_words, pair_word, table_words, target_word}
 use Rattle.class_listing.specs.Inner.ListingTexts.{name_word, pad_in}
 use Rattle.class_listing.specs.Mnemonics.{mnemonic}
 use Rattle.class_listing.specs.Operations.{Operand, far_target, hex_word, listed_keys, listed_operands, listed_targets, lookup_operands, operand_words, operands_at, operation_at, operation_words, table_operands, widened_operands}

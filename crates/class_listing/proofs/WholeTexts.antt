@@ -1,5 +1,5 @@
 -- The texts of the parts are the text of all lines.
-use Rattle.std.proofs.Common.{◌≡◌, ℕ, suc, List, [], ◌∷◌, ◌++◌, map, Option, Some, None, Ok, refl, ap, sym, ◌∙◌, append_assoc}
+use Rattle.std.proofs.Common.{◌≡◌, ℕ, suc, List, [], ◌∷◌, ◌++◌, map, Ok, refl, ap, sym, ◌∙◌, append_assoc}
 use Rattle.std.specs.List.{flat_map}
 use Rattle.std.proofs.lemmas.List.{append-nil}
 use Rattle.std.proofs.lemmas.List.Concat.{flat_map-append}
@@ -13,7 +13,7 @@ use Rattle.class_model.specs.declared.class_file.CodePart.{CodePart}
 use Rattle.class_model.specs.declared.class_file.Field.{Field}
 use Rattle.class_model.specs.declared.class_file.Method.{Method}
 use Rattle.class_model.specs.declared.instr.Placed.{Placed}
-use Rattle.class_listing.specs.Inner.ListingTexts.{attr_text, attrs_text, class_text, code_text, entries_text, entry_text, field_text, handler_text, inner_attr_text, interface_text, method_text, part_text, placed_text, tail_text}
+use Rattle.class_listing.specs.Inner.ListingTexts.{attr_text, attrs_text, class_text, entries_text, entry_text, field_text, handler_text, interface_text, method_text, part_text, placed_text, tail_text}
 use Rattle.class_listing.specs.Lines.{Line, attr_line, class_line, code_line, end_line, endcode_line, field_line, interface_line, line_text, lines_text, method_line, tail_line}
 use Rattle.class_listing.specs.Listings.{attr_lines, attrs_lines, const_lines, entry_lines, field_lines, handler_line, inner_attr_line, listing, method_lines, part_lines, placed_line, placed_lines, tail_lines}
 

@@ -1,5 +1,5 @@
 -- The operands of an instruction as a program has them: the instruction that was decoded, its length and the pad bytes of a switch.
-use Rattle.std.specs.Prelude.{◌==◌, ◌-◌, ◌+◌, ◌%◌, ◌^◌, ℕ, ℤ, pos, ◌+ℤ◌, List, [], ◌∷◌, ◌++◌, length, map, codes, decimal, if◌then◌else◌}
+use Rattle.std.specs.Prelude.{◌==◌, ◌-◌, ℕ, ℤ, pos, ◌+ℤ◌, List, [], ◌∷◌, ◌++◌, length, map, codes, decimal, if◌then◌else◌}
 use Rattle.std.specs.Fmt.{signed_decimal}
 use Rattle.std.specs.Int.{w32, cast_signed}
 use Rattle.class_model.specs.declared.instr.Imm.{Imm}

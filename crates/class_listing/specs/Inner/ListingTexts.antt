@@ -1,5 +1,5 @@
 -- The listing as a program writes it: part by part.
-use Rattle.std.specs.Prelude.{◌==◌, ℕ, suc, List, [], ◌∷◌, ◌++◌, codes, drop, take, Option, None, Some, if◌then◌else◌}
+use Rattle.std.specs.Prelude.{◌==◌, ℕ, suc, List, [], ◌∷◌, ◌++◌, codes, drop, take, Option, if◌then◌else◌}
 use Rattle.std.specs.List.{flat_map}
 use Rattle.class_model.specs.Instructions.{pad_of, u1_in}
 use Rattle.class_model.specs.Pool.{Constants}
@@ -14,18 +14,13 @@ use Rattle.class_model.specs.declared.class_file.Method.{Method}
 use Rattle.class_model.specs.declared.instr.Placed.{Placed}
 use Rattle.class_model.specs.declared.opcodes.TheConstants.{WIDE}
 use Rattle.class_model.specs.declared.pool.Const.{Const}
-use Rattle.code_bytes.specs.Decoding.{decoding_checks}
 use Rattle.script_text.specs.Characters.{line_feed}
 use Rattle.script_text.specs.Events.{spaced}
 use Rattle.script_text.specs.PrintedTexts.{Bytes}
 use Rattle.script_text.specs.Scripts.{Word}
-use Rattle.class_listing.specs.Inner.InstrWords.{instr_words}
-use Rattle.class_listing.specs.Lines.{class_line, const_line, interface_line, attr_line, code_line, endcode_line, tail_line, end_line, line_text, lines_text, member_words}
+use Rattle.class_listing.specs.Lines.{class_line, interface_line, attr_line, code_line, endcode_line, tail_line, end_line, line_text, lines_text, member_words}
 use Rattle.class_listing.specs.Listings.{entry_lines, handler_line, inner_attr_line, placed_lines, placed_line}
 use Rattle.class_listing.specs.Mnemonics.{mnemonic}
-use Rattle.class_listing.specs.Operations.{operation_at}
-use Rattle.std.specs.Prelude.{Result}
-use Rattle.class_model.specs.Checks.{Fault}
 use Rattle.class_model.specs.Instructions.{decoded}
 
 -- ---- constants and interfaces
