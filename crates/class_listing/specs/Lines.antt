@@ -37,10 +37,11 @@ pub data Line : Type 0 where
   tail_line : Line
   end_line : Line
 
--- a name and the words behind it
+-- access flags by their two bytes
 abbrev pub flags_word : ℕ → Word
 flags_word flags = codes "flags=" ++ hex_digits (u2 flags)
 
+-- what is listed of a field or a method
 abbrev pub member_words : ℕ → ℕ → ℕ → List Word
 member_words flags name desc =
     flags_word flags ∷ (codes "name=" ++ decimal name) ∷ (codes "desc=" ++ decimal desc) ∷ []
