@@ -22,11 +22,11 @@ use Rattle.same_runs.specs.Flats.{Flats, flat_body, flat_code, flat_point, flat_
 use Rattle.same_runs.specs.ReadyCode.{IsReadyCode}
 use Rattle.typed_flats.proofs.FlatMethods.{IsScopeAt, entry_is, method_there, own_class, own_name, program_headers, scope_is_at}
 use Rattle.typed_flats.proofs.FlatPoints.{flat_point_typed, goes_leads}
-use Rattle.typed_flats.proofs.MovedLinks.{AlikeLaws}
+use Rattle.typed_flats.proofs.GrownLaws.{GrownLaws}
 use Rattle.typed_flats.proofs.MovedPoints.{replaced_typed}
 use Rattle.typed_flats.proofs.Numbered.{from_zero}
 use Rattle.typed_flats.specs.FlatTypings.{AreReady, SitesAreNews, flat_typing, flat_typings}
-use Rattle.typed_flats.specs.TypedReplacements.{KeepsRows, TypesCodes, all_typed_in}
+use Rattle.typed_flats.specs.TypedReplacements.{TypesCodes, all_typed_in}
 use Rattle.typed_runs.specs.FolderTypings.{HasFlatTypings}
 use Rattle.typed_runs.specs.LinkedInstrs.{LinksInstrs}
 use Rattle.typed_runs.specs.TypedPoints.{LeadsTo, TypedPoint}
@@ -107,10 +107,10 @@ module _ (classes : Classes) (links : Links) (tree : IsTree classes) (instrs : L
           (subst (λ (c : Code). IsTypedMethod (program_of classes links) at (method_member s.class.pool s.method) c (flat_typing classes s flat))
           (sym same) own))
 
-    pub flat_program_typed : KeepsRows (program_of classes links) r → AlikeLaws
+    pub flat_program_typed : GrownLaws
         → IsTypedProgram (replaced (program_of classes links) r) (all_typed_in (replaced (program_of classes links) r) (flat_typings classes flats typings))
-    flat_program_typed keeps laws =
-        replaced_typed typed r replaces.none_added laws keeps (flat_typings classes flats typings) codes_typed
+    flat_program_typed laws =
+        replaced_typed typed r replaces.none_added laws (flat_typings classes flats typings) codes_typed
 
 -- the frames of the methods that run flat codes
 pub flat_frames : (classes : Classes) (links : Links) (typings : Typings) (flats : Flats) (r : Replacement) → AreReady classes flats

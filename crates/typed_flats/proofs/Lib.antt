@@ -1,8 +1,10 @@
 mod Numbered
 mod ReplacedClasses
+mod GrownLaws
+mod GrownScopes
 mod MovedLinks
 mod MovedClasses
-mod MovedTypes
+mod MovedOps
 mod MovedPoints
 mod FlatMethods
 mod FlatPoints

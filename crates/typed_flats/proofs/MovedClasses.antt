@@ -18,7 +18,8 @@ use Rattle.member_link.specs.Machine.Replaced.{Replacement, field_cleared, map_n
 use Rattle.member_link.specs.References.{IsNamedThere, element_class}
 use Rattle.same_runs.specs.Laws.Programs.{SameNamed, named_both, same_field_desc, same_header, same_interface, same_number}
 use Rattle.same_runs.specs.Laws.ReplacedPrograms.{members_same, static_stays}
-use Rattle.typed_flats.proofs.MovedLinks.{AlikeLaws, same_shapes}
+use Rattle.typed_flats.proofs.GrownLaws.{GrownLaws}
+use Rattle.typed_flats.proofs.MovedLinks.{same_shapes}
 use Rattle.typed_flats.proofs.Numbered.{methods_are, replaced_at}
 use Rattle.typed_flats.proofs.ReplacedClasses.{class_in, same_program}
 use Rattle.typed_runs.specs.TypedPoints.{IsOfLibrary}
@@ -28,7 +29,7 @@ pub if_weaker : {A : Type 0} {F G : A → Type 0} (found : Option A) → ((a : A
 if_weaker None each is = tt
 if_weaker (Some a) each is = each a is
 
-module _ {P : Program} {T : Typings} (typed : IsTypedProgram P T) (r : Replacement) (none : (class : ℕ) → r.added class ≡ []) (laws : AlikeLaws) where
+module _ {P : Program} {T : Typings} (typed : IsTypedProgram P T) (r : Replacement) (none : (class : ℕ) → r.added class ≡ []) (laws : GrownLaws) where
   -- ---- names
 
   pub moved_there : (name : Name) → IsThere (headers_in P) name → IsThere (headers_in (replaced P r)) name

@@ -17,16 +17,17 @@ use Rattle.member_link.specs.Rows.Row.{row_frame}
 use Rattle.same_runs.specs.Laws.Programs.{same_name}
 use Rattle.same_runs.specs.Laws.ReplacedPrograms.{body_member}
 use Rattle.typed_flats.proofs.MovedClasses.{if_weaker, moved_base, moved_classes}
-use Rattle.typed_flats.proofs.MovedLinks.{AlikeLaws, moved_hierarchy, moved_links}
-use Rattle.typed_flats.proofs.MovedTypes.{moved_call, moved_frame, moved_op, same_op}
+use Rattle.typed_flats.proofs.GrownLaws.{GrownLaws}
+use Rattle.typed_flats.proofs.GrownScopes.{scope_grown, scope_in}
+use Rattle.typed_flats.proofs.MovedLinks.{moved_frame, moved_hierarchy, moved_links}
+use Rattle.typed_flats.proofs.MovedOps.{moved_call, moved_op, same_op}
 use Rattle.typed_flats.proofs.Numbered.{replaced_run}
 use Rattle.typed_flats.proofs.ReplacedClasses.{same_program}
-use Rattle.typed_flats.specs.TypedReplacements.{KeepsRows, TypesCodes, all_typed_in, scope_in, typed_in}
+use Rattle.typed_flats.specs.TypedReplacements.{TypesCodes, all_typed_in, typed_in}
 use Rattle.typed_runs.specs.TypedPoints.{LeadsTo, LeadsToHandler, TypedPoint, Typing, row_at}
 use Rattle.typed_runs.specs.TypedPrograms.{IsTypedMethod, IsTypedProgram, Typings, entry}
 
-module _ {P : Program} {T : Typings} (typed : IsTypedProgram P T) (r : Replacement) (none : (class : ℕ) → r.added class ≡ []) (laws : AlikeLaws)
-    (keeps : KeepsRows P r) where
+module _ {P : Program} {T : Typings} (typed : IsTypedProgram P T) (r : Replacement) (none : (class : ℕ) → r.added class ≡ []) (laws : GrownLaws) where
   -- ---- a code
 
   module _ (t : Typing) (are : t.scope.headers ≡ headers_in P) where
@@ -41,7 +42,8 @@ module _ {P : Program} {T : Typings} (typed : IsTypedProgram P T) (r : Replaceme
         → TypedPoint (replaced P r) (typed_in (replaced P r) t) number point
     moved_point number point p =
         let headers : p.scope.headers ≡ headers_in P = p.reads.headers ∙ are in
-        let behind = keeps.leaves p.scope p.frame p.place p.item p.reading headers in
+        let grown = scope_grown P r (laws.grown P r none) p.scope headers in
+        let behind = laws.left p.scope (scope_in P r p.scope) p.frame p.place p.item p.reading grown in
         record {
           frame = p.frame;
           is_frame = p.is_frame;
@@ -53,7 +55,7 @@ module _ {P : Program} {T : Typings} (typed : IsTypedProgram P T) (r : Replaceme
           reads = record { headers = refl; news = p.reads.news; own = p.reads.own };
           reading = p.reading;
           read = p.read;
-          row = keeps.holds p.scope p.frame p.place p.item p.reading headers p.row;
+          row = laws.rows p.scope (scope_in P r p.scope) p.frame p.place p.item p.reading grown p.row;
           linked = moved_op typed r none laws t.scope p.place point.op p.linked;
           call = moved_call typed r none laws p.scope point.op p.call;
           next =

@@ -1,4 +1,4 @@
--- The classes of a program with other codes and cleared flags are alike those of the program, and found as they were.
+-- The classes of a program with other codes and cleared flags by their names; and that it is the same program but for these.
 use Rattle.std.proofs.Common.{◌≡◌, ◌+◌, ℕ, zero, suc, Bool, true, false, List, [], ◌∷◌, ◌++◌, map, bytes_eq, Option, Some, None, option_map, if◌then◌else◌, refl, sym, ap, subst, ◌∙◌, arith}
 use Rattle.std.specs.List.{AllByRecursion}
 use Rattle.std.proofs.lemmas.List.{append-nil}
@@ -7,7 +7,6 @@ use Rattle.class_model.specs.Descriptors.{type_of}
 use Rattle.class_model.specs.declared.descriptor.Kind.TheVariants as kinds
 use Rattle.class_model.specs.declared.header.Header.{Header}
 use Rattle.class_model.specs.declared.header.Member.{Member}
-use Rattle.class_tree.specs.Alike.{IsAlike, AreAllAlike, AreAlike, AreFieldsAlike}
 use Rattle.class_tree.specs.Headers.{Name, class_named, named}
 use Rattle.member_link.specs.Machine.Programs.{Program, RunClass, RunMethod, folder_number, headers_in, number_of_first, start_string, start_value, StartValue, StaticStart}
 use Rattle.member_link.specs.Machine.Worlds.{field_desc}
@@ -19,59 +18,16 @@ use Rattle.class_model.specs.Laws.Lists.{AllByRecursion-weaker}
 use Rattle.same_runs.specs.Laws.NoInitLinks.{links_no_init}
 use Rattle.same_runs.specs.Laws.ReplacedPrograms.{ReplacesAlike, replaced_same}
 use Rattle.same_runs.specs.SamePrograms.{IsAdded, IsNoReference, IsPlainStart, SamePrograms}
-use Rattle.typed_flats.specs.TypedReplacements.{fields_in}
 use Rattle.typed_runs.specs.TypedPrograms.{FitsStart, IsTypedProgram, IsTypedStart, Typings}
 
--- ---- headers alike
+-- ---- a class by its name
 
-itself_fields : (fields : List Member) → AreFieldsAlike fields fields
-itself_fields [] = tt
-itself_fields (field ∷ fields) = (record { same_name = refl; same_desc = refl }, itself_fields fields)
-
-itself_alike : (header : Header) → IsAlike header header
-itself_alike header = record {
-  same_name = refl;
-  same_flags = refl;
-  same_super = refl;
-  same_interfaces = refl;
-  fields = itself_fields header.fields;
-  added = [];
-  methods = sym (append-nil header.methods);
-  initialisers = tt;
-}
-
-all_themselves : (headers : List Header) → AreAllAlike headers headers
-all_themselves [] = tt
-all_themselves (header ∷ headers) = (itself_alike header, all_themselves headers)
-
-cleared_alike : (r : Replacement) (class number : ℕ) (fields : List Member) → AreFieldsAlike fields (map_numbered (field_cleared r class) number fields)
-cleared_alike r class number [] = tt
-cleared_alike r class number (field ∷ fields) = (record { same_name = refl; same_desc = refl }, cleared_alike r class (suc number) fields)
+-- the fields of a class of the folder, by its number counted from one, less the flags that are cleared; those of another class are as they were
+abbrev pub fields_in : Replacement → ℕ → Option ℕ → List Member → List Member
+fields_in r from None fields = fields
+fields_in r from (Some number) fields = map_numbered (field_cleared r (from + number)) zero fields
 
 module _ (r : Replacement) (none : (class : ℕ) → r.added class ≡ []) where
-  class_alike : (number : ℕ) (class : RunClass) → IsAlike class.header (replaced_class r number class).header
-  class_alike number class = record {
-    same_name = refl;
-    same_flags = refl;
-    same_super = refl;
-    same_interfaces = refl;
-    fields = cleared_alike r number zero class.header.fields;
-    added = [];
-    methods = ap (λ (more : List RunMethod). class.header.methods ++ map (λ (method : RunMethod). method.member) more) (none number);
-    initialisers = tt;
-  }
-
-  classes_alike : (number : ℕ) (classes : List RunClass)
-      → AreAllAlike (map (λ (class : RunClass). class.header) classes)
-      (map (λ (class : RunClass). class.header) (map_numbered (replaced_class r) number classes))
-  classes_alike number [] = tt
-  classes_alike number (class ∷ classes) = (class_alike number class, classes_alike (suc number) classes)
-
-  pub headers_alike : (P : Program) → AreAlike (headers_in P) (headers_in (replaced P r))
-  headers_alike P = record { folder = classes_alike zero P.classes; library = all_themselves P.library }
-
-  -- ---- a class by its name
-
   cleared_header : (number : ℕ) (class : RunClass) (own : Header) → class.header ≡ own
       → (replaced_class r number class).header ≡ record own { fields = fields_in r number (Some zero) own.fields }
   cleared_header number class own is =

@@ -1,16 +1,8 @@
--- How a program is typed in which some methods run other code and flags of some fields are cleared: what its rows read.
-use Rattle.std.specs.Prelude.{◌≡◌, ◌+◌, ℕ, zero, List, Option, Some, None}
+-- How a program is typed in which some methods run other code and flags of some fields are cleared.
+use Rattle.std.specs.Prelude.{◌≡◌, Some}
 use Rattle.class_model.specs.declared.class_file.MethodAt.{MethodAt}
-use Rattle.class_model.specs.declared.frame.Frame.{Frame}
-use Rattle.class_model.specs.declared.header.Header.{Header}
-use Rattle.class_model.specs.declared.header.Member.{Member}
-use Rattle.member_link.specs.Bodies.{CodeItem, item_row}
-use Rattle.member_link.specs.BodyTyping.{RowHolds}
-use Rattle.member_link.specs.Machine.Programs.{Code, Program, RunMethod, code_run, folder_number, headers_in, run_method}
-use Rattle.member_link.specs.Machine.Replaced.{Replacement, field_cleared, map_numbered, replaced, with_body}
-use Rattle.member_link.specs.RowScope.{RowScope}
-use Rattle.member_link.specs.Rows.Readings.{Reading, row_by}
-use Rattle.member_link.specs.Rows.Row.{row_frame}
+use Rattle.member_link.specs.Machine.Programs.{Code, Program, RunMethod, code_run, headers_in, run_method}
+use Rattle.member_link.specs.Machine.Replaced.{Replacement, with_body}
 use Rattle.typed_runs.specs.TypedPoints.{Typing}
 use Rattle.typed_runs.specs.TypedPrograms.{IsTypedMethod, Typings}
 
@@ -29,33 +21,3 @@ pub record TypesCodes (P : Program) (r : Replacement) (typings : Typings) : Type
       → run_method P at ≡ Some method
       → code_run (with_body method (r.body at)) ≡ Some code
       → IsTypedMethod P at method.member code (typings at)
-
--- ---- what rows read
-
--- the fields of a class of the folder, by its number counted from one, less the flags that are cleared; those of another class are as they were
-abbrev pub fields_in : Replacement → ℕ → Option ℕ → List Member → List Member
-fields_in r from None fields = fields
-fields_in r from (Some number) fields =
-    map_numbered (field_cleared r (from + number)) zero fields
-
--- a class of a program where flags are cleared
-abbrev pub header_in : Program → Replacement → Header → Header
-header_in P r header =
-    record header { fields = fields_in r 0 (folder_number P header.name) header.fields }
-
--- what a row reads there
-abbrev pub scope_in : Program → Replacement → RowScope → RowScope
-scope_in P r s =
-    record s { headers = headers_in (replaced P r); own = header_in P r s.own }
-
--- A row, however it is read, holds there where it held in the program, and leaves what it left. Access is not asked.
-pub record KeepsRows (P : Program) (r : Replacement) : Type 0 where
-  pub holds : (s : RowScope) (frame : Frame) (place : ℕ) (item : CodeItem) (reading : Reading)
-      → s.headers ≡ headers_in P
-      → RowHolds s frame (row_by reading frame (item_row s frame place item))
-      → RowHolds (scope_in P r s) frame
-      (row_by reading frame (item_row (scope_in P r s) frame place item))
-  pub leaves : (s : RowScope) (frame : Frame) (place : ℕ) (item : CodeItem) (reading : Reading)
-      → s.headers ≡ headers_in P
-      → row_frame frame (row_by reading frame (item_row (scope_in P r s) frame place item))
-      ≡ row_frame frame (row_by reading frame (item_row s frame place item))

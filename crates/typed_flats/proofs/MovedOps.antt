@@ -1,7 +1,5 @@
--- Assignability and operations among classes whose flags are cleared.
-use Rattle.std.proofs.Common.{◌≡◌, ◌==◌, ℕ, List, [], ◌∷◌, Option, Some, None, option_map, if◌then◌else◌, refl, ap}
-use Rattle.class_model.specs.declared.frame.Frame.{Frame}
-use Rattle.class_model.specs.declared.frame.VType.{VType}
+-- Operations among classes whose flags are cleared.
+use Rattle.std.proofs.Common.{◌≡◌, ◌==◌, ℕ, [], Option, Some, None, option_map, if◌then◌else◌, refl, ap}
 use Rattle.class_model.specs.declared.header.Header.{Header}
 use Rattle.class_model.specs.declared.instr.Instr.TheVariants as instrs
 use Rattle.class_model.specs.declared.opcodes.TheConstants.{INVOKEINTERFACE, INVOKESPECIAL, INVOKESTATIC, INVOKEVIRTUAL}
@@ -10,8 +8,7 @@ use Rattle.class_model.specs.PoolChecks.{descriptor_at, name_at}
 use Rattle.class_model.specs.declared.pool.Const.{Const}
 use Rattle.class_model.specs.declared.pool.Const.TheVariants as consts
 use Rattle.class_tree.specs.Headers.{Name, class_named}
-use Rattle.class_tree.specs.Laws.Alike.{below_alike, no_twin}
-use Rattle.member_link.specs.Assignability.{IsAssignable, IsNameAssignable, from_array, from_null, of_components, of_names, to_class_above, to_interface, to_itself, to_same, to_top}
+use Rattle.class_tree.specs.Laws.Alike.{no_twin}
 use Rattle.member_link.specs.Bodies.{CodeItem, item_instr}
 use Rattle.member_link.specs.Laws.TranslatedOps.{dynamic_of}
 use Rattle.member_link.specs.Machine.Codes.{call_op, dynamic_op, item_op, or_meaningless, special_start}
@@ -20,48 +17,18 @@ use Rattle.member_link.specs.Machine.Programs.{Links, Program, headers_in}
 use Rattle.member_link.specs.Machine.Replaced.{Replacement, replaced}
 use Rattle.member_link.specs.References.{Reference}
 use Rattle.member_link.specs.RowScope.{RowScope}
-use Rattle.member_link.specs.Rows.FrameAssignability.{AreAssignable, IsFrameAssignable}
 use Rattle.member_link.specs.Forms.{IsInstanceForm, IsStaticForm}
 use Rattle.member_link.specs.Signatures.{reference_of}
 use Rattle.typed_flats.proofs.MovedClasses.{moved_instantiable, moved_library, moved_named}
-use Rattle.typed_flats.proofs.MovedLinks.{AlikeLaws, moved_instance_field, moved_method, moved_static_field, same_shapes}
+use Rattle.typed_flats.proofs.GrownLaws.{GrownLaws}
+use Rattle.typed_flats.proofs.GrownScopes.{scope_in}
+use Rattle.typed_flats.proofs.MovedLinks.{moved_instance_field, moved_method, moved_static_field, same_shapes}
 use Rattle.typed_flats.proofs.ReplacedClasses.{class_in}
-use Rattle.typed_flats.specs.TypedReplacements.{scope_in}
 use Rattle.typed_runs.specs.LinkedCalls.{IsLinkedCall}
 use Rattle.typed_runs.specs.TypedPoints.{IsLinkedOp}
 use Rattle.typed_runs.specs.TypedPrograms.{IsTypedProgram, Typings}
 
-module _ {P : Program} {T : Typings} (typed : IsTypedProgram P T) (r : Replacement) (none : (class : ℕ) → r.added class ≡ []) (laws : AlikeLaws) where
-  -- ---- assignability
-
-  moved_name : {low high : Name} → IsNameAssignable (headers_in P) low high → IsNameAssignable (headers_in (replaced P r)) low high
-  moved_name (to_itself name) = to_itself name
-  moved_name (to_interface low high header flat found is) = to_interface low high _ flat (class_in r none P high header found) is
-  moved_name (to_class_above low high above) =
-      to_class_above low high (below_alike (headers_in P) (headers_in (replaced P r)) (same_shapes typed r none laws) above)
-  moved_name (from_array low high is above) = from_array low high is above
-  moved_name (of_components low high low_component high_component is also assignable) =
-      of_components low high low_component high_component is also (moved_name assignable)
-
-  pub moved_type : {low high : VType} → IsAssignable (headers_in P) low high → IsAssignable (headers_in (replaced P r)) low high
-  moved_type (to_same type) = to_same type
-  moved_type (to_top type) = to_top type
-  moved_type (from_null name) = from_null name
-  moved_type (of_names low high assignable) = of_names low high (moved_name assignable)
-
-  moved_types : (lows highs : List VType) → AreAssignable (headers_in P) lows highs → AreAssignable (headers_in (replaced P r)) lows highs
-  moved_types [] [] are = tt
-  moved_types [] (high ∷ highs) are = absurd are
-  moved_types (low ∷ lows) [] are = absurd are
-  moved_types (low ∷ lows) (high ∷ highs) are = (moved_type are.0, moved_types lows highs are.1)
-
-  pub moved_frame : (from to : Frame) → IsFrameAssignable (headers_in P) from to → IsFrameAssignable (headers_in (replaced P r)) from to
-  moved_frame from to is = record {
-    locals = moved_types from.locals to.locals is.locals;
-    stack = moved_types from.stack to.stack is.stack;
-    keeps_this = is.keeps_this;
-  }
-
+module _ {P : Program} {T : Typings} (typed : IsTypedProgram P T) (r : Replacement) (none : (class : ℕ) → r.added class ≡ []) (laws : GrownLaws) where
   -- ---- operations
 
   module _ (s : RowScope) (are : s.headers ≡ headers_in P) where
