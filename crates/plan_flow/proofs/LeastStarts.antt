@@ -11,8 +11,9 @@ use Rattle.flow_code.specs.FlatCode.{FlatCode, point_at}
 use Rattle.flow_code.specs.declared.point.Point.{Point}
 use Rattle.member_link.specs.Machine.Links.{AreLinksOf}
 use Rattle.member_link.specs.Machine.Programs.{Links}
-use Rattle.plan_flow.specs.Inner.Planning.{made_edge, made_edges, IsPlanOf}
+use Rattle.plan_flow.specs.Inner.Planning.{made_edges, IsPlanOf}
 use Rattle.plan_flow.specs.Inner.Reaching.{Reached, reached_in, IsUnder, IsReaching, AreReaching, HasListed}
+use Rattle.plan_flow.specs.Inner.Sharing.{AreTargets, plans_of, targets_in}
 use Rattle.plan_flow.specs.PlanScope.{PlanScope, scope_of, local_types, stack_types}
 use Rattle.plan_flow.specs.Plans.{FlowsInside, IsLeast, MadeEdge, Plan, PlannedPoint, planned, state_without_sites}
 use Rattle.plan_flow.specs.declared.edge.Edge.{Edge}
@@ -27,7 +28,8 @@ use Rattle.plan_flow.proofs.MustLaws.{same_sites}
 use Rattle.plan_flow.proofs.Pruning.{state_of_is_one}
 use Rattle.plan_flow.proofs.PointLists.{put_is, none_reached, appended_before, appended_here}
 use Rattle.plan_flow.proofs.Settled.{path_from_none}
-use Rattle.plan_flow.proofs.Visiting.{reaching_more, IsLeftIn, AreEffectIn, edges_of_point}
+use Rattle.plan_flow.proofs.SharedPlans.{all_planned_edges}
+use Rattle.plan_flow.proofs.Visiting.{reaching_more, IsLeftIn, AreSharedIn}
 
 -- ---- a state with no site
 
@@ -138,59 +140,40 @@ differing_is state other sites is order same =
     same_sites sites (differing state other) order
     (filter_order (λ site. not (is_present other.objects site)) (sites_of state.objects) is.order) same
 
--- ---- the plans of edges
-
-took_edges :
-    (states : Reached) (edges : List Edge) (number : ℕ) (edge : Edge)
-    → slice_get edges number ≡ Some edge
-    → made_edges states (take number edges) ++ made_edge states edge ∷ [] ≡ made_edges states (take (suc number) edges)
-took_edges states [] number edge is = absurd (none-some edge is)
-took_edges states (first ∷ edges) zero edge is = ap (λ (one : Edge). made_edge states one ∷ []) (sym (same_Some first edge is))
-took_edges states (first ∷ edges) (suc number) edge is =
-    ap (λ (rest : List MadeEdge). made_edge states first ∷ rest) (took_edges states edges number edge is)
-
-pub made_more :
-    (states : Reached) (edges : List Edge) (number : ℕ) (plans more : List MadeEdge) (edge : Edge) (made : MadeEdge)
-    → plans ≡ made_edges states (take number edges)
-    → slice_get edges number ≡ Some edge
-    → made ≡ made_edge states edge
-    → more ≡ plans ++ made ∷ []
-    → more ≡ made_edges states (take (number + 1) edges)
-made_more states edges number plans more edge made done is is_made is_more =
-    let next : suc number ≡ number + 1 = omega arith in
-    is_more ∙ (λ i. done i ++ is_made i ∷ []) ∙ took_edges states edges number edge is
-    ∙ ap (λ (count : ℕ). made_edges states (take count edges)) next
-
 -- ---- the plans of points
 
 abbrev planned_of : State → List ℕ → List MadeEdge → PlannedPoint
 planned_of state made edges = record { state = state; made = made; edges = edges }
 
 pub point_planned :
-    (classes : Classes) (flat : FlatCode) (states : List (Option State)) (at : ℕ) (state left : State) (edges : List Edge) (copy : State)
-    (made : List ℕ) (plans : List MadeEdge) (links : Links)
+    (classes : Classes) (flat : FlatCode) (table : List (List ℕ)) (states : List (Option State)) (at : ℕ) (state left : State)
+    (edges : List Edge) (copy : State) (made : List ℕ) (plans : List MadeEdge) (links : Links)
     → AreLinksOf (headers_of classes) links
+    → AreTargets flat table
     → AreReaching classes flat states []
     → reached_in states at ≡ Some state
     → IsState left
     → IsLeftIn classes flat at state left
-    → AreEffectIn classes flat at left edges
+    → AreSharedIn classes flat at left (targets_in table at) edges
     → copy ≡ state
     → made ≡ differing state left
-    → plans ≡ made_edges (reached_in states) edges
+    → ((point : Point) → point_at flat at ≡ Some point → plans ≡ plans_of (reached_in states) point.handlers edges)
     → IsPlanOf (scope_of classes links flat) (reached_in states) at (Some (record { state = copy; made = made; edges = plans }))
-point_planned classes flat states at state left edges copy made plans links are reaching found left_state is_left effect =
+point_planned classes flat table states at state left edges copy made plans links are is_table reaching found left_state is_left effect =
     λ same_copy same_made same_plans.
     let s = scope_of classes links flat in
     let under = (reaching links are).under in
     let point = point_there flat.points at (under.inside at state found) in
-    let planned_point = planned_of state (differing state left) (made_edges (reached_in states) edges) in
+    let all = all_planned_edges s point.0 at left (reached_in states) (targets_in table at) edges (is_table.each at point.0 point.1)
+    (effect links point.0 are point.1) in
+    let plans_are : plans ≡ made_edges (reached_in states) all.full = same_plans point.0 point.1 ∙ all.same in
+    let planned_point = planned_of state (differing state left) (made_edges (reached_in states) all.full) in
     let planned = some_planned s (reached_in states) at planned_point
-    (from_left s (reached_in states) at point.0 state left edges (under.at at state found).is_state left_state point.1 found
+    (from_left s (reached_in states) at point.0 state left all.full (under.at at state found).is_state left_state point.1 found
     (is_left links point.0 are point.1)
-    (edges_of_point classes flat at left edges links point.0 are effect point.1)) in
+    all.are) in
     subst (λ (one : PlannedPoint). IsPlanOf s (reached_in states) at (Some one))
-    (λ i. planned_of (sym same_copy i) (sym same_made i) (sym same_plans i)) planned
+    (λ i. planned_of (sym same_copy i) (sym same_made i) (sym plans_are i)) planned
 
 abbrev pub final_of : (s : PlanScope) (states : List (Option State)) → IsReaching s states [] → Final s
 final_of s states is = record { states = reached_in states; under = is.under; lead = λ at inside. is.lead at refl }

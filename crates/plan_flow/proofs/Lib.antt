@@ -29,6 +29,12 @@ pub mod TopEntries
 pub mod Gathering
 pub mod LocalUnits
 pub mod AskedSites
+pub mod Sharing
+pub mod SharedPlans
+pub mod ThrownStacks
+pub mod OwnPlans
+pub mod PlanEdges
+pub mod TargetLists
 pub mod Rounds
 pub mod Cleaning
 pub mod DoneEdges

@@ -1,5 +1,5 @@
 -- Edges that are taken one after the other.
-use Rattle.std.proofs.Common.{◌≡◌, ◌+◌, ◌<◌, ℕ, zero, suc, Bool, true, false, cond, List, [], ◌∷◌, ◌++◌, map, drop, length, slice_get, Some, None, refl, sym, ap, subst, ◌∙◌, append_assoc, arith}
+use Rattle.std.proofs.Common.{◌≡◌, ◌+◌, ◌<◌, ℕ, zero, suc, Bool, true, false, cond, List, [], ◌∷◌, ◌++◌, map, drop, length, slice_get, Option, Some, None, refl, sym, ap, subst, ◌∙◌, append_assoc, arith}
 use Rattle.std.specs.List.{filter}
 use Rattle.std.proofs.lemmas.List.{append-nil, map-append}
 use Rattle.std.proofs.lemmas.List.Elements.{filter-append}
@@ -8,9 +8,10 @@ use Rattle.flow_code.specs.declared.point.FlatInstr.{FlatInstr}
 use Rattle.flow_code.specs.declared.point.Point.{Point}
 use Rattle.plan_flow.specs.Inner.EdgeViews.{IsOpened, row_edge}
 use Rattle.plan_flow.specs.Inner.RowViews.{guard_of}
+use Rattle.plan_flow.specs.Inner.Sharing.{caught_edges, edges_by, target_edges}
 use Rattle.plan_flow.specs.PlanRows.{Guard, PlanRow, RowEdge}
 use Rattle.plan_flow.specs.PlanSlots.{is_open}
-use Rattle.plan_flow.specs.PlanTable.{edges_of, falls_on, handler_edges, jump_edges, next_edges, targets_at, thrown_edges}
+use Rattle.plan_flow.specs.PlanTable.{falls_on, handler_edges, jump_edges, next_edges, targets_at}
 use Rattle.plan_flow.specs.declared.edge.EdgeKind.TheVariants as kinds
 use Rattle.plan_flow.specs.declared.edges.GuardedEdge.{GuardedEdge}
 use Rattle.plan_flow.specs.declared.rows.Guard.{Guard as CodeGuard}
@@ -45,17 +46,17 @@ opened_not state before edge is = record {
 }
 
 pub opened_all :
-    {first second third last : List GuardedEdge} (state : State) (at : ℕ) (point : Point) (row : PlanRow) (instr : FlatInstr) (handlers : List FlatHandler)
+    {first second third last : List GuardedEdge} (shared : Option (List ℕ)) (state : State) (at : ℕ) (point : Point) (row : PlanRow) (instr : FlatInstr) (handlers : List FlatHandler)
     → point.instr ≡ instr
     → point.handlers ≡ handlers
     → IsOpened state first second (next_edges at row (falls_on instr))
     → IsOpened state second third (jump_edges row 0 (targets_at instr))
-    → IsOpened state third last (thrown_edges row.throws handlers)
-    → IsOpened state first last (edges_of at point row)
-opened_all {first} {second} {third} {last} state at point row instr handlers same also next jumps thrown =
+    → IsOpened state third last (caught_edges shared row.throws handlers)
+    → IsOpened state first last (edges_by shared at point row)
+opened_all {first} {second} {third} {last} shared state at point row instr handlers same also next jumps thrown =
     subst (λ (list : List RowEdge). IsOpened state first last list)
-    (λ i. next_edges at row (falls_on (sym same i)) ++ jump_edges row 0 (targets_at (sym same i)) ++ thrown_edges row.throws (sym also i))
-    (opened_both (next_edges at row (falls_on instr) ++ jump_edges row 0 (targets_at instr)) (thrown_edges row.throws handlers)
+    (λ i. next_edges at row (falls_on (sym same i)) ++ jump_edges row 0 (targets_at (sym same i)) ++ caught_edges shared row.throws (sym also i))
+    (opened_both (next_edges at row (falls_on instr) ++ jump_edges row 0 (targets_at instr)) (caught_edges shared row.throws handlers)
     (opened_both (next_edges at row (falls_on instr)) (jump_edges row 0 (targets_at instr)) next jumps) thrown)
 
 -- ---- targets and handlers, one by one
@@ -161,3 +162,35 @@ pub handlers_end :
     → IsOpened state start now (handler_edges (guard_of guard) 0 handlers)
 handlers_end {state} {start} {now} {guard} handlers at number left is =
     opens_end (subst (λ (list : List RowEdge). OpensAll state start now (handler_edges (guard_of guard) 0 handlers) list) (ap (handler_edges (guard_of guard) at) (dropped_all handlers at is)) left.opens)
+
+-- ---- shared points, one by one
+
+pub record TargetsLeft (state : State) (start now : List GuardedEdge) (guard : CodeGuard) (targets : List ℕ) (at : ℕ) : Type 0 where
+  pub opens : OpensAll state start now (target_edges (guard_of guard) targets) (target_edges (guard_of guard) (drop at targets))
+
+pub targets_start : (state : State) (start : List GuardedEdge) (guard : CodeGuard) (targets : List ℕ) → TargetsLeft state start start guard targets 0
+targets_start state start guard targets = record { opens = opens_start state start (target_edges (guard_of guard) targets) }
+
+pub targets_next :
+    {state : State} {start now next : List GuardedEdge} {guard : CodeGuard} (targets : List ℕ) (at behind to : ℕ)
+    → TargetsLeft state start now guard targets at
+    → slice_get targets at ≡ Some to
+    → IsOpened state now next (row_edge (record { by = kinds.Handler 0; to = to; guard = guard }) ∷ [])
+    → behind ≡ at + 1
+    → TargetsLeft state start next guard targets behind
+targets_next {state} {start} {now} {next} {guard} targets at behind to left is opened one =
+    subst (λ (n : ℕ). TargetsLeft state start next guard targets n) (sym one) (record {
+      opens =
+          let edge : RowEdge = record { by = kinds.Handler 0; to = to; guard = guard_of guard } in
+          opens_more edge (target_edges (guard_of guard) (drop (at + 1) targets))
+          (subst (λ (list : List RowEdge). OpensAll state start now (target_edges (guard_of guard) targets) list) (ap (target_edges (guard_of guard)) (dropped targets at to is)) left.opens)
+          opened;
+    })
+
+pub targets_end :
+    {state : State} {start now : List GuardedEdge} {guard : CodeGuard} (targets : List ℕ) (at : ℕ)
+    → TargetsLeft state start now guard targets at
+    → slice_get targets at ≡ None
+    → IsOpened state start now (target_edges (guard_of guard) targets)
+targets_end {state} {start} {now} {guard} targets at left is =
+    opens_end (subst (λ (list : List RowEdge). OpensAll state start now (target_edges (guard_of guard) targets) list) (ap (target_edges (guard_of guard)) (dropped_all targets at is)) left.opens)

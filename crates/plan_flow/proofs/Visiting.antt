@@ -6,9 +6,10 @@ use Rattle.flow_code.specs.FlatCode.{FlatCode, IsFlat, point_at}
 use Rattle.flow_code.specs.declared.point.Point.{Point}
 use Rattle.member_link.specs.Machine.Links.{AreLinksOf}
 use Rattle.member_link.specs.Machine.Programs.{Links}
-use Rattle.plan_flow.specs.Effect.{AreEdges, IsEffect, IsEffectIn, IsStateBehind}
+use Rattle.plan_flow.specs.Effect.{AreEdges, IsStateBehind}
 use Rattle.plan_flow.specs.Inner.Iteration.{IsLeft}
 use Rattle.plan_flow.specs.Inner.Reaching.{reached_in, IsEdgeTo, LeadsIn, AllLeadAt, AreReaching, AreStarted, AreFollowed, IsVisited, IsRaisedTo, unreached_in}
+use Rattle.plan_flow.specs.Inner.Sharing.{AreTargets, open_by, targets_in}
 use Rattle.plan_flow.specs.Must.{open_edges}
 use Rattle.plan_flow.specs.PlanScope.{PlanScope, scope_of}
 use Rattle.plan_flow.specs.Plans.{FlowsInside}
@@ -24,6 +25,7 @@ use Rattle.plan_flow.proofs.Iterating.{Pending, edge_to, behind_is_one}
 use Rattle.plan_flow.proofs.LeastPlans.{point_there}
 use Rattle.plan_flow.proofs.MustLaws.{has_behind}
 use Rattle.plan_flow.proofs.Raising.{state_at_above, left_is_one}
+use Rattle.plan_flow.proofs.Sharing.{like_shared, shared_like}
 
 -- ---- the state in which the instruction is done
 
@@ -35,82 +37,80 @@ IsLeftIn classes flat at state left =
     → point_at flat at ≡ Some point
     → IsLeft (scope_of classes links flat) at point state left
 
-abbrev pub AreEffectIn : Classes → FlatCode → ℕ → State → List Edge → Type 0
-AreEffectIn classes flat at left edges =
-    (links : Links) → AreLinksOf (headers_of classes) links → IsEffect (scope_of classes links flat) at left edges
-
--- the edges of a point that is reached
-pub edges_of_point :
-    (classes : Classes) (flat : FlatCode) (at : ℕ) (left : State) (edges : List Edge) (links : Links) (point : Point)
+-- the edges of a point, of which one stands for all to handlers that lead to one of these points
+abbrev pub AreSharedIn : Classes → FlatCode → ℕ → State → List ℕ → List Edge → Type 0
+AreSharedIn classes flat at left targets edges =
+    (links : Links) (point : Point)
     → AreLinksOf (headers_of classes) links
-    → AreEffectIn classes flat at left edges
     → point_at flat at ≡ Some point
-    → AreEdges (scope_of classes links flat) point at left (open_edges (scope_of classes links flat) at point left) edges
-edges_of_point classes flat at left edges links point are effect is =
-    subst (λ (o : Option Point). IsEffectIn (scope_of classes links flat) at o left edges) is (effect links are)
+    → AreEdges (scope_of classes links flat) point at left (open_by (scope_of classes links flat) at point left (Some targets)) edges
 
 -- ---- a visit
 
-record Visit (classes : Classes) (flat : FlatCode) (at : ℕ) (before : List (Option State)) (work : List ℕ) (state left : State)
-    (edges : List Edge) : Type 0 where
+record Visit (classes : Classes) (flat : FlatCode) (table : List (List ℕ)) (at : ℕ) (before : List (Option State)) (work : List ℕ)
+    (state left : State) (edges : List Edge) : Type 0 where
   flat_code : IsFlat flat
   flows : FlowsInside flat
   reaching : AreReaching classes flat before (at ∷ work)
   found : reached_in before at ≡ Some state
   left_state : IsState left
   is_left : IsLeftIn classes flat at state left
-  effect : AreEffectIn classes flat at left edges
+  targets : AreTargets flat table
+  effect : AreSharedIn classes flat at left (targets_in table at) edges
 
 started_in :
-    (classes : Classes) (flat : FlatCode) (at : ℕ) (before : List (Option State)) (work : List ℕ) (state left : State) (edges : List Edge)
-    → Visit classes flat at before work state left edges
+    (classes : Classes) (flat : FlatCode) (table : List (List ℕ)) (at : ℕ) (before : List (Option State)) (work : List ℕ) (state left : State) (edges : List Edge)
+    → Visit classes flat table at before work state left edges
     → (links : Links) (number : ℕ) (edge : Edge)
     → AreLinksOf (headers_of classes) links
     → slice_get edges number ≡ Some edge
     → IsEdgeTo (scope_of classes links flat) (reached_in before) edge.to edge.state
-started_in classes flat at before work state left edges v links number edge are is =
+started_in classes flat table at before work state left edges v links number edge are is =
     let s = scope_of classes links flat in
     let under = (v.reaching links are).under in
     let point = point_there flat.points at (under.inside at state v.found) in
     let is_left = v.is_left links point.0 are point.1 in
-    let row = row_of_edge s point.0 at left (open_edges s at point.0 left) edges
-    (edges_of_point classes flat at left edges links point.0 are v.effect point.1) number edge is in
+    let targets = targets_in table at in
+    let row = row_of_edge s point.0 at left (open_by s at point.0 left (Some targets)) edges (v.effect links point.0 are point.1) number edge is in
+    let like = shared_like s point.0 at left targets (v.targets.each at point.0 point.1) number row.0 row.1 in
+    let behind = like.behind edge.state row.2.behind in
     let counts = (state_at_above s at state left (under.at at state v.found) is_left.below).fields in
     let pending : Pending s (reached_in before) = record {
       from = at;
-      number = number;
+      number = like.stands.number;
       point = point.0;
       state = state;
       left = left;
       behind = edge.state;
-      row = row.0;
+      row = like.other;
       is_point = point.1;
       is_found = v.found;
       is_left = is_left;
-      is_row = row.1;
-      is_behind = row.2.behind;
-      is_at = behind_is_at s at point.0 left row.0 edge.state counts row.2.behind;
-      target_inside = (edges_inside s at point.0 left v.flat_code v.flows point.1).each number row.0 row.1;
+      is_row = like.stands.is;
+      is_behind = behind;
+      is_at = behind_is_at s at point.0 left like.other edge.state counts behind;
+      target_inside = (edges_inside s at point.0 left v.flat_code v.flows point.1).each like.stands.number like.other like.stands.is;
     } in
-    subst (λ (to : ℕ). IsEdgeTo s (reached_in before) to edge.state) (sym row.2.same_to) (edge_to s (reached_in before) pending under)
+    subst (λ (to : ℕ). IsEdgeTo s (reached_in before) to edge.state) (like.same_to ∙ sym row.2.same_to) (edge_to s (reached_in before) pending under)
 
 pub visit_starts :
-    (classes : Classes) (flat : FlatCode) (at : ℕ) (before : List (Option State)) (work : List ℕ) (state left : State) (edges : List Edge)
+    (classes : Classes) (flat : FlatCode) (table : List (List ℕ)) (at : ℕ) (before : List (Option State)) (work : List ℕ) (state left : State) (edges : List Edge)
     (links : Links)
     → AreLinksOf (headers_of classes) links
     → IsFlat flat
     → FlowsInside flat
+    → AreTargets flat table
     → AreReaching classes flat before (at ∷ work)
     → reached_in before at ≡ Some state
     → IsState left
     → IsLeftIn classes flat at state left
-    → AreEffectIn classes flat at left edges
+    → AreSharedIn classes flat at left (targets_in table at) edges
     → AreStarted classes flat before edges
-visit_starts classes flat at before work state left edges links are flat_code flows reaching found left_state is_left effect = record {
+visit_starts classes flat table at before work state left edges links are flat_code flows targets reaching found left_state is_left effect = record {
   len = (reaching links are).len;
   under = λ link are_link. (reaching link are_link).under;
   edge =
-      started_in classes flat at before work state left edges
+      started_in classes flat table at before work state left edges
       (record {
         flat_code = flat_code;
         flows = flows;
@@ -118,22 +118,24 @@ visit_starts classes flat at before work state left edges links are flat_code fl
         found = found;
         left_state = left_state;
         is_left = is_left;
+        targets = targets;
         effect = effect;
       });
 }
 
 -- the edges of the point itself, where its state is as it was
 lead_here :
-    (classes : Classes) (flat : FlatCode) (at : ℕ) (before after : List (Option State)) (work also : List ℕ) (state left : State)
+    (classes : Classes) (flat : FlatCode) (table : List (List ℕ)) (at : ℕ) (before after : List (Option State)) (work also : List ℕ) (state left : State)
     (edges : List Edge) (new : Bool) (links : Links)
     → AreLinksOf (headers_of classes) links
     → reached_in before at ≡ Some state
     → IsLeftIn classes flat at state left
-    → AreEffectIn classes flat at left edges
+    → AreTargets flat table
+    → AreSharedIn classes flat at left (targets_in table at) edges
     → AreFollowed classes flat before after work also edges new
     → IsFalse (has also at)
     → AllLeadAt (scope_of classes links flat) (reached_in after) at
-lead_here classes flat at before after work also state left edges new links are found is_left effect followed none = record {
+lead_here classes flat table at before after work also state left edges new links are found is_left is_table effect followed none = record {
   each = λ number point one other behind row is_point is_found is_other is_row is_behind.
       let s = scope_of classes links flat in
       let same_state : one ≡ state = same_Some one state (sym is_found ∙ followed.raised.same at none ∙ found) in
@@ -141,12 +143,15 @@ lead_here classes flat at before after work also state left edges new links are 
       let same_left : other ≡ left = left_is_one s at point state other left other_left (is_left links point are is_point) in
       let row_left = subst (λ (x : State). slice_get (open_edges s at point x) number ≡ Some row) same_left is_row in
       let behind_left = subst (λ (x : State). IsStateBehind s point at x row behind) same_left is_behind in
-      let edge = edge_of_row s point at left (open_edges s at point left) edges
-      (edges_of_point classes flat at left edges links point are effect is_point) number row row_left in
-      let same_behind : edge.0.state ≡ behind = behind_is_one s at point left row edge.0.state behind edge.2.behind behind_left in
-      let lead = followed.lead number edge.0 edge.1 in
+      let targets = targets_in table at in
+      let like = like_shared s point at left targets (is_table.each at point is_point) number row row_left in
+      let edge = edge_of_row s point at left (open_by s at point left (Some targets)) edges (effect links point are is_point) like.stands.number like.other
+      like.stands.is in
+      let same_behind : edge.0.state ≡ behind =
+      behind_is_one s at point left like.other edge.0.state behind edge.2.behind (like.behind behind behind_left) in
+      let lead = followed.lead like.stands.number edge.0 edge.1 in
       subst (LeadsIn (reached_in after) row.to) same_behind
-      (subst (λ (to : ℕ). LeadsIn (reached_in after) to edge.0.state) edge.2.same_to lead);
+      (subst (λ (to : ℕ). LeadsIn (reached_in after) to edge.0.state) (edge.2.same_to ∙ like.same_to) lead);
 }
 
 -- the edges of another point
@@ -165,15 +170,16 @@ lead_elsewhere s at one before after work also raised differ lead none = record 
 }
 
 pub visited :
-    (classes : Classes) (flat : FlatCode) (at : ℕ) (before after : List (Option State)) (work also : List ℕ) (state left : State)
+    (classes : Classes) (flat : FlatCode) (table : List (List ℕ)) (at : ℕ) (before after : List (Option State)) (work also : List ℕ) (state left : State)
     (edges : List Edge) (new : Bool)
+    → AreTargets flat table
     → AreReaching classes flat before (at ∷ work)
     → reached_in before at ≡ Some state
     → IsLeftIn classes flat at state left
-    → AreEffectIn classes flat at left edges
+    → AreSharedIn classes flat at left (targets_in table at) edges
     → AreFollowed classes flat before after work also edges new
     → IsVisited classes flat before after work also new
-visited classes flat at before after work also state left edges new reaching found is_left effect followed = record {
+visited classes flat table at before after work also state left edges new is_table reaching found is_left effect followed = record {
   less = followed.less;
   reaching = λ links are.
       let s = scope_of classes links flat in
@@ -183,7 +189,7 @@ visited classes flat at before after work also state left edges new reaching fou
         under = followed.under links are;
         lead = λ one none. elim (same_or_not at one) [
           | inl same ↦ subst (AllLeadAt s (reached_in after)) same
-              (lead_here classes flat at before after work also state left edges new links are found is_left effect followed
+              (lead_here classes flat table at before after work also state left edges new links are found is_left is_table effect followed
               (subst (λ (n : ℕ). IsFalse (has also n)) (sym same) none))
           | inr differ ↦ lead_elsewhere s at one before after work also followed.raised differ old.lead none
         ];

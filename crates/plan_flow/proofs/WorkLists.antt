@@ -11,7 +11,7 @@ use Rattle.virtual_state.specs.Sites.{has}
 has_itself : (at : ℕ) (list : List ℕ) → IsTrue (has (at ∷ list) at)
 has_itself at list = or_left (at == at) (has list at) (eq-eqb at at refl)
 
-equal_numbers : (one other : ℕ) → nat_cmp one other ≡ Equal → one ≡ other
+pub equal_numbers : (one other : ℕ) → nat_cmp one other ≡ Equal → one ≡ other
 equal_numbers one other is = by (nat_lt one other) (one == other) refl is where
   by : (less same : Bool) → (one == other) ≡ same → cond less Less (cond same Equal Greater) ≡ Equal → one ≡ other
   by true same equal none = absurd cc

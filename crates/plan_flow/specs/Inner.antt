@@ -9,3 +9,4 @@ pub mod Iteration
 pub mod Planning
 pub mod Reaching
 pub mod RowViews
+pub mod Sharing

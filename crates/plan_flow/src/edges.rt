@@ -1,5 +1,6 @@
 //! The edges that control may take from a point in a state.
 ghost use Rattle.std.specs.Prelude.{◌≡◌, ◌<◌, ◌-◌, ◌^◌, ◌∷◌, [], Some, length, slice_get, option_map, IfOk, OnOk};
+ghost use Rattle.std.specs.Option.{option_copied};
 ghost use Rattle.class_model.specs.Instructions.{targets};
 ghost use Rattle.class_model.specs.declared.frame.Frame.{Frame};
 ghost use Rattle.flow_code.specs.FlatCode.{point_at};
@@ -7,11 +8,12 @@ ghost use Rattle.flow_code.specs.declared.point.Point.{Point};
 ghost use Rattle.member_link.specs.Bodies.{falls_through};
 ghost use Rattle.plan_flow.specs.Inner.EdgeViews.{IsOpened, row_edge};
 ghost use Rattle.plan_flow.specs.Inner.RowViews.{guard_of, plan_row};
+ghost use Rattle.plan_flow.specs.Inner.Sharing.{caught_edges, edges_by, target_edges, thrown_to};
 ghost use Rattle.plan_flow.specs.Narrow.{IsNarrow};
 ghost use Rattle.plan_flow.specs.PlanRows.{PlanRow};
 ghost use Rattle.plan_flow.specs.PlanSlots as slots;
 ghost use Rattle.plan_flow.specs.PlanTable as tables;
-ghost use Rattle.plan_flow.specs.PlanTable.{edges_of, handler_edges, jump_edges, next_edges, targets_at, thrown_edges};
+ghost use Rattle.plan_flow.specs.PlanTable.{handler_edges, jump_edges, next_edges, targets_at, thrown_edges};
 
 use crate::edge::EdgeKind;
 use crate::rows::{Guard, Row};
@@ -30,7 +32,7 @@ pub(crate) struct GuardedEdge {
 }
 
 /// The edges that control may take from a point in a state: the one to the next point, then those to the targets, a switch's
-/// default first, then those to the handlers.
+/// default first, then those to the handlers, or, where points are shared, one to each of these, as if by handler 0.
 ///
 /// # Errors
 /// `NoMemory`, where memory runs out.
@@ -40,6 +42,7 @@ pub(crate) fn open_edges(
     at: usize,
     instr: &FlatInstr,
     row: &Row,
+    shared: Option<&[usize]>,
     state: &VState,
 ) -> Result<Vec<GuardedEdge>, NoMemory>
     requires narrow { IsNarrow flat.now }
@@ -47,7 +50,8 @@ pub(crate) fn open_edges(
     ensures { IfOk result (λ edges. (types : Frame) (point : Point)
         → point_at flat.now at ≡ Some point
         → point.instr ≡ instr.now
-        → IsOpened state.now [] edges.items (edges_of at point (plan_row types row.now))) }
+        → IsOpened state.now [] edges.items
+        (edges_by (option_copied shared.entry) at point (plan_row types row.now))) }
 {
     let _end = flat.len();
     let mut edges = Vec::new(alloc);
@@ -56,8 +60,66 @@ pub(crate) fn open_edges(
     };
     push_next(&mut edges, at, instr, row.next, state)?;
     push_jumps(&mut edges, instr, row.jump, state)?;
-    push_thrown(&mut edges, handlers.as_slice(), row.throws, state)?;
+    push_caught(&mut edges, handlers.as_slice(), shared, row.throws, state)?;
     Ok(edges)
+}
+
+// Adds the edges to handlers, or to the points that are shared.
+fn push_caught(
+    edges: &mut Vec<GuardedEdge>,
+    handlers: &[FlatHandler],
+    shared: Option<&[usize]>,
+    throws: Option<Guard>,
+    state: &VState,
+) -> Result<(), NoMemory>
+    requires { length handlers.now < 2 ^ 32 }
+    ensures { OnOk result
+        (IsOpened state.now edges.old.items edges.new.items
+        (caught_edges (option_copied shared.entry) (option_map guard_of throws) handlers.now)) }
+{
+    match shared {
+        Some(targets) => Ok(push_thrown_to(edges, targets, throws, state)?),
+        None => Ok(push_thrown(edges, handlers, throws, state)?),
+    }
+}
+
+// Adds an edge to each of these points, if the instruction may throw.
+fn push_thrown_to(
+    edges: &mut Vec<GuardedEdge>,
+    targets: &[usize],
+    throws: Option<Guard>,
+    state: &VState,
+) -> Result<(), NoMemory>
+    ensures { OnOk result
+        (IsOpened state.now edges.old.items edges.new.items
+        (thrown_to (option_map guard_of throws) targets.now)) }
+{
+    match throws {
+        Some(guard) => Ok(push_targets(edges, targets, guard, state)?),
+        None => Ok(()),
+    }
+}
+
+// Adds an edge to each of these points.
+fn push_targets(
+    edges: &mut Vec<GuardedEdge>,
+    targets: &[usize],
+    guard: Guard,
+    state: &VState,
+) -> Result<(), NoMemory>
+    ensures { OnOk result
+        (IsOpened state.now edges.old.items edges.new.items
+        (target_edges (guard_of guard) targets.now)) }
+{
+    for to in targets {
+        let edge = GuardedEdge {
+            by: EdgeKind::Handler(0),
+            to: *to,
+            guard,
+        };
+        push_open(edges, edge, state)?;
+    }
+    Ok(())
 }
 
 // Adds the edges to handlers, if the instruction may throw.

@@ -9,7 +9,8 @@ ghost use Rattle.member_link.specs.Machine.Programs.{Links};
 ghost use Rattle.plan_flow.specs.Effect.{AreEdges, IsEffect, IsStateBehind};
 ghost use Rattle.plan_flow.specs.Inner.Doing.{IsRowOf, MayBeDone};
 ghost use Rattle.plan_flow.specs.Inner.EdgeViews.{row_edge};
-ghost use Rattle.plan_flow.specs.Must.{IsMust, open_edges as open_edges_of};
+ghost use Rattle.plan_flow.specs.Inner.Sharing.{open_by, targets_in};
+ghost use Rattle.plan_flow.specs.Must.{IsMust};
 ghost use Rattle.plan_flow.specs.Narrow.{HasFewLocals, IsNarrow};
 ghost use Rattle.plan_flow.specs.PlanScope.{scope_of};
 
@@ -18,6 +19,7 @@ use crate::edge::{Edge, EdgeList};
 use crate::edge_states::state_behind;
 use crate::edges::{GuardedEdge, edge_at, open_edges};
 use crate::fronts::{locals_behind, stored_by};
+use crate::handler_targets::HandlerTargets;
 use crate::rows::Row;
 use crate::sources::edge_stack;
 use crate::table::row_at;
@@ -55,11 +57,46 @@ pub fn effect(
     let Some(types) = flat.typed(at) else {
         return Ok(EdgeList::new(alloc));
     };
-    let edges = edges_from(alloc, tree, flat, at, types, instr, state)?;
+    let edges = edges_from(alloc, tree, flat, at, types, instr, None, state)?;
     Ok(edges)
 }
 
-// The edges from a point.
+/// The same edges, where those to handlers that lead to one point are one, as if by handler 0: the state behind all of them is
+/// the same. Its cost does not grow with the handlers, only with the points to which they lead.
+///
+/// # Errors
+/// `NoMemory`, where memory runs out.
+pub(crate) fn shared_effect(
+    alloc: Global,
+    tree: &Tree,
+    flat: &Flat,
+    targets: &HandlerTargets,
+    at: usize,
+    state: &VState,
+) -> Result<EdgeList, NoMemory>
+    requires narrow { IsNarrow flat.now }
+    requires asks_none { (links : Links)
+        → AreLinksOf (headers_of tree.now) links
+        → IsMust (scope_of tree.now links flat.now) at state.now [] }
+    ensures { IfOk result (λ edges. (links : Links) (point : Point)
+        → AreLinksOf (headers_of tree.now) links
+        → point_at flat.now at ≡ Some point
+        → AreEdges (scope_of tree.now links flat.now) point at state.now
+        (open_by (scope_of tree.now links flat.now) at point state.now
+        (Some (targets_in targets.now at))) edges) }
+{
+    let Some(instr) = flat.instr(at) else {
+        return Ok(EdgeList::new(alloc));
+    };
+    let Some(types) = flat.typed(at) else {
+        return Ok(EdgeList::new(alloc));
+    };
+    let shared = targets.at(at);
+    let edges = edges_from(alloc, tree, flat, at, types, instr, Some(shared), state)?;
+    Ok(edges)
+}
+
+// The edges from a point, where those to handlers may be shared.
 fn edges_from(
     alloc: Global,
     tree: &Tree,
@@ -67,6 +104,7 @@ fn edges_from(
     at: usize,
     types: &Frame,
     instr: &FlatInstr,
+    shared: Option<&[usize]>,
     state: &VState,
 ) -> Result<EdgeList, NoMemory>
     requires narrow { IsNarrow flat.now }
@@ -79,11 +117,12 @@ fn edges_from(
         → AreLinksOf (headers_of tree.now) links
         → point_at flat.now at ≡ Some point
         → AreEdges (scope_of tree.now links flat.now) point at state.now
-        (open_edges_of (scope_of tree.now links flat.now) at point state.now) edges) }
+        (open_by (scope_of tree.now links flat.now) at point state.now
+        (option_copied shared.entry)) edges) }
 {
     a_tree_has_links(tree);
     let row = row_at(tree, flat, at, types, instr)?;
-    let edges = edges_by(alloc, tree, flat, at, types, instr, &row, state);
+    let edges = edges_by(alloc, tree, flat, at, types, instr, &row, shared, state);
     // let go by a call, so that its drop is proved once
     drop(row);
     edges
@@ -98,6 +137,7 @@ fn edges_by(
     types: &Frame,
     instr: &FlatInstr,
     row: &Row,
+    shared: Option<&[usize]>,
     state: &VState,
 ) -> Result<EdgeList, NoMemory>
     requires narrow { IsNarrow flat.now }
@@ -108,9 +148,10 @@ fn edges_by(
         → point_at flat.now at ≡ Some point
         → IsRowOf (scope_of tree.now links flat.now) at point types.now row.now
         → AreEdges (scope_of tree.now links flat.now) point at state.now
-        (open_edges_of (scope_of tree.now links flat.now) at point state.now) edges) }
+        (open_by (scope_of tree.now links flat.now) at point state.now
+        (option_copied shared.entry)) edges) }
 {
-    let taken = open_edges(alloc, flat, at, instr, row, state)?;
+    let taken = open_edges(alloc, flat, at, instr, row, shared, state)?;
     let edges = edges_over(alloc, tree, flat, at, types, row, taken.as_slice(), state)?;
     Ok(edges)
 }

@@ -2,11 +2,13 @@
 //! Approach to Global Program Optimization", 1973).
 ghost use Rattle.std.specs.Prelude.{◌∷◌, ◌↔◌, [], IfOk, OnOk, IsTrue};
 ghost use Rattle.plan_flow.specs.Inner.Reaching.{AreFollowed, AreReaching, AreStarted, IsAdvanced, IsVisited, LeadsIn, reached_in};
+ghost use Rattle.plan_flow.specs.Inner.Sharing.{AreTargets};
 ghost use Rattle.plan_flow.specs.Narrow.{IsNarrow};
 ghost use Rattle.plan_flow.specs.Plans.{FlowsInside};
 
 use crate::edge::Edge;
-use crate::effects::effect;
+use crate::effects::shared_effect;
+use crate::handler_targets::HandlerTargets;
 use crate::point_states::PointStates;
 use crate::settling::settled;
 use crate::targets::raised;
@@ -26,17 +28,19 @@ pub(crate) fn iterate(
     alloc: Global,
     tree: &Tree,
     flat: &Flat,
+    targets: &HandlerTargets,
     states: &mut PointStates,
     work: &mut WorkList,
 ) -> Result<(), NoMemory>
     requires narrow { IsNarrow flat.now }
     requires flows { FlowsInside flat.now }
+    requires targets { AreTargets flat.now targets.now }
     requires reaching { AreReaching tree.now flat.now states.old work.old }
     ensures { OnOk result (AreReaching tree.now flat.now states.new []) }
 {
     let mut more = true;
     while more {
-        more = advance(alloc, tree, flat, states, work)?;
+        more = advance(alloc, tree, flat, targets, states, work)?;
     }
     Ok(())
 }
@@ -46,17 +50,19 @@ fn advance(
     alloc: Global,
     tree: &Tree,
     flat: &Flat,
+    targets: &HandlerTargets,
     states: &mut PointStates,
     work: &mut WorkList,
 ) -> Result<bool, NoMemory>
     requires narrow { IsNarrow flat.now }
     requires flows { FlowsInside flat.now }
+    requires targets { AreTargets flat.now targets.now }
     requires reaching { AreReaching tree.now flat.now states.old work.old }
     ensures { IfOk result
         (λ more. IsAdvanced tree.now flat.now states.old states.new work.new more) }
 {
     while let Some(at) = work.take() {
-        if visit(alloc, tree, flat, at, states, work)? {
+        if visit(alloc, tree, flat, targets, at, states, work)? {
             return Ok(true);
         }
     }
@@ -68,12 +74,14 @@ fn visit(
     alloc: Global,
     tree: &Tree,
     flat: &Flat,
+    targets: &HandlerTargets,
     at: usize,
     states: &mut PointStates,
     work: &mut WorkList,
 ) -> Result<bool, NoMemory>
     requires narrow { IsNarrow flat.now }
     requires flows { FlowsInside flat.now }
+    requires targets { AreTargets flat.now targets.now }
     requires reaching { AreReaching tree.now flat.now states.old (at ∷ work.old) }
     ensures { IfOk result
         (λ new. IsVisited tree.now flat.now states.old states.new work.old work.new new) }
@@ -84,7 +92,7 @@ fn visit(
     let _end = flat.len();
     a_tree_has_links(tree);
     let left = settled(alloc, tree, flat, at, state)?;
-    let edges = effect(alloc, tree, flat, at, &left)?;
+    let edges = shared_effect(alloc, tree, flat, targets, at, &left)?;
     left.is_state();
     let new = follow_all(alloc, tree, flat, edges.as_slice(), states, work)?;
     Ok(new)

@@ -6,6 +6,7 @@ ghost use Rattle.member_link.specs.Machine.Links.{AreLinksOf};
 ghost use Rattle.member_link.specs.Machine.Programs.{Links};
 ghost use Rattle.plan_flow.specs.Inner.Planning.{IsPlanOf, made_edge, made_edges, made_on as sites_made_on};
 ghost use Rattle.plan_flow.specs.Inner.Reaching.{AreReaching, IsReaching, reached_in};
+ghost use Rattle.plan_flow.specs.Inner.Sharing.{AreTargets, own_part};
 ghost use Rattle.plan_flow.specs.Narrow.{IsNarrow};
 ghost use Rattle.plan_flow.specs.PlanScope.{PlanScope, scope_of};
 ghost use Rattle.plan_flow.specs.PlanSlots.{fit_locals, fit_stack};
@@ -13,9 +14,11 @@ ghost use Rattle.plan_flow.specs.Plans.{FlowsInside, IsLeast};
 ghost use Rattle.virtual_state.specs.Sites.{differing as differing_sites};
 
 use crate::edge::Edge;
-use crate::effects::effect;
+use crate::effects::shared_effect;
+use crate::handler_targets::HandlerTargets;
 use crate::iteration::iterate;
 use crate::plan::{EdgePlan, Plan, PointPlan};
+use crate::planned_edges::{own_edge, planned_edges};
 use crate::point_states::PointStates;
 use crate::settling::settled;
 use crate::slots::fitted;
@@ -43,8 +46,9 @@ pub fn least_plan(alloc: Global, tree: &Tree, flat: &Flat) -> Result<Plan, NoMem
     let mut states = start(alloc, flat)?;
     let mut work = WorkList::new(alloc);
     work.add(0)?;
-    iterate(alloc, tree, flat, &mut states, &mut work)?;
-    let plan = plan_of(alloc, tree, flat, &states)?;
+    let targets = HandlerTargets::of(alloc, flat)?;
+    iterate(alloc, tree, flat, &targets, &mut states, &mut work)?;
+    let plan = plan_of(alloc, tree, flat, &targets, &states)?;
     Ok(plan)
 }
 
@@ -78,8 +82,15 @@ fn blank_state(alloc: Global, types: &Frame) -> Result<VState, NoMemory>
 }
 
 // The plan that the states of points give.
-fn plan_of(alloc: Global, tree: &Tree, flat: &Flat, states: &PointStates) -> Result<Plan, NoMemory>
+fn plan_of(
+    alloc: Global,
+    tree: &Tree,
+    flat: &Flat,
+    targets: &HandlerTargets,
+    states: &PointStates,
+) -> Result<Plan, NoMemory>
     requires narrow { IsNarrow flat.now }
+    requires targets { AreTargets flat.now targets.now }
     requires reaching { AreReaching tree.now flat.now states.now [] }
     ensures { IfOk result (λ plan. (links : Links)
         → AreLinksOf (headers_of tree.now) links
@@ -87,7 +98,7 @@ fn plan_of(alloc: Global, tree: &Tree, flat: &Flat, states: &PointStates) -> Res
 {
     let mut points = Vec::with_capacity(alloc, flat.len())?;
     for at in 0..flat.len() {
-        let plan = point_plan(alloc, tree, flat, at, states)?;
+        let plan = point_plan(alloc, tree, flat, targets, at, states)?;
         points.push(plan)?;
     }
     Ok(Plan::of(points))
@@ -98,10 +109,12 @@ fn point_plan(
     alloc: Global,
     tree: &Tree,
     flat: &Flat,
+    targets: &HandlerTargets,
     at: usize,
     states: &PointStates,
 ) -> Result<Option<PointPlan>, NoMemory>
     requires narrow { IsNarrow flat.now }
+    requires targets { AreTargets flat.now targets.now }
     requires reaching { AreReaching tree.now flat.now states.now [] }
     ensures { IfOk result (λ plan. (links : Links)
         → AreLinksOf (headers_of tree.now) links
@@ -112,25 +125,28 @@ fn point_plan(
     };
     let left = settled(alloc, tree, flat, at, state)?;
     left.is_state();
-    let edges = effect(alloc, tree, flat, at, &left)?;
+    let edges = shared_effect(alloc, tree, flat, targets, at, &left)?;
     let made = made_between(alloc, state, &left)?;
-    let edges = edge_plans(alloc, edges.as_slice(), states)?;
+    let edges = planned_edges(alloc, flat, at, edges.as_slice(), states)?;
     let state = state.copy()?;
     Ok(Some(PointPlan { state, made, edges }))
 }
 
-// The plans of edges.
-fn edge_plans(
+/// The plans of the edges that do not lead to handlers, which are the first.
+///
+/// # Errors
+/// `NoMemory`, where memory runs out.
+pub(crate) fn edge_plans(
     alloc: Global,
     edges: &[Edge],
     states: &PointStates,
 ) -> Result<Vec<EdgePlan>, NoMemory>
     ensures { IfOk result
-        (λ plans. plans.items ≡ made_edges (reached_in states.now) edges.now) }
+        (λ plans. plans.items ≡ made_edges (reached_in states.now) (own_part edges.now)) }
 {
-    let mut plans = Vec::with_capacity(alloc, edges.len())?;
+    let mut plans = Vec::new(alloc);
     let mut number = 0;
-    while let Some(edge) = edges.get(number) {
+    while let Some(edge) = own_edge(edges, number) {
         plans.push(edge_plan(alloc, edge, states)?)?;
         number += 1;
     }
@@ -149,8 +165,15 @@ fn edge_plan(alloc: Global, edge: &Edge, states: &PointStates) -> Result<EdgePla
     })
 }
 
-// The sites whose objects are made on an edge to a target, if that is reached.
-fn made_on(alloc: Global, behind: &VState, target: Option<&VState>) -> Result<SiteSet, NoMemory>
+/// The sites whose objects are made on an edge to a target, if that is reached.
+///
+/// # Errors
+/// `NoMemory`, where memory runs out.
+pub(crate) fn made_on(
+    alloc: Global,
+    behind: &VState,
+    target: Option<&VState>,
+) -> Result<SiteSet, NoMemory>
     ensures { IfOk result
         (λ sites. sites ≡ sites_made_on behind.now (option_copied target.entry)) }
 {

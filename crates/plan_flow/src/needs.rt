@@ -96,7 +96,8 @@ fn asked_by(
         → IsRowOf (scope_of tree.now links flat.now) at point types.now row.now
         → AreAsked (scope_of tree.now links flat.now) at point state.now asked) }
 {
-    let edges = open_edges(alloc, flat, at, instr, row, state)?;
+    // a handler begins with nothing but what was thrown on the stack, so its edge asks for no object
+    let edges = open_edges(alloc, flat, at, instr, row, Some(&[]), state)?;
     let mut asked = SiteSet::new(alloc);
     add_asked(&mut asked, alloc, tree, flat, types, row, state)?;
     add_beneath(

@@ -1,10 +1,14 @@
 //! Plans of flat code.
-ghost use Rattle.std.specs.Prelude.{◌≡◌, slice_get, option_and_then, option_map};
+ghost use Rattle.std.specs.Prelude.{◌≡◌, ◌<◌, ◌-◌, ◌^◌, ◌++◌, [], length, slice_get, option_and_then, option_map};
 ghost use Rattle.std.specs.Option.{option_copied};
+ghost use Rattle.plan_flow.specs.Inner.Sharing.{AreOwnOf, AreThrown, caught_made, made_in, or_no_edge};
 ghost use Rattle.plan_flow.specs.PlanEdges.{made_edge_meant};
 ghost use Rattle.plan_flow.specs.Plans.{planned};
 
 use crate::edge::EdgeKind;
+use flow_code::FlatHandlerList;
+use std::alloc::Global;
+use std::collections::BTreeMap;
 use std::marker::Model;
 use virtual_state::{SiteSet, VState};
 
@@ -33,12 +37,161 @@ pub struct PlanEdge<'p> {
     pub made: &'p SiteSet,
 }
 
+/// The edges of a point to its handlers: the handlers, which points share, and by target the sites whose objects are made on
+/// the edges to it, where there are some. Contracts see the edges.
+#[derive(Drop)]
+pub(crate) struct ThrownPlan {
+    handlers: FlatHandlerList,
+    made: BTreeMap<usize, SiteSet>,
+    none: SiteSet,
+}
+
+impl Model for ThrownPlan {
+    ghost use Rattle.std.specs.Prelude.{◌≡◌, ◌<◌, ◌^◌, List, [], length};
+    ghost use Rattle.plan_flow.specs.Inner.Sharing.{caught_made, made_in};
+    ghost use Rattle.plan_flow.specs.Plans.{MadeEdge};
+
+    ghost Value = { List MadeEdge };
+
+    ghost view = { λ thrown. caught_made (made_in thrown.made) 0 thrown.handlers };
+
+    ghost invariant = { λ thrown. (thrown.none ≡ []) × (length thrown.handlers < 2 ^ 32) };
+}
+
+impl ThrownPlan {
+    /// The edges to these handlers, on which these objects are made.
+    pub(crate) fn of(
+        alloc: Global,
+        handlers: FlatHandlerList,
+        made: BTreeMap<usize, SiteSet>,
+    ) -> Self
+        requires { length handlers < 2 ^ 32 }
+        ensures edges { result ≡ caught_made (made_in made) 0 handlers }
+        ensures thrown { AreThrown result }
+    {
+        ThrownPlan {
+            handlers,
+            made,
+            none: SiteSet::new(alloc),
+        }
+    }
+
+    // The edge of a number, if there is one.
+    fn get(&self, number: usize) -> Option<PlanEdge<'_>>
+        ensures { option_map made_edge_meant result ≡ slice_get self.now number }
+    {
+        let Some(handler) = self.handlers.get(number) else {
+            return None;
+        };
+        Some(PlanEdge {
+            by: EdgeKind::Handler(short(number)),
+            to: handler.to,
+            made: made_for(&self.made, &self.none, handler.to),
+        })
+    }
+}
+
+// A number of 32 bits.
+fn short(number: usize) -> u32
+    requires { number < 2 ^ 32 }
+    ensures { result ≡ number }
+{
+    number as u32
+}
+
+// The sites for a target, or none.
+fn made_for<'p>(made: &'p BTreeMap<usize, SiteSet>, none: &'p SiteSet, to: usize) -> &'p SiteSet
+    requires { none.now ≡ [] }
+    ensures { result.now ≡ made_in made.now to }
+{
+    match made.get(&to) {
+        Some(sites) => sites,
+        None => none,
+    }
+}
+
+/// The edges of a point that is reached, those to handlers apart from the others. Contracts see all, in order.
+#[derive(Drop)]
+pub(crate) struct EdgePlans {
+    own: Vec<EdgePlan>,
+    thrown: Option<ThrownPlan>,
+}
+
+impl Model for EdgePlans {
+    ghost use Rattle.std.specs.Prelude.{◌++◌, List};
+    ghost use Rattle.plan_flow.specs.Inner.Sharing.{AreThrown, or_no_edge};
+    ghost use Rattle.plan_flow.specs.Plans.{MadeEdge};
+
+    ghost Value = { List MadeEdge };
+
+    ghost view = { λ edges. edges.own.items ++ or_no_edge edges.thrown };
+
+    ghost invariant = { λ edges. AreThrown (or_no_edge edges.thrown) };
+}
+
+impl EdgePlans {
+    /// These edges, and behind them those to handlers, if there are any.
+    pub(crate) fn of(own: Vec<EdgePlan>, thrown: Option<ThrownPlan>) -> Self
+        requires { AreThrown (or_no_edge thrown) }
+        ensures { result ≡ own.items ++ or_no_edge thrown }
+    {
+        EdgePlans { own, thrown }
+    }
+
+    /// The edge of a number, if there is one.
+    pub(crate) fn get(&self, number: usize) -> Option<PlanEdge<'_>>
+        ensures { option_map made_edge_meant result ≡ slice_get self.now number }
+    {
+        let own = self.own.as_slice();
+        match own_at(own, number) {
+            Some(edge) => Some(edge),
+            None => thrown_at(&self.thrown, behind(number, own.len())),
+        }
+    }
+
+    /// Those that do not lead to handlers.
+    pub(crate) fn own(&self) -> &[EdgePlan]
+        ensures { AreOwnOf result.now self.now }
+    {
+        self.own.as_slice()
+    }
+}
+
+// The edge of a number, if there is one.
+fn own_at(edges: &[EdgePlan], number: usize) -> Option<PlanEdge<'_>>
+    ensures { option_map made_edge_meant result ≡ slice_get edges.now number }
+{
+    let edge = edges.get(number)?;
+    Some(PlanEdge {
+        by: edge.by,
+        to: edge.to,
+        made: &edge.made,
+    })
+}
+
+// The number of an edge behind so many others.
+fn behind(number: usize, count: usize) -> usize
+    ensures { result ≡ number - count }
+{
+    number.saturating_sub(count)
+}
+
+// The edge to a handler of a number, if there is one.
+fn thrown_at(thrown: &Option<ThrownPlan>, number: usize) -> Option<PlanEdge<'_>>
+    ensures { option_map made_edge_meant result ≡ slice_get (or_no_edge thrown.now) number }
+{
+    match thrown {
+        Some(plan) => plan.get(number),
+        None => None,
+    }
+}
+
 /// A point that is reached: the state before it, the sites whose objects are made before its instruction, and its edges.
 #[derive(Drop)]
 pub(crate) struct PointPlan {
     pub state: VState,
     pub made: SiteSet,
-    pub edges: Vec<EdgePlan>,
+    pub edges: EdgePlans,
 }
 
 impl Model for PointPlan {
@@ -47,7 +200,7 @@ impl Model for PointPlan {
     ghost Value = { PlannedPoint };
 
     ghost view = { λ point.
-        record { state = point.state; made = point.made; edges = point.edges.items } };
+        record { state = point.state; made = point.made; edges = point.edges } };
 }
 
 /// Which points of flat code are reached, with which states, and which objects are made where.
@@ -93,7 +246,7 @@ impl Plan {
             ≡ option_map (λ edge. edge.made)
             (option_and_then (λ point. slice_get point.edges edge) (planned self.now at)) }
     {
-        Some(&self.point(at)?.edges.get(edge)?.made)
+        Some(self.edge(at, edge)?.made)
     }
 
     /// An edge of a point, if the point is reached and has such an edge, by the number that `made_on` takes.
@@ -101,12 +254,7 @@ impl Plan {
         ensures { option_map made_edge_meant result
             ≡ option_and_then (λ point. slice_get point.edges number) (planned self.now at) }
     {
-        let edge = self.point(at)?.edges.get(number)?;
-        Some(PlanEdge {
-            by: edge.by,
-            to: edge.to,
-            made: &edge.made,
-        })
+        self.point(at)?.edges.get(number)
     }
 
     /// What is planned for a point, if it is reached.

@@ -12,7 +12,7 @@ ghost use Rattle.plan_flow.specs.Plans.{IsValid, planned, state_left};
 ghost use Rattle.virtual_state.specs.Sites.{IsSiteFrom};
 
 use crate::edge::EdgeKind;
-use crate::plan::{EdgePlan, Plan, PointPlan};
+use crate::plan::{EdgePlan, EdgePlans, Plan, PointPlan};
 use crate::slots::held;
 use class_model::Instr;
 use flow_code::{Flat, FlatInstr};
@@ -106,7 +106,7 @@ fn loses_on_edge(plan: &Plan, point: &PointPlan) -> bool
 {
     let mut from = 0;
     while let Some(site) = site_left_from(point, from) {
-        if is_lost(plan, point.edges.as_slice(), site) {
+        if is_lost(plan, &point.edges, site) {
             return true;
         }
         from = usize::from(site) + 1;
@@ -114,8 +114,15 @@ fn loses_on_edge(plan: &Plan, point: &PointPlan) -> bool
     false
 }
 
-// Whether the object of a site is lost on one of these edges.
-fn is_lost(plan: &Plan, edges: &[EdgePlan], site: u16) -> bool
+// Whether the object of a site is lost on one of these edges that no exception takes.
+fn is_lost(plan: &Plan, edges: &EdgePlans, site: u16) -> bool
+    ensures { result ≡ list_any (loses_site plan.now site) edges.now }
+{
+    is_lost_on(plan, edges.own(), site)
+}
+
+// The same of a list.
+fn is_lost_on(plan: &Plan, edges: &[EdgePlan], site: u16) -> bool
     ensures { result ≡ list_any (loses_site plan.now site) edges.now }
 {
     for edge in edges {
@@ -137,8 +144,8 @@ fn loses(plan: &Plan, edge: &EdgePlan, site: u16) -> bool
     }
 }
 
-// Whether no exception takes an edge.
-fn is_normal(by: EdgeKind) -> bool
+/// Whether no exception takes an edge.
+pub(crate) fn is_normal(by: EdgeKind) -> bool
     ensures { result ≡ is_normal by }
 {
     match by {

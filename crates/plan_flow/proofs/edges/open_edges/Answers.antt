@@ -24,8 +24,8 @@ push_next-requires c =
 pub push_jumps-requires : goal.push_jumps-requires
 push_jumps-requires c = narrow_targets c.args.flat.now c.args.at c.args.instr.now c.requires.narrow c.requires.instr
 
-pub push_thrown-requires : goal.push_thrown-requires
-push_thrown-requires c =
+pub push_caught-requires : goal.push_caught-requires
+push_caught-requires c =
     subst (λ (list : List FlatHandler). length list < 2 ^ 32) (sym c.as_slice.ensures)
     (narrow_handlers c.args.flat.now c.args.at c.in-Some.handlers.now c.requires.narrow (sym c.handlers.ensures ∙ ap option_copied c.in-Some.is))
 
@@ -33,6 +33,6 @@ pub returns : goal.returns
 returns c = λ types point is same.
     let row = plan_row types c.args.row.now in
     let handlers = same_Some point.handlers c.in-Some.handlers.now (sym (ap (option_map (λ (p : Point). p.handlers)) is) ∙ sym c.handlers.ensures ∙ ap option_copied c.in-Some.is) in
-    opened_all c.args.state.now c.args.at point row c.args.instr.now c.as_slice.result.now same (handlers ∙ sym c.as_slice.ensures)
+    opened_all (option_copied c.args.shared) c.args.state.now c.args.at point row c.args.instr.now c.as_slice.result.now same (handlers ∙ sym c.as_slice.ensures)
     (subst (λ (list : List GuardedEdge). IsOpened c.args.state.now list c.push_next.new.edges.items (next_edges c.args.at row (falls_on c.args.instr.now))) c.new-edges.ensures.items (c.in_ok-push_next.ensures row refl))
-    (c.in_ok-push_jumps.ensures row refl) c.in_ok-push_thrown.ensures
+    (c.in_ok-push_jumps.ensures row refl) c.in_ok-push_caught.ensures

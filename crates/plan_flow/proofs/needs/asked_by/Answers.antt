@@ -9,8 +9,8 @@ use Rattle.plan_flow.specs.PlanRows.{PlanRow, RowEdge}
 use Rattle.plan_flow.specs.PlanScope.{scope_of}
 use Rattle.plan_flow.specs.PlanSlots.{is_open}
 use Rattle.plan_flow.specs.PlanTable.{edges_of, positions}
-use Rattle.plan_flow.specs.declared.edges.GuardedEdge.{GuardedEdge}
 use Rattle.plan_flow.proofs.AskedSites.{are_asked}
+use Rattle.plan_flow.proofs.ThrownStacks.{beneath_all}
 use Rattle.plan_flow.proofs.needs.asked_by.Goals as goal
 
 pub returns : goal.returns
@@ -21,7 +21,8 @@ returns c = λ links point are is row_of.
     let row = plan_row types c.args.row.now in
     let same_instr = same_Some point.instr c.args.instr.now (sym (ap (option_map (λ (p : Point). p.instr)) is) ∙ c.requires.instr) in
     let opened = c.in_ok-edges.ensures types point is same_instr in
-    are_asked s c.args.at point state row (map row_edge c.in_ok-edges.edges.items) row_of.same_row
-    (opened.same ∙ ap (λ (r : PlanRow). filter (λ (edge : RowEdge). is_open state edge.guard) (edges_of c.args.at point r)) row_of.same_row)
+    are_asked s c.args.at point state row (filter (λ (edge : RowEdge). is_open state edge.guard) (edges_of c.args.at point row)) row_of.same_row
+    (ap (λ (r : PlanRow). filter (λ (edge : RowEdge). is_open state edge.guard) (edges_of c.args.at point r)) row_of.same_row)
     (subst (λ (list : List ℕ). HasAdded list c.add_asked.new.sites (IsAskedIn s state (positions row))) c.new-asked.ensures (c.in_ok-add_asked.ensures links are))
-    (subst (λ (list : List GuardedEdge). HasAdded c.add_asked.new.sites c.add_beneath.new.sites (IsBeneathAny s state row (map row_edge list))) c.as_slice.ensures.value (c.in_ok-add_beneath.ensures links))
+    (beneath_all s c.args.at point state row
+    (subst (λ (list : List RowEdge). HasAdded c.add_asked.new.sites c.add_beneath.new.sites (IsBeneathAny s state row list)) (ap (map row_edge) c.as_slice.ensures.value ∙ opened.same) (c.in_ok-add_beneath.ensures links)))
