@@ -1,5 +1,9 @@
 -- What follows of the relation. All of it is proved.
 pub mod AddedMethods
+pub mod AloneTurns
+pub mod BeginningTurns
+pub mod BegunFrames
+pub mod BothTurns
 pub mod ConstructorRuns
 pub mod ConstructorSteps
 pub mod Constructs
@@ -10,8 +14,10 @@ pub mod KnownClasses
 pub mod LessVirtual
 pub mod MadeItems
 pub mod NextEdges
+pub mod OverTurns
 pub mod PlannedTurns
 pub mod Settling
 pub mod Simulation
 pub mod StandingMore
+pub mod StillThere
 pub mod Turned
