@@ -1,7 +1,7 @@
 -- Layouts in the chosen form.
-use Rattle.std.proofs.Common.{◌≡◌, ◌⊎◌, ℕ, ◌≤◌, ◌<◌, Bool, true, false, List, nat_le, if◌then◌else◌, inl, inr, refl, sym, subst, arith}
+use Rattle.std.proofs.Common.{◌≡◌, ℕ, ◌≤◌, ◌<◌, Bool, true, false, List, if◌then◌else◌, inl, sym, subst, arith}
 use Rattle.std.proofs.lemmas.Bool.{le-leb, lt-leb}
-use Rattle.code_layout.specs.ChosenForm.{IsLaidOut, IsLong, IsWithin, chosen_items, chosen_len, chosen_spelled, is_short}
+use Rattle.code_layout.specs.ChosenForm.{IsLaidOut, IsLong, IsWithin, is_short}
 use Rattle.code_layout.specs.EmittedCode.{HasCodeOf}
 use Rattle.code_layout.specs.Layout.{IsLaid, end_from, short_spelled, table_len, wide_spelled}
 use Rattle.code_layout.specs.WideForm.{widened}

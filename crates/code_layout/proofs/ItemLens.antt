@@ -1,5 +1,5 @@
 -- An instruction has a byte at least, so that code has at most as many instructions as bytes.
-use Rattle.std.proofs.Common.{◌≡◌, ℕ, ℤ, zero, suc, ◌+◌, ◌≤◌, ◌<◌, Bool, true, false, List, [], ◌∷◌, ◌++◌, length, Option, Some, None, if◌then◌else◌, refl, arith, length-append}
+use Rattle.std.proofs.Common.{ℕ, ℤ, ◌+◌, ◌≤◌, ◌<◌, Bool, true, false, List, [], ◌∷◌, length, Option, Some, None, if◌then◌else◌, arith}
 use Rattle.std.specs.Prelude.{◌&&◌, ◌+ℤ◌, ◌*◌, nat_lt, int_le, negsuc, pos, unsigned_abs}
 use Rattle.std.specs.Int.{cast_unsigned, w16, w8}
 use Rattle.class_model.specs.Spelling.{u2}
@@ -12,7 +12,7 @@ use Rattle.class_model.specs.declared.opcodes.TheConstants.{BIPUSH, ILOAD, ILOAD
 use Rattle.code_bytes.specs.Forms.{instr_bytes, int_bytes, is_short, kind_index, local_bytes}
 use Rattle.member_link.specs.Targets.{with_targets}
 use Rattle.code_layout.specs.Layout.{end_from, len_of, wide_spelled}
-use Rattle.code_layout.specs.WideForm.{closing, widened}
+use Rattle.code_layout.specs.WideForm.{widened}
 use Rattle.code_layout.specs.declared.emitted.EmitItem.{EmitItem}
 use Rattle.code_layout.proofs.WideNumbers.{end-grows, length-widened}
 

@@ -1,5 +1,5 @@
 -- Items of either form can be spelled where they stand.
-use Rattle.std.proofs.Common.{◌≡◌, ℕ, zero, suc, ◌+◌, ◌≤◌, ◌<◌, List, [], ◌∷◌, ◌++◌, length, inl, inr, refl, sym, ap, subst, ◌∙◌, arith, append_assoc, length-append}
+use Rattle.std.proofs.Common.{◌≡◌, ℕ, suc, ◌+◌, ◌≤◌, ◌<◌, List, [], ◌∷◌, ◌++◌, length, inl, inr, refl, sym, ap, subst, ◌∙◌, arith, append_assoc, length-append}
 use Rattle.std.proofs.lemmas.Int.{ints}
 use Rattle.std.specs.List.{AllByRecursion}
 use Rattle.class_model.specs.Instructions.{targets}
@@ -11,12 +11,12 @@ use Rattle.code_bytes.specs.Forms.{instr_bytes}
 use Rattle.member_link.specs.Targets.{HasForm, with_targets}
 use Rattle.code_layout.specs.Emitting.{IsEmitted, NamesItem}
 use Rattle.code_layout.specs.Inner.Writing.{ArePlaced, CanBePlaced, CanBeSpelled, HaveForms}
-use Rattle.code_layout.specs.Layout.{Spelled, end_from, item_starts, len_of, placed_from, placed_items, short_spelled, start_in, starts_from, wide_spelled}
+use Rattle.code_layout.specs.Layout.{Spelled, end_from, item_starts, len_of, placed_from, short_spelled, start_in, starts_from, wide_spelled}
 use Rattle.code_layout.specs.declared.emitted.EmitItem.{EmitItem}
 use Rattle.code_layout.specs.declared.form.Form.TheVariants.{Short, Wide}
 use Rattle.code_layout.proofs.Decoded.{all-items}
-use Rattle.code_layout.proofs.Spellings.{JumpsReach, all-reach, jump-len, kept-short, kept-wide, place_is, spelling}
-use Rattle.code_layout.proofs.WideItems.{HoldOf, HoldsOf, IsClose, JumpsClose, StartsWithGoto, StartsWithThrow, over_a_goto, over_a_throw}
+use Rattle.code_layout.proofs.Spellings.{all-reach, jump-len, kept-short, kept-wide, place_is, spelling}
+use Rattle.code_layout.proofs.WideItems.{HoldOf, HoldsOf, IsClose, JumpsClose, over_a_goto, over_a_throw}
 use Rattle.code_layout.proofs.Written.{end-least, start-most}
 
 -- each item has a form

@@ -11,10 +11,9 @@ use Rattle.class_model.specs.declared.class_file.Handler.{Handler}
 use Rattle.class_model.specs.declared.instr.Instr.{Instr}
 use Rattle.class_model.specs.declared.instr.Placed.{Placed}
 use Rattle.class_tree.specs.Headers.{Name}
-use Rattle.member_link.specs.Bodies.{item_instr}
 use Rattle.member_link.specs.Laws.Renumbered.{IsSamePoint, op_renumbered}
-use Rattle.member_link.specs.Machine.Codes.{CodePoint, catch_in, catches_at, code_points, instr_op, item_op, method_code, number_at, code_point, renumbered, run_point}
-use Rattle.member_link.specs.Machine.Programs.{Catch, Code, Links, Point, number_of_first}
+use Rattle.member_link.specs.Machine.Codes.{CodePoint, catch_in, catches_at, code_points, instr_op, method_code, number_at, code_point, renumbered, run_point}
+use Rattle.member_link.specs.Machine.Programs.{Code, Links, Point, number_of_first}
 use Rattle.member_link.specs.Machine.Replaced.{map_numbered}
 use Rattle.member_link.specs.RowScope.{RowScope}
 use Rattle.member_link.specs.Scope.{Scope, instructions, row_scope}

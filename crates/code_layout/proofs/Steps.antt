@@ -1,11 +1,11 @@
 -- Steps of the loops over items.
 use Rattle.member_link.specs.Targets.{HasForm}
-use Rattle.std.proofs.Common.{◌≡◌, ℕ, ◌+◌, ◌≤◌, ◌<◌, List, [], ◌∷◌, ◌++◌, length, map, drop, slice_get, get_or, Some, sym, ap, subst, ◌∙◌, append_assoc, arith}
+use Rattle.std.proofs.Common.{◌≡◌, ℕ, ◌+◌, ◌≤◌, ◌<◌, List, [], ◌∷◌, ◌++◌, length, map, drop, slice_get, get_or, Some, sym, ap, ◌∙◌, append_assoc, arith}
 use Rattle.std.proofs.lemmas.Option.{slice_get-get_or}
 use Rattle.class_model.specs.Laws.Lists.{at_index, drop_item}
 use Rattle.class_model.specs.declared.class_file.Handler.{Handler}
 use Rattle.code_layout.specs.Inner.Writing.{HaveForms}
-use Rattle.code_layout.specs.Layout.{Spelled, end_from, item_ranges, item_starts, len_of, range_of, ranges_from, start_in, starts_from}
+use Rattle.code_layout.specs.Layout.{Spelled, end_from, item_ranges, item_starts, len_of, range_of, ranges_from, starts_from}
 use Rattle.code_layout.specs.declared.emitted.EmitItem.{EmitItem}
 use Rattle.code_layout.proofs.Written.{end-least}
 

@@ -1,16 +1,16 @@
 -- Items of the wide form are emitted code too, whose conditional jumps lead to what stands close behind them.
-use Rattle.std.proofs.Common.{◌≡◌, ◌⊎◌, ℕ, zero, suc, ◌+◌, ◌≤◌, ◌<◌, Bool, true, false, List, [], ◌∷◌, ◌++◌, length, map, slice_get, Option, Some, None, inl, inr, refl, sym, ap, subst, ◌∙◌, arith, append_assoc, length-append}
+use Rattle.std.proofs.Common.{◌≡◌, ◌⊎◌, ℕ, zero, suc, ◌+◌, ◌<◌, Bool, true, false, List, [], ◌∷◌, ◌++◌, length, map, slice_get, Option, Some, None, inl, inr, refl, sym, ap, subst, ◌∙◌, arith, append_assoc, length-append}
 use Rattle.std.proofs.lemmas.Bool.{false≢true}
 use Rattle.std.proofs.lemmas.Option.{none-some, same_Some}
 use Rattle.std.specs.List.{AllByRecursion}
 use Rattle.class_model.specs.Instructions.{targets}
 use Rattle.class_model.specs.declared.instr.Imm.TheVariants as imms
 use Rattle.class_model.specs.declared.instr.Instr.{Instr}
-use Rattle.class_model.specs.declared.instr.Instr.TheVariants.{Const, Goto, If, If2, IfNull, IfSame, Lookup, Nop, Table, Throw}
+use Rattle.class_model.specs.declared.instr.Instr.TheVariants.{Const, Goto, If, If2, IfNull, IfSame, Lookup, Table, Throw}
 use Rattle.class_model.specs.declared.instr.Pair.{Pair}
 use Rattle.making_code.specs.Opposites.{opposite, opposite_instr}
 use Rattle.member_link.specs.Targets.{HasForm, pair_to, with_targets}
-use Rattle.code_layout.specs.Emitting.{HasInstr, IfNear, IsEmitted, IsItem, JumpsNear, NamesItem}
+use Rattle.code_layout.specs.Emitting.{IfNear, IsEmitted, IsItem, JumpsNear, NamesItem}
 use Rattle.code_layout.specs.Layout.{start_in}
 use Rattle.code_layout.specs.WideForm.{closing, goto_item, jump_over, nop_item, numbers_from, one_target, over_item, renumbered_catches, renumbered_item, wide_from, wide_item, wide_numbers, widened, width}
 use Rattle.code_layout.specs.declared.emitted.Catch.{Catch}

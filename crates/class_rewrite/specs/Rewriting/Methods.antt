@@ -13,9 +13,8 @@ use Rattle.class_model.specs.declared.frame.VType.{VType}
 use Rattle.class_model.specs.declared.frame.VType.TheVariants.{Object, Uninit}
 use Rattle.class_rewrite.specs.Reasons.{IsNotExpanded}
 use Rattle.class_tree.specs.Headers.{Name, Classes}
-use Rattle.code_layout.specs.Layout.{IsLaid, end_from, start_in, table_len}
+use Rattle.code_layout.specs.Layout.{IsLaid, Spelled, end_from, short_spelled, start_in, table_len, wide_spelled}
 use Rattle.code_layout.specs.PlainItems.{plain_items}
-use Rattle.code_layout.specs.WideForm.{IsWideLaid, wide_end_from}
 use Rattle.code_layout.specs.declared.emitted.EmitItem.{EmitItem}
 use Rattle.code_layout.specs.declared.laid.Laid.{Laid}
 use Rattle.expanded_code.specs.ExpandAnswers.{AnswersExpanded}
@@ -95,19 +94,16 @@ AreItems r one form pool items =
 pub record IsChosen (r : Rewriting) (one : WrittenMethod) (pool : Constants) : Type 0 where
   pub items : List EmitItem
   pub are_items : AreItems r one short pool items
-  pub form : one.form ≡ (if nat_le (end_from 0 items) 32767 then short else wide)
+  pub form : one.form ≡ (if nat_le (end_from short_spelled 0 items) 32767 then short else wide)
 
-abbrev pub end_in : Form → List EmitItem → ℕ
-end_in short items = end_from 0 items
-end_in wide items = wide_end_from 0 items
+-- how instructions are spelled in a form
+abbrev pub spelled_in : Form → Spelled
+spelled_in short = short_spelled
+spelled_in wide = wide_spelled
 
 -- the chosen form has more than 65,535 bytes, or the exception table more than 65,535 entries
 abbrev pub IsTooLong : Form → List EmitItem → Type 0
-IsTooLong form items = (65535 < end_in form items) ⊎ (65535 < table_len items)
-
-abbrev pub IsLaidIn : Form → List EmitItem → Laid → Type 0
-IsLaidIn short items laid = IsLaid items laid
-IsLaidIn wide items laid = IsWideLaid items laid
+IsTooLong form items = (65535 < end_from (spelled_in form) 0 items) ⊎ (65535 < table_len items)
 
 -- ---- the written code
 
@@ -180,7 +176,7 @@ pub record IsCoded (r : Rewriting) (at : MethodAt) (pool : Constants) (w : Rewri
 -- and laid out, with its frames
 pub record IsFramedIn (r : Rewriting) (host : Scope) (w : Rewritten) : Type 0 where
   pub fits : ¬ IsTooLong w.one.form w.items
-  pub laid : IsLaidIn w.one.form w.items w.laid
+  pub laid : IsLaid (spelled_in w.one.form) w.items w.laid
   pub state : ℕ → Option Frame
   pub body : w.body
       ≡ body_of_items host w.one.flat w.code_pool w.part.max_stack (plain_items w.items) state

@@ -1,4 +1,4 @@
-use Rattle.std.proofs.Common.{◌≡◌, ℕ, ◌≤◌, List, sym, subst, ap, ◌∙◌}
+use Rattle.std.proofs.Common.{◌≡◌, ℕ, List, sym, subst, ◌∙◌}
 use Rattle.class_model.specs.Instructions.{CodeOf}
 use Rattle.code_layout.specs.Emitting.{IsEmitted}
 use Rattle.code_layout.specs.EmittedCode.{HasCodeOf}

@@ -1,9 +1,6 @@
-use Rattle.std.proofs.Common.{◌≡◌, ◌≤◌, ℕ, List, sym, subst, ap, ◌∙◌}
-use Rattle.code_layout.specs.Inner.Writing.{ArePlaced}
+use Rattle.std.proofs.Common.{◌≡◌, ◌≤◌, List, subst, ap, ◌∙◌}
 use Rattle.code_layout.specs.Layout.{end_from, item_starts, short_spelled}
 use Rattle.code_layout.specs.declared.emitted.EmitItem.{EmitItem}
-use Rattle.code_layout.specs.declared.form.Form.TheVariants.{Short}
-use Rattle.code_layout.proofs.Chosen.{short-laid, short-within}
 use Rattle.code_layout.proofs.Placed.{have-forms, placed-short}
 use Rattle.code_layout.proofs.chosen_form.layout.Goals as goal
 

@@ -1,5 +1,4 @@
-use Rattle.std.proofs.Common.{◌≡◌, ◌<◌, ◌≤◌, ℕ, List, length, sym, subst, ap, ◌∙◌}
-use Rattle.code_layout.specs.Emitting.{IsEmitted}
+use Rattle.std.proofs.Common.{◌≡◌, ◌<◌, ◌≤◌, List, length, sym, subst, ap, ◌∙◌}
 use Rattle.code_layout.specs.Inner.Writing.{ArePlaced, HaveForms}
 use Rattle.code_layout.specs.EmittedCode.{HasCodeOf}
 use Rattle.code_layout.specs.Layout.{IsLaid, end_from, item_starts, wide_spelled}

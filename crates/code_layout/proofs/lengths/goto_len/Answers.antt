@@ -1,4 +1,4 @@
-use Rattle.std.proofs.Common.{◌≡◌, ℕ, sym, subst}
+use Rattle.std.proofs.Common.{◌≡◌, sym, subst}
 use Rattle.class_model.specs.declared.instr.Instr.TheVariants.{Goto}
 use Rattle.code_layout.specs.Inner.Writing.{spelled_in}
 use Rattle.code_layout.specs.Layout.{len_of}

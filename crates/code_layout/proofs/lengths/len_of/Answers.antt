@@ -1,4 +1,4 @@
-use Rattle.code_layout.proofs.Spellings.{HasNoTarget, jump-len, lookup-len, plain-len, plain-spelling, table-len}
+use Rattle.code_layout.proofs.Spellings.{HasNoTarget, jump-len, lookup-len, plain-spelling, table-len}
 use Rattle.code_layout.proofs.lengths.len_of.Goals as goal
 
 pub code_len-requires : goal.code_len-requires
