@@ -16,6 +16,7 @@ pub mod LessVirtual
 pub mod LibraryFrames
 pub mod LibraryTurns
 pub mod MadeItems
+pub mod Making
 pub mod NextEdges
 pub mod OverTurns
 pub mod OwnFrames
@@ -26,3 +27,4 @@ pub mod Simulation
 pub mod StandingMore
 pub mod StillThere
 pub mod Turned
+pub mod TypedKept
