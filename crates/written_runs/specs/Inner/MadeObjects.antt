@@ -1,5 +1,5 @@
 -- What make code does in the second run: it is quiet, and behind it the objects of the set are there in both runs.
-use Rattle.std.specs.Prelude.{◌≡◌, ◌≢◌, ◌==◌, ◌&&◌, ◌+◌, ◌<◌, ℕ, suc, not, List, [], ◌∷◌, filter, length, map, reverse, slice_get, Option, Some, IsTrue, option_map}
+use Rattle.std.specs.Prelude.{◌≡◌, ◌≢◌, ◌==◌, ◌&&◌, ◌+◌, ◌<◌, ℕ, suc, not, List, [], ◌∷◌, filter, length, reverse, slice_get, Some, IsTrue, option_map}
 use Rattle.class_model.specs.declared.frame.VType.{VType}
 use Rattle.class_model.specs.declared.frame.VType.TheVariants.{Top}
 use Rattle.flow_code.specs.declared.point.Point.{Point}
@@ -10,7 +10,7 @@ use Rattle.machine_values.specs.declared.frame.RunFrame.{RunFrame}
 use Rattle.machine_values.specs.declared.frame.RunFrame.TheVariants.{Method}
 use Rattle.machine_values.specs.declared.object.Shape.TheVariants.{Folder}
 use Rattle.machine_values.specs.declared.value.Value.{Value}
-use Rattle.making_code.specs.Items.{WInstr, WItem, item}
+use Rattle.making_code.specs.Items.{WInstr, item}
 use Rattle.making_code.specs.MakeCode.{Entry, entries_at, kind_of_type, make_code, saved}
 use Rattle.making_code.specs.MakeOrder.{IsMakeOrder}
 use Rattle.member_link.specs.Machine.Runs.{Run}

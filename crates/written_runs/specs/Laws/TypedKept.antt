@@ -1,9 +1,8 @@
 -- What typing of the first run tells make code of a frame at a point, by a state that has the places of the point.
-use Rattle.std.proofs.Common.{◌≡◌, ◌≢◌, ◌+◌, ◌<◌, ℕ, zero, suc, Bool, true, false, List, [], ◌∷◌, ◌++◌, drop, length, map, slice_get, take, Option, Some, None, option_map, IsTrue, refl, sym, ap, subst, ◌∙◌, arith}
-use Rattle.std.specs.List.{AllByRecursion}
+use Rattle.std.proofs.Common.{◌≡◌, ◌≢◌, ℕ, zero, suc, Bool, true, false, List, [], ◌∷◌, ◌++◌, drop, length, map, slice_get, take, Option, Some, None, option_map, IsTrue, refl, sym, ap, subst, ◌∙◌}
 use Rattle.std.proofs.lemmas.Bool.{false≢true, true≢false}
-use Rattle.std.proofs.lemmas.List.{length-append, length-map}
-use Rattle.std.proofs.lemmas.Option.{none-some, same_Some, slice_get-map, slice_get_within}
+use Rattle.std.proofs.lemmas.List.{length-map}
+use Rattle.std.proofs.lemmas.Option.{none-some, same_Some, slice_get-map}
 use Rattle.class_model.specs.Frames.{is_top}
 use Rattle.class_model.specs.Laws.Lists.{at_index}
 use Rattle.class_model.specs.declared.descriptor.FieldType.{FieldType}
@@ -41,7 +40,7 @@ use Rattle.written_runs.specs.Inner.Setup.{IsSetup, Setup, first}
 use Rattle.written_runs.specs.Inner.Standing.{apart}
 use Rattle.written_runs.specs.Laws.Halfway.{Halfway}
 use Rattle.written_runs.specs.Laws.LessVirtual.{one_owner}
-use Rattle.written_runs.specs.VirtualObjects.{HasVirtual, TellsObject, Virtual, Virtuals, local_slots, stack_slots}
+use Rattle.written_runs.specs.VirtualObjects.{HasVirtual, TellsObject, Virtual, local_slots, stack_slots}
 use Rattle.written_runs.specs.WrittenRuns.{IsReadyMethod}
 
 -- what typing gives

@@ -1,13 +1,11 @@
 -- Behind make code: what the state without the set tells of the first frame, and what the second frame keeps by it.
-use Rattle.std.proofs.Common.{◌≡◌, ◌⊎◌, inl, inr, ◌+◌, ◌≤◌, ◌<◌, ℕ, zero, suc, Bool, true, false, List, [], ◌∷◌, ◌++◌, drop, length, map, reverse, slice_get, take, Option, Some, None, option_map, IsTrue, IsFalse, refl, sym, ap, subst, ◌∙◌, arith}
+use Rattle.std.proofs.Common.{◌≡◌, ◌≤◌, ℕ, zero, suc, Bool, true, false, List, [], ◌∷◌, length, map, reverse, slice_get, Some, IsTrue, refl, sym, ap, subst, ◌∙◌}
 use Rattle.std.proofs.lemmas.Bool.{false≢true}
 use Rattle.std.proofs.lemmas.List.{drop-map, take-map}
-use Rattle.std.proofs.lemmas.Option.{none-some, same_Some, slice_get-map, slice_get_within}
+use Rattle.std.proofs.lemmas.Option.{none-some, same_Some}
 use Rattle.class_model.specs.Descriptors.{kind_of}
 use Rattle.class_model.specs.declared.descriptor.FieldType.{FieldType}
-use Rattle.flow_code.specs.FlatCode.{FlatCode}
 use Rattle.flow_code.specs.WrittenUnits.{written_units}
-use Rattle.flow_code.specs.declared.point.Point.{Point}
 use Rattle.machine_values.specs.Frames.{MethodState}
 use Rattle.machine_values.specs.Values.{has_kind, have_kinds, narrowed}
 use Rattle.machine_values.specs.declared.value.Value.{Value}
@@ -18,8 +16,8 @@ use Rattle.same_runs.specs.Renamings.{Names}
 use Rattle.virtual_state.specs.Laws.Objects.{found_site}
 use Rattle.virtual_state.specs.Laws.Removals.{WasFound, was_found}
 use Rattle.virtual_state.specs.Sites.{has}
-use Rattle.virtual_state.specs.States.{State, object_of}
-use Rattle.virtual_state.specs.Without.{made_plain, object_without, without}
+use Rattle.virtual_state.specs.States.{State}
+use Rattle.virtual_state.specs.Without.{made_plain, without}
 use Rattle.virtual_state.specs.declared.slot.Slot.{Slot}
 use Rattle.virtual_state.specs.declared.slot.Slot.TheVariants.{Plain, Virt, Unusable}
 use Rattle.virtual_state.specs.declared.slot.VObject.{VObject}
@@ -28,8 +26,8 @@ use Rattle.written_runs.specs.Inner.PlannedFrames.{KeepStack, Keeps, KeptIn, sco
 use Rattle.written_runs.specs.Inner.Setup.{Setup, first}
 use Rattle.written_runs.specs.Laws.LessVirtual.{left_of_site, one_owner, was_virtual}
 use Rattle.written_runs.specs.Laws.Making.Copies.{Absent, TellsAt, tells_at}
-use Rattle.written_runs.specs.Laws.Making.Fields.{FirstKind, first_kind, reference_narrowed}
-use Rattle.written_runs.specs.Laws.Making.Held.{HeldIn, HoldsMade, Midway, Scene, value_made}
+use Rattle.written_runs.specs.Laws.Making.Fields.{first_kind, reference_narrowed}
+use Rattle.written_runs.specs.Laws.Making.Held.{HeldIn, Midway, Scene, value_made}
 use Rattle.written_runs.specs.VirtualObjects.{HasVirtual, RefersTo, TellFields, Tells, TellsField, TellsObject, Virtual, Virtuals, local_slots, stack_slots, tells_plain, tells_virtual}
 
 -- ---- slots

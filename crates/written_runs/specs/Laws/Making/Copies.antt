@@ -1,23 +1,22 @@
 -- The objects that were made are copied to the local units that name them, and to the fields of objects that stay virtual.
-use Rattle.std.proofs.Common.{◌≡◌, ◌⊎◌, inl, inr, ◌+◌, ◌≤◌, ◌<◌, ℕ, zero, suc, Bool, true, false, List, [], ◌∷◌, ◌++◌, length, take, slice_get, Option, Some, None, is_some, IsTrue, IsFalse, refl, sym, ap, subst, ◌∙◌, arith}
+use Rattle.std.proofs.Common.{◌≡◌, ◌⊎◌, inl, inr, ◌+◌, ◌≤◌, ◌<◌, ℕ, zero, suc, Bool, true, false, List, [], ◌∷◌, length, take, slice_get, Some, is_some, IsTrue, IsFalse, refl, sym, ap, subst, ◌∙◌, arith}
 use Rattle.std.specs.List.{AllByRecursion, flat_map}
 use Rattle.std.proofs.lemmas.Bool.{false≢true}
 use Rattle.std.proofs.lemmas.Option.{none-some, same_Some, slice_get_within}
 use Rattle.class_model.specs.Descriptors.{kind_of, units_of}
 use Rattle.class_model.specs.declared.descriptor.FieldType.{FieldType}
 use Rattle.class_model.specs.declared.descriptor.Kind.TheVariants as kinds
-use Rattle.flow_code.specs.declared.point.Site.{Site}
 use Rattle.machine_values.specs.declared.value.Value.{Value}
 use Rattle.machine_values.specs.declared.value.Value.TheVariants.{Ref}
 use Rattle.making_code.specs.Items.{WInstr, load, store}
 use Rattle.making_code.specs.MakeCode.{Entry, copy_field, copy_fields_from, copy_local, copy_locals_from, copy_object}
-use Rattle.making_code.specs.Units.{WUnit, field_unit, object_unit, own, scratch, unit_number}
-use Rattle.member_link.specs.Machine.Locals.{stored, width_of}
+use Rattle.making_code.specs.Units.{WUnit, field_unit, object_unit, own, unit_number}
+use Rattle.member_link.specs.Machine.Locals.{stored}
 use Rattle.member_link.specs.Machine.Worlds.{Memory}
 use Rattle.plan_flow.specs.Written.WrittenPrograms.{WrittenMethod}
 use Rattle.same_runs.specs.Laws.Stored.{IsStored, Units, equal_or, stored_is, stores}
 use Rattle.same_runs.specs.Renamings.{Names, SameValue}
-use Rattle.virtual_state.specs.Laws.Objects.{found_site, object_behind, object_first}
+use Rattle.virtual_state.specs.Laws.Objects.{object_behind, object_first}
 use Rattle.virtual_state.specs.Sites.{has}
 use Rattle.virtual_state.specs.States.{IsIncreasing, is_present, object_of, sites_of}
 use Rattle.virtual_state.specs.declared.slot.Slot.{Slot}
@@ -26,8 +25,8 @@ use Rattle.virtual_state.specs.declared.slot.VObject.{VObject}
 use Rattle.written_runs.specs.Inner.MadeObjects.{StandAt}
 use Rattle.written_runs.specs.Inner.PlannedFrames.{scope_in}
 use Rattle.written_runs.specs.Inner.Setup.{Setup, first}
-use Rattle.written_runs.specs.Laws.Making.Held.{HeldIn, HoldsMade, Midway, SavedEntries, Scene, held_now, reference_is, saved_still, IsReference}
-use Rattle.written_runs.specs.Laws.Making.Places.{AreOther, FitsUnit, IsFieldAt, clear, field_bounds, fits_field, fits_own, narrow_kind}
+use Rattle.written_runs.specs.Laws.Making.Held.{HoldsMade, Midway, SavedEntries, Scene, held_now, reference_is, saved_still, IsReference}
+use Rattle.written_runs.specs.Laws.Making.Places.{FitsUnit, IsFieldAt, field_bounds, fits_field, fits_own, narrow_kind}
 use Rattle.written_runs.specs.Laws.Making.Steps.{Doing, Done, done_as, done_none, done_then, loads_unit, stand_behind, stand_first, stores_unit}
 use Rattle.written_runs.specs.Laws.Making.Stores.{midway_field, midway_own}
 use Rattle.written_runs.specs.VirtualObjects.{TellFields, TellsField, TellsObject, Virtuals, local_slots}

@@ -1,12 +1,12 @@
 -- The monitor of a new object is entered as often as that of the virtual one.
-use Rattle.std.proofs.Common.{◌≡◌, ◌+◌, ℕ, zero, suc, List, [], ◌∷◌, ◌++◌, Some, refl, sym, ap, subst, ◌∙◌, arith}
+use Rattle.std.proofs.Common.{◌≡◌, ◌+◌, ℕ, zero, suc, List, [], ◌∷◌, Some, refl, ap, ◌∙◌, arith}
 use Rattle.class_model.specs.declared.descriptor.Kind.TheVariants as kinds
 use Rattle.class_model.specs.declared.instr.Instr.TheVariants.{Enter}
-use Rattle.machine_values.specs.Heaps.{Heap, entered, monitor_count, object_at, with_monitor}
+use Rattle.machine_values.specs.Heaps.{Heap, entered, object_at, with_monitor}
 use Rattle.machine_values.specs.declared.object.Object.{Object}
 use Rattle.machine_values.specs.declared.value.Value.{Value}
 use Rattle.machine_values.specs.declared.value.Value.TheVariants.{Ref}
-use Rattle.making_code.specs.Items.{WInstr, load, plain}
+use Rattle.making_code.specs.Items.{load, plain}
 use Rattle.making_code.specs.MakeCode.{enters}
 use Rattle.making_code.specs.Units.{object_unit, unit_number}
 use Rattle.member_link.specs.Machine.ObjectSteps.{with_entered}

@@ -1,17 +1,14 @@
 -- What the local units of the second frame hold while make code is done, and that stores into other units leave it.
-use Rattle.std.proofs.Common.{◌≡◌, ◌⊎◌, inl, inr, ◌+◌, ◌≤◌, ◌<◌, ℕ, zero, suc, Bool, true, false, List, [], ◌∷◌, length, slice_get, Option, Some, None, IsTrue, IsFalse, refl, sym, ap, subst, ◌∙◌, arith}
+use Rattle.std.proofs.Common.{◌≡◌, ◌≤◌, ℕ, List, [], ◌∷◌, length, slice_get, Some, IsTrue, IsFalse, refl, sym, ap, subst, ◌∙◌}
 use Rattle.std.proofs.lemmas.Bool.{false≢true}
-use Rattle.std.proofs.lemmas.Option.{none-some, same_Some}
-use Rattle.class_model.specs.Descriptors.{kind_of, units_of}
-use Rattle.class_model.specs.declared.descriptor.FieldType.{FieldType}
+use Rattle.class_model.specs.Descriptors.{units_of}
 use Rattle.class_model.specs.declared.descriptor.Kind.{Kind}
 use Rattle.class_model.specs.declared.descriptor.Kind.TheVariants as kinds
 use Rattle.flow_code.specs.FlatCode.{FlatCode}
 use Rattle.flow_code.specs.WrittenUnits.{written_units}
 use Rattle.flow_code.specs.declared.point.Point.{Point}
-use Rattle.flow_code.specs.declared.point.Site.{Site}
 use Rattle.machine_values.specs.Frames.{MethodState}
-use Rattle.machine_values.specs.Values.{has_kind, is_wide_value}
+use Rattle.machine_values.specs.Values.{has_kind}
 use Rattle.machine_values.specs.declared.object.Shape.TheVariants.{Folder}
 use Rattle.machine_values.specs.declared.value.Value.{Value}
 use Rattle.machine_values.specs.declared.value.Value.TheVariants.{Int, Long, Float, Double, Null, Ref}
@@ -33,7 +30,7 @@ use Rattle.written_runs.specs.Inner.MadeObjects.{CanBeKept, CanBeSaved}
 use Rattle.written_runs.specs.Inner.PlannedFrames.{scope_in}
 use Rattle.written_runs.specs.Inner.Setup.{Setup, first}
 use Rattle.written_runs.specs.Laws.LessVirtual.{one_owner}
-use Rattle.written_runs.specs.Laws.Making.Places.{AreOther, FitsUnit, IsFieldAt, clear, fits_field, fits_object, fits_own, fits_scratch}
+use Rattle.written_runs.specs.Laws.Making.Places.{AreOther, FitsUnit, clear}
 use Rattle.written_runs.specs.VirtualObjects.{AreApart, HasVirtual, RefersTo, Tells, Virtual, Virtuals, local_slots}
 
 -- ---- the first run

@@ -1,5 +1,5 @@
 -- The objects of a set are made in the make order.
-use Rattle.std.proofs.Common.{◌≡◌, ◌⊎◌, inl, inr, ◌==◌, ◌+◌, ℕ, zero, suc, Bool, true, false, not, List, [], ◌∷◌, ◌++◌, filter, length, slice_get, Option, Some, None, IsTrue, IsFalse, refl, sym, ap, subst, ◌∙◌}
+use Rattle.std.proofs.Common.{◌≡◌, ◌⊎◌, inl, inr, ◌==◌, ◌+◌, ℕ, zero, suc, Bool, true, false, not, List, [], ◌∷◌, filter, length, slice_get, Some, IsTrue, refl, sym, ap, subst, ◌∙◌}
 use Rattle.std.specs.List.{flat_map, list_any}
 use Rattle.std.proofs.lemmas.Bool.{eq-eqb, eqb-true, ne_eqb, false≢true}
 use Rattle.std.proofs.lemmas.Option.{none-some, same_Some}
@@ -8,7 +8,7 @@ use Rattle.flow_code.specs.declared.point.Site.{Site}
 use Rattle.machine_values.specs.declared.value.Value.{Value}
 use Rattle.making_code.specs.Items.{WInstr}
 use Rattle.making_code.specs.MakeCode.{Entry, make_object, make_one}
-use Rattle.making_code.specs.MakeOrder.{ComesNext, IsMakeOrder, all_made, names_one, one_next}
+use Rattle.making_code.specs.MakeOrder.{ComesNext, IsMakeOrder, all_made, one_next}
 use Rattle.member_link.specs.Machine.Worlds.{Memory}
 use Rattle.plan_flow.specs.Written.WrittenPrograms.{WrittenMethod}
 use Rattle.same_runs.specs.Laws.Names.{more_and_more, names_themselves}
@@ -16,19 +16,17 @@ use Rattle.same_runs.specs.Laws.Stored.{Units, equal_or}
 use Rattle.same_runs.specs.Renamings.{Names}
 use Rattle.virtual_state.specs.Laws.Objects.{found_present, found_site}
 use Rattle.virtual_state.specs.Sites.{has}
-use Rattle.virtual_state.specs.States.{IsEdge, State, is_virtual, names as named_in, object_of}
+use Rattle.virtual_state.specs.States.{State, is_virtual, names as named_in, object_of}
 use Rattle.virtual_state.specs.declared.slot.Slot.{Slot}
-use Rattle.virtual_state.specs.declared.slot.Slot.TheVariants.{Plain, Virt, Unusable}
+use Rattle.virtual_state.specs.declared.slot.Slot.TheVariants.{Virt}
 use Rattle.virtual_state.specs.declared.slot.VObject.{VObject}
 use Rattle.written_runs.specs.Inner.MadeObjects.{StandAt}
-use Rattle.written_runs.specs.Inner.PlannedFrames.{scope_in}
-use Rattle.written_runs.specs.Inner.Setup.{Setup, first}
+use Rattle.written_runs.specs.Inner.Setup.{Setup}
 use Rattle.written_runs.specs.Laws.Making.Asked.{MakingLaws}
 use Rattle.written_runs.specs.Laws.Making.Held.{Midway, SavedEntries, Scene}
 use Rattle.written_runs.specs.Laws.Making.One.{AreMade, SameLess, makes_one}
 use Rattle.written_runs.specs.Laws.Making.Steps.{Doing, done_none, done_then, stand_behind, stand_first}
 use Rattle.written_runs.specs.Laws.Making.Stores.{has_one}
-use Rattle.written_runs.specs.VirtualObjects.{TellsObject}
 
 -- ---- sets of sites
 
@@ -214,20 +212,20 @@ module _ {u : Setup} {w : WrittenMethod} (laws : MakingLaws u) (d : Doing u w) (
       → StandAt u w place (flat_map (make_one w.flat s.state) order)
       → AreAllMade names (flat_map (make_one w.flat s.state) order) place steps memory units stack
   makes_all names done place steps memory units stack all_made split midway entries memories stand = record {
-        all = done;
-        covers = λ site among. elim (split.either site among) [ inl old ↦ old | inr none ↦ absurd (false≢true none) ];
-        sound = split.sound;
-        made = record {
-          more = names;
-          grows = names_themselves names;
-          later = memory;
-          after = units;
-          done = done_none d place steps memory units stack;
-          midway = midway;
-          entries = entries;
-          memories = memories;
-        };
-      }
+    all = done;
+    covers = λ site among. elim (split.either site among) [ inl old ↦ old | inr none ↦ absurd (false≢true none) ];
+    sound = split.sound;
+    made = record {
+      more = names;
+      grows = names_themselves names;
+      later = memory;
+      after = units;
+      done = done_none d place steps memory units stack;
+      midway = midway;
+      entries = entries;
+      memories = memories;
+    };
+  }
   makes_all names done place steps memory units stack (one_next left order site next rest) split midway entries memories stand =
       let step = makes_next names done left site place steps memory units stack next split midway entries memories
       (stand_first (make_one w.flat s.state site) (flat_map (make_one w.flat s.state) order) stand) in

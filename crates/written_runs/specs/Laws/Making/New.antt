@@ -1,18 +1,13 @@
 -- A new object of the second run: its class is begun first, quietly, where the first run has begun it alone.
-use Rattle.std.proofs.Common.{◌≡◌, ◌+◌, nat_le, ℕ, Bool, true, false, List, [], ◌∷◌, length, Some, IsTrue, refl, sym, ap, subst, ◌∙◌, arith}
+use Rattle.std.proofs.Common.{◌≡◌, ◌+◌, ℕ, Bool, true, false, List, [], ◌∷◌, length, Some, IsTrue, refl, arith}
 use Rattle.std.proofs.lemmas.Bool.{le-leb}
 use Rattle.class_tree.specs.Headers.{Name}
-use Rattle.machine_values.specs.Frames.{MethodState}
 use Rattle.machine_values.specs.declared.frame.RunFrame.TheVariants.{Method}
 use Rattle.machine_values.specs.declared.value.Value.{Value}
 use Rattle.machine_values.specs.declared.value.Value.TheVariants.{Ref}
 use Rattle.making_code.specs.Items.{WInstr, makes}
-use Rattle.member_link.specs.Machine.Completions.{begins, gives}
 use Rattle.member_link.specs.Machine.ObjectSteps.{blank_object}
-use Rattle.member_link.specs.Machine.Ops.{new_object}
 use Rattle.member_link.specs.Machine.Programs.{folder_number}
-use Rattle.member_link.specs.Machine.Runs.{Run}
-use Rattle.member_link.specs.Machine.Work.{work}
 use Rattle.member_link.specs.Machine.Worlds.{Memory, is_begun}
 use Rattle.plan_flow.specs.Written.WrittenPrograms.{WrittenMethod}
 use Rattle.same_runs.specs.Laws.Names.{names_themselves}

@@ -1,6 +1,5 @@
 -- Make code of one site: its object is made by its field constructor, locked as often as the virtual one, and stands in its unit.
-use Rattle.std.proofs.Common.{◌≡◌, ◌≢◌, ◌+◌, ◌≤◌, ◌<◌, ℕ, zero, suc, Bool, true, false, List, [], ◌∷◌, ◌++◌, bytes_eq, length, map, reverse, slice_get, Option, Some, None, IsTrue, IsFalse, refl, sym, ap, subst, ◌∙◌, arith}
-use Rattle.std.specs.List.{AllByRecursion}
+use Rattle.std.proofs.Common.{◌≡◌, ◌+◌, ◌<◌, ℕ, Bool, true, false, List, [], ◌∷◌, ◌++◌, bytes_eq, length, reverse, slice_get, Some, IsTrue, refl, sym, ap, subst, ◌∙◌, arith}
 use Rattle.std.proofs.lemmas.List.{length-map}
 use Rattle.std.proofs.lemmas.Option.{slice_get_within}
 use Rattle.class_model.specs.Laws.Lists.{at_index}
@@ -11,24 +10,22 @@ use Rattle.class_model.specs.declared.header.Member.{Member}
 use Rattle.class_model.specs.declared.instr.Imm.TheVariants as imms
 use Rattle.class_model.specs.declared.instr.Instr.TheVariants.{Const, Shuffle}
 use Rattle.class_model.specs.declared.opcodes.TheConstants.{DUP}
-use Rattle.class_tree.specs.Headers.{Name, class_named, headers_of, named}
-use Rattle.class_tree.specs.Layouts.{chain, instance_fields}
+use Rattle.class_tree.specs.Headers.{Name, headers_of, named}
+use Rattle.class_tree.specs.Layouts.{instance_fields}
 use Rattle.expanded_code.specs.CandidateSites.{IsSite}
-use Rattle.flow_code.specs.WrittenUnits.{written_units}
-use Rattle.flow_code.specs.declared.point.Site.{Site}
-use Rattle.machine_values.specs.Heaps.{Heap, object_at}
+use Rattle.machine_values.specs.Heaps.{object_at}
 use Rattle.machine_values.specs.Values.{blank_value, blank_values}
 use Rattle.machine_values.specs.declared.object.Object.{Object}
 use Rattle.machine_values.specs.declared.object.Shape.TheVariants.{Folder}
 use Rattle.machine_values.specs.declared.value.Value.{Value}
 use Rattle.machine_values.specs.declared.value.Value.TheVariants.{Null, Ref}
 use Rattle.making_code.specs.Items.{WInstr, constructs, item, makes, plain, store}
-use Rattle.making_code.specs.MakeCode.{Entry, enters, load_fields_from, make_object, make_one}
+use Rattle.making_code.specs.MakeCode.{Entry, enters, load_fields_from, make_object}
 use Rattle.making_code.specs.Units.{field_unit, object_unit, unit_number}
 use Rattle.member_link.specs.Machine.Locals.{stored}
 use Rattle.member_link.specs.Machine.Programs.{folder_number, headers_in, name_of_class}
-use Rattle.member_link.specs.Machine.Worlds.{Memory, is_begun}
-use Rattle.plan_flow.specs.Written.WrittenPrograms.{HasConstructor, MakesClass, WrittenMethod}
+use Rattle.member_link.specs.Machine.Worlds.{Memory}
+use Rattle.plan_flow.specs.Written.WrittenPrograms.{MakesClass, WrittenMethod}
 use Rattle.same_runs.specs.Laws.Apart.{IsNoName, name_made, second_changes}
 use Rattle.same_runs.specs.Laws.FirstBeginnings.{folder_name}
 use Rattle.same_runs.specs.Laws.Heaps.{new_no_name, second_allocates}
@@ -40,12 +37,12 @@ use Rattle.same_runs.specs.Renamings.{Names, NamesMore, SameObject, same_referen
 use Rattle.same_runs.specs.SameMemories.{SameHeaps, SameMemories, SameStatics, StaysApart}
 use Rattle.virtual_state.specs.Sites.{has}
 use Rattle.virtual_state.specs.States.{object_of}
-use Rattle.virtual_state.specs.declared.slot.Slot.TheVariants.{Plain, Virt}
+use Rattle.virtual_state.specs.declared.slot.Slot.TheVariants.{Virt}
 use Rattle.virtual_state.specs.declared.slot.VObject.{VObject}
 use Rattle.written_runs.specs.Inner.MadeObjects.{StandAt, left_of}
 use Rattle.written_runs.specs.Inner.PlannedFrames.{scope_in}
 use Rattle.written_runs.specs.Inner.Setup.{Setup, first, second}
-use Rattle.written_runs.specs.Inner.Standing.{apart, comparison, entered}
+use Rattle.written_runs.specs.Inner.Standing.{apart, comparison}
 use Rattle.written_runs.specs.Laws.Constructs.{fills_blank}
 use Rattle.written_runs.specs.Laws.FieldConstructors.{FillsObjects, GoesOn, filled, filled_there, reference_of_constructor}
 use Rattle.written_runs.specs.Laws.GivenValues.{FitTypes, fit_length, types_of}
@@ -55,10 +52,10 @@ use Rattle.written_runs.specs.Laws.Making.Fields.{AreHeld, AreLoaded, loads_fiel
 use Rattle.written_runs.specs.Laws.Making.Held.{HeldIn, HoldsMade, Midway, SavedEntries, Scene, held_now, midway_more, saved_more, saved_still}
 use Rattle.written_runs.specs.Laws.Making.Left.{among, fewer_entered, fewer_left, is_apart, others_differ}
 use Rattle.written_runs.specs.Laws.Making.New.{NewMade, new_made, with_new}
-use Rattle.written_runs.specs.Laws.Making.Places.{FitsUnit, fits_object}
-use Rattle.written_runs.specs.Laws.Making.Steps.{Doing, Done, at_point, done_as, done_then, doubles, frame_of, item_is, point_for, pushes_null, stand_behind, stand_first, stores_unit}
+use Rattle.written_runs.specs.Laws.Making.Places.{fits_object}
+use Rattle.written_runs.specs.Laws.Making.Steps.{Doing, Done, at_point, done_then, doubles, frame_of, item_is, point_for, pushes_null, stand_behind, stand_first, stores_unit}
 use Rattle.written_runs.specs.Laws.Making.Stores.{midway_made, midway_object}
-use Rattle.written_runs.specs.VirtualObjects.{TellsObject, Virtual, Virtuals}
+use Rattle.written_runs.specs.VirtualObjects.{TellsObject, Virtuals}
 use Rattle.written_runs.specs.WrittenRuns.{IsReadyMethod}
 
 -- ---- classes

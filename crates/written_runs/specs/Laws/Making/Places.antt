@@ -1,7 +1,7 @@
 -- The local units of written code do not overlap, so that what is stored in one leaves the values in the others.
-use Rattle.std.proofs.Common.{◌≡◌, ◌⊎◌, inl, inr, ◌+◌, ◌≤◌, ◌<◌, ℕ, zero, suc, List, [], ◌∷◌, length, take, slice_get, Option, Some, None, refl, sym, ap, subst, ◌∙◌, arith}
+use Rattle.std.proofs.Common.{◌≡◌, ◌⊎◌, inl, inr, ◌+◌, ◌≤◌, ◌<◌, ℕ, zero, suc, List, [], ◌∷◌, length, take, slice_get, Some, refl, sym, ap, arith}
 use Rattle.std.proofs.lemmas.List.Sums.{sum_by-cons}
-use Rattle.std.proofs.lemmas.Option.{none-some, same_Some, slice_get_within}
+use Rattle.std.proofs.lemmas.Option.{none-some, same_Some}
 use Rattle.class_model.specs.Descriptors.{kind_of, parameter_units, units_of}
 use Rattle.class_model.specs.declared.descriptor.FieldType.{FieldType}
 use Rattle.class_model.specs.declared.descriptor.Kind.{Kind}
@@ -10,9 +10,9 @@ use Rattle.flow_code.specs.FlatCode.{FlatCode}
 use Rattle.flow_code.specs.WrittenUnits.{field_units}
 use Rattle.flow_code.specs.declared.point.Site.{Site}
 use Rattle.machine_values.specs.declared.value.Value.{Value}
-use Rattle.making_code.specs.Units.{WUnit, field_unit, fields_at, first_field_unit, first_object_unit, first_scratch_unit, object_unit, own, scratch, unit_number}
+use Rattle.making_code.specs.Units.{WUnit, field_unit, fields_at, first_field_unit, first_object_unit, object_unit, own, scratch, unit_number}
 use Rattle.member_link.specs.Machine.Locals.{width_of}
-use Rattle.same_runs.specs.Laws.Stored.{IsClear, equal_or, width_low}
+use Rattle.same_runs.specs.Laws.Stored.{IsClear, equal_or}
 
 -- ---- what fits
 

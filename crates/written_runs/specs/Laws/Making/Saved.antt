@@ -1,41 +1,32 @@
 -- The stack entries above the lowest virtual object that is made: they are saved in scratch units, and loaded again behind the objects that were
 -- made.
-use Rattle.std.proofs.Common.{◌≡◌, ◌⊎◌, inl, inr, ◌+◌, ◌≤◌, ◌<◌, ℕ, zero, suc, Bool, true, false, List, [], ◌∷◌, ◌++◌, filter, length, map, reverse, slice_get, Option, Some, None, IsTrue, IsFalse, refl, sym, ap, subst, ◌∙◌, arith}
-use Rattle.std.specs.List.{flat_map}
-use Rattle.std.proofs.lemmas.Bool.{false≢true}
-use Rattle.std.proofs.lemmas.List.{append_assoc, length-append, map-append, reverse-append}
-use Rattle.std.proofs.lemmas.Option.{none-some, same_Some}
-use Rattle.class_model.specs.Descriptors.{units_of}
+use Rattle.std.proofs.Common.{◌≡◌, inr, ◌+◌, ◌≤◌, ℕ, suc, List, [], ◌∷◌, ◌++◌, filter, length, map, reverse, slice_get, Some, IsTrue, refl, sym, ap, subst, ◌∙◌, arith}
+use Rattle.std.proofs.lemmas.List.{length-append, map-append, reverse-append}
 use Rattle.class_model.specs.Frames.{depth, units, units_of_entries}
 use Rattle.class_model.specs.declared.descriptor.Kind.TheVariants as kinds
 use Rattle.class_model.specs.declared.frame.VType.{VType}
 use Rattle.class_model.specs.declared.frame.VType.TheVariants as vtypes
 use Rattle.machine_values.specs.Values.{has_kind}
 use Rattle.machine_values.specs.declared.value.Value.{Value}
-use Rattle.machine_values.specs.declared.value.Value.TheVariants.{Ref}
-use Rattle.making_code.specs.Items.{WInstr, load, store}
-use Rattle.making_code.specs.MakeCode.{Entry, entries_from, from_lowest, is_plain, kind_of_type, load_entry, names_in, save, saved}
-use Rattle.making_code.specs.Units.{WUnit, first_scratch_unit, object_unit, scratch, unit_number}
+use Rattle.making_code.specs.Items.{WInstr}
+use Rattle.making_code.specs.MakeCode.{Entry, entries_from, is_plain, kind_of_type, save}
+use Rattle.making_code.specs.Units.{first_scratch_unit, scratch, unit_number}
 use Rattle.member_link.specs.Machine.Locals.{stored, width_of}
 use Rattle.member_link.specs.Machine.Worlds.{Memory}
 use Rattle.plan_flow.specs.Written.WrittenPrograms.{WrittenMethod}
-use Rattle.same_runs.specs.Laws.Moves.{same_kind, same_wide}
-use Rattle.same_runs.specs.Laws.Names.{value_more}
+use Rattle.same_runs.specs.Laws.Moves.{same_kind}
 use Rattle.same_runs.specs.Laws.Stored.{IsStored, Units, stored_is, stores}
-use Rattle.same_runs.specs.Renamings.{Names, NamesMore, SameValue, SameValues, and_value, no_values}
-use Rattle.virtual_state.specs.Sites.{has}
-use Rattle.virtual_state.specs.Without.{made_plain}
+use Rattle.same_runs.specs.Renamings.{Names, SameValue}
 use Rattle.virtual_state.specs.declared.slot.Slot.{Slot}
 use Rattle.virtual_state.specs.declared.slot.Slot.TheVariants.{Plain, Virt, Unusable}
 use Rattle.written_runs.specs.Inner.MadeObjects.{StandAt}
 use Rattle.written_runs.specs.Inner.PlannedFrames.{KeepStack}
 use Rattle.written_runs.specs.Inner.Setup.{Setup}
 use Rattle.written_runs.specs.Laws.GivenValues.{push_one}
-use Rattle.written_runs.specs.Laws.Making.Held.{HeldIn, HoldsMade, Midway, SavedEntries, Scene, held_now, held_still, reference_is, saved_still, width_of_kind}
-use Rattle.written_runs.specs.Laws.Making.Places.{AreOther, FitsUnit, fits_scratch}
-use Rattle.written_runs.specs.Laws.Making.Steps.{Doing, Done, done_as, done_none, done_then, loads_unit, stand_behind, stand_first, stores_unit}
+use Rattle.written_runs.specs.Laws.Making.Held.{Midway, SavedEntries, Scene, held_now, held_still, width_of_kind}
+use Rattle.written_runs.specs.Laws.Making.Places.{fits_scratch}
+use Rattle.written_runs.specs.Laws.Making.Steps.{Doing, Done, done_as, done_none, done_then, stand_behind, stand_first, stores_unit}
 use Rattle.written_runs.specs.Laws.Making.Stores.{midway_scratch}
-use Rattle.written_runs.specs.VirtualObjects.{HasVirtual, RefersTo, Virtual}
 
 -- ---- entries
 

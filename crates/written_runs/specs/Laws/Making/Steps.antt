@@ -1,5 +1,5 @@
 -- The instructions of make code, one by one, as quiet turns of the second run.
-use Rattle.std.proofs.Common.{◌≡◌, ◌+◌, ◌<◌, ℕ, zero, suc, true, List, [], ◌∷◌, ◌++◌, length, slice_get, Option, Some, None, option_map, option_and_then, IsTrue, refl, sym, ap, subst, ◌∙◌, arith}
+use Rattle.std.proofs.Common.{◌≡◌, ◌+◌, ◌<◌, ℕ, zero, suc, List, [], ◌∷◌, ◌++◌, length, slice_get, Option, Some, option_map, option_and_then, IsTrue, refl, ap, subst, ◌∙◌, arith}
 use Rattle.std.proofs.lemmas.Bool.{le-leb}
 use Rattle.std.proofs.lemmas.List.{length-append}
 use Rattle.class_model.specs.declared.class_file.MethodAt.{MethodAt}
@@ -17,18 +17,15 @@ use Rattle.machine_values.specs.declared.value.Value.{Value}
 use Rattle.machine_values.specs.declared.value.Value.TheVariants.{Null, Ref}
 use Rattle.making_code.specs.Items.{WInstr, item, load, plain, store}
 use Rattle.making_code.specs.Units.{WUnit, unit_number}
-use Rattle.member_link.specs.Machine.Completions.{gives}
 use Rattle.member_link.specs.Machine.Locals.{local_value, stored}
 use Rattle.member_link.specs.Machine.ObjectSteps.{with_entered}
 use Rattle.member_link.specs.Machine.Ops.{Op}
 use Rattle.member_link.specs.Machine.Programs.{Code, Point, code_at, point_at}
 use Rattle.member_link.specs.Machine.Runs.{Run}
-use Rattle.member_link.specs.Machine.Work.{work}
 use Rattle.member_link.specs.Machine.Worlds.{Memory, going}
 use Rattle.member_link.specs.Scope.{Scope}
 use Rattle.plan_flow.specs.Written.WrittenCode.{written_code, written_op, written_point}
 use Rattle.plan_flow.specs.Written.WrittenPrograms.{WrittenMethod, items_of}
-use Rattle.same_runs.specs.Laws.Operations.{WorksOnOperands}
 use Rattle.same_runs.specs.Laws.QuietBeginnings.{quietly_then, standing}
 use Rattle.same_runs.specs.Laws.QuietCalls.{quiet_gives}
 use Rattle.same_runs.specs.Laws.QuietMoves.{moves_quietly}

@@ -1,11 +1,9 @@
 -- What the second frame's local units hold behind the stores of make code.
-use Rattle.std.proofs.Common.{◌≡◌, ◌⊎◌, inl, inr, ◌==◌, ◌+◌, ◌≤◌, ◌<◌, ℕ, zero, suc, Bool, true, false, List, [], ◌∷◌, length, slice_get, take, Option, Some, None, IsTrue, IsFalse, refl, sym, ap, subst, ◌∙◌, arith}
+use Rattle.std.proofs.Common.{◌≡◌, ◌⊎◌, inl, inr, ◌==◌, ◌+◌, ◌≤◌, ◌<◌, ℕ, suc, Bool, true, false, List, ◌∷◌, length, slice_get, Some, IsTrue, IsFalse, refl, sym, ap, subst, ◌∙◌, arith}
 use Rattle.std.proofs.lemmas.Bool.{eqb-true, false≢true}
-use Rattle.std.proofs.lemmas.Option.{none-some, same_Some, slice_get_within}
-use Rattle.class_model.specs.Descriptors.{kind_of, units_of}
+use Rattle.std.proofs.lemmas.Option.{same_Some}
+use Rattle.class_model.specs.Descriptors.{kind_of}
 use Rattle.class_model.specs.declared.descriptor.FieldType.{FieldType}
-use Rattle.class_model.specs.declared.descriptor.Kind.{Kind}
-use Rattle.class_model.specs.declared.descriptor.Kind.TheVariants as kinds
 use Rattle.flow_code.specs.WrittenUnits.{written_units}
 use Rattle.machine_values.specs.Values.{is_wide_value}
 use Rattle.machine_values.specs.declared.value.Value.{Value}
@@ -15,16 +13,16 @@ use Rattle.member_link.specs.Machine.Locals.{width_of}
 use Rattle.plan_flow.specs.Written.WrittenPrograms.{WrittenMethod}
 use Rattle.same_runs.specs.Laws.Moves.{same_wide}
 use Rattle.same_runs.specs.Laws.Stored.{IsStored, Units, equal_or}
-use Rattle.same_runs.specs.Renamings.{Names, NamesMore, SameValue, same_reference}
+use Rattle.same_runs.specs.Renamings.{Names, NamesMore, SameValue}
 use Rattle.virtual_state.specs.Sites.{has}
 use Rattle.virtual_state.specs.States.{object_of}
 use Rattle.virtual_state.specs.declared.slot.Slot.{Slot}
 use Rattle.virtual_state.specs.declared.slot.Slot.TheVariants.{Plain, Virt, Unusable}
 use Rattle.virtual_state.specs.declared.slot.VObject.{VObject}
 use Rattle.written_runs.specs.Inner.Setup.{Setup}
-use Rattle.written_runs.specs.Laws.Making.Held.{HeldIn, HoldsMade, Midway, Scene, held_still, made_still, midway_more}
+use Rattle.written_runs.specs.Laws.Making.Held.{HoldsMade, Midway, Scene, held_still, made_still, midway_more}
 use Rattle.written_runs.specs.Laws.Making.Places.{FitsUnit, IsFieldAt, fits_field, fits_object, fits_own, fits_scratch, narrow_kind}
-use Rattle.written_runs.specs.VirtualObjects.{HasVirtual, Virtual, local_slots}
+use Rattle.written_runs.specs.VirtualObjects.{local_slots}
 
 -- ---- sets of sites
 
@@ -149,7 +147,7 @@ module _ {u : Setup} {w : WrittenMethod} (s : Scene u w) where
       by true e (inl less) =
           let two : width_of also ≡ 2 = rw (same_wide same ∙ e) refl in
           let next : suc other ≡ unit → ⊥ = λ equal.
-              not_unusable (local_slots s.point s.state) (suc other) (s.kept.wide other v plain at e) (ap (slice_get (local_slots s.point s.state)) equal ∙ here) in
+          not_unusable (local_slots s.point s.state) (suc other) (s.kept.wide other v plain at e) (ap (slice_get (local_slots s.point s.state)) equal ∙ here) in
           inl (omega (arith, less, two, next))
 
     by_unit : (other of : ℕ) → more_copied other → slice_get (local_slots s.point s.state) other ≡ Some (Virt of) → IsTrue (has s.made of)

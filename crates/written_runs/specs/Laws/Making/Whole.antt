@@ -1,16 +1,16 @@
 -- Make code makes the objects: the parts one behind the other.
-use Rattle.std.proofs.Common.{◌≡◌, ◌⊎◌, inl, inr, ◌==◌, ◌&&◌, not, ◌+◌, ◌≤◌, ◌<◌, max, ℕ, zero, suc, Bool, true, false, List, [], ◌∷◌, ◌++◌, drop, filter, length, map, reverse, slice_get, take, Option, Some, None, IsTrue, IsFalse, refl, sym, ap, subst, ◌∙◌, arith}
-use Rattle.std.specs.List.{AllByRecursion, flat_map}
+use Rattle.std.proofs.Common.{◌≡◌, inr, ◌==◌, ◌&&◌, not, ◌+◌, ◌≤◌, ◌<◌, ℕ, zero, suc, Bool, true, false, List, [], ◌∷◌, ◌++◌, filter, length, map, reverse, slice_get, Option, Some, IsTrue, refl, sym, ap, subst, ◌∙◌, arith}
+use Rattle.std.specs.List.{flat_map}
 use Rattle.std.proofs.Math.Nat.{le-max_left, le-max_right}
 use Rattle.std.proofs.lemmas.Bool.{false≢true, true≢false}
-use Rattle.std.proofs.lemmas.List.{length-append, length-reverse, reverse-append, reverse-reverse}
+use Rattle.std.proofs.lemmas.List.{length-reverse, reverse-append, reverse-reverse}
 use Rattle.std.proofs.lemmas.Option.{none-some, same_Some, slice_get_within}
 use Rattle.class_model.specs.Descriptors.{kind_of, units_of}
 use Rattle.class_model.specs.Frames.{depth}
 use Rattle.class_model.specs.Laws.Lists.{at_index}
 use Rattle.class_model.specs.declared.frame.VType.{VType}
 use Rattle.flow_code.specs.FlatCode.{point_at}
-use Rattle.flow_code.specs.WrittenUnits.{greatest_depth, written_units}
+use Rattle.flow_code.specs.WrittenUnits.{greatest_depth}
 use Rattle.flow_code.specs.declared.point.Point.{Point}
 use Rattle.machine_values.specs.Frames.{MethodState}
 use Rattle.machine_values.specs.Values.{has_kind, is_wide_value}
@@ -19,42 +19,40 @@ use Rattle.machine_values.specs.declared.frame.RunFrame.TheVariants.{Method}
 use Rattle.machine_values.specs.declared.value.Value.{Value}
 use Rattle.making_code.specs.Items.{WInstr}
 use Rattle.making_code.specs.MakeCode.{Entry, copy_locals_from, copy_object, entries_at, entries_from, entries_in, from_lowest, is_plain, load_entry, local_slots_in, make_code, make_one, save, saved}
-use Rattle.making_code.specs.MakeOrder.{IsMakeOrder}
-use Rattle.making_code.specs.Units.{field_unit, first_scratch_unit, own, unit_number}
+use Rattle.making_code.specs.Units.{field_unit, own, unit_number}
 use Rattle.member_link.specs.Machine.Locals.{width_of}
 use Rattle.member_link.specs.Machine.Runs.{Run}
 use Rattle.member_link.specs.Machine.Worlds.{Memory}
 use Rattle.plan_flow.specs.Written.WrittenPrograms.{WrittenMethod}
 use Rattle.same_runs.specs.Laws.Moves.{same_kind, same_wide}
 use Rattle.same_runs.specs.Laws.QuietBeginnings.{standing}
-use Rattle.same_runs.specs.Laws.Stored.{Units}
 use Rattle.same_runs.specs.Renamings.{Names}
 use Rattle.same_runs.specs.SameMemories.{SameMemories}
 use Rattle.same_runs.specs.Simulations.{Quietly}
 use Rattle.virtual_state.specs.Laws.Objects.{found_site, present_found}
 use Rattle.virtual_state.specs.Sites.{has}
-use Rattle.virtual_state.specs.States.{State, is_present, object_of}
+use Rattle.virtual_state.specs.States.{State, object_of}
 use Rattle.virtual_state.specs.Without.{made_plain, without}
 use Rattle.virtual_state.specs.declared.slot.Slot.{Slot}
 use Rattle.virtual_state.specs.declared.slot.Slot.TheVariants.{Plain, Virt, Unusable}
 use Rattle.virtual_state.specs.declared.slot.VObject.{VObject}
 use Rattle.written_runs.specs.Inner.MadeObjects.{BeforeMaking, BehindMaking, MakesObjects, StandAt, left_of}
-use Rattle.written_runs.specs.Inner.PlannedFrames.{KeepStack, Keeps, KeptIn, scope_in}
+use Rattle.written_runs.specs.Inner.PlannedFrames.{KeepStack, KeptIn, scope_in}
 use Rattle.written_runs.specs.Inner.Setup.{Setup, first, second}
 use Rattle.written_runs.specs.Inner.Standing.{apart, comparison}
 use Rattle.written_runs.specs.Laws.LessVirtual.{one_owner}
 use Rattle.written_runs.specs.Laws.Making.Asked.{MakingLaws}
 use Rattle.written_runs.specs.Laws.Making.Behind.{keeps_without, stack_are, tells_without}
 use Rattle.written_runs.specs.Laws.Making.Copies.{Absent, AreCopied, Before, TellsAt, copies_locals, copies_objects, each_found, midway_as, take_low, tells_at}
-use Rattle.written_runs.specs.Laws.Making.Cuts.{Cut, IsUpper, cut, upper_kinds}
-use Rattle.written_runs.specs.Laws.Making.Held.{HeldIn, Midway, SavedEntries, Scene, width_of_kind}
-use Rattle.written_runs.specs.Laws.Making.InOrder.{AreAllMade, AreSplit, makes_all}
+use Rattle.written_runs.specs.Laws.Making.Cuts.{Cut, cut, upper_kinds}
+use Rattle.written_runs.specs.Laws.Making.Held.{HeldIn, Midway, Scene, width_of_kind}
+use Rattle.written_runs.specs.Laws.Making.InOrder.{AreAllMade, makes_all}
 use Rattle.written_runs.specs.Laws.Making.One.{SameLess}
 use Rattle.written_runs.specs.Laws.Making.Places.{fits_field, fits_own}
-use Rattle.written_runs.specs.Laws.Making.Restacked.{AllRefer, AreStacked, restacks}
-use Rattle.written_runs.specs.Laws.Making.Saved.{AllUsable, AreMany, AreSaved, HasKinds, are_many, saves}
-use Rattle.written_runs.specs.Laws.Making.Steps.{Doing, Done, done_as, done_then, frame_of, run_at, stand_behind, stand_first}
-use Rattle.written_runs.specs.VirtualObjects.{HasVirtual, TellsField, TellsObject, Virtual, Virtuals, local_slots, stack_slots, tells_plain, tells_virtual}
+use Rattle.written_runs.specs.Laws.Making.Restacked.{AreStacked, restacks}
+use Rattle.written_runs.specs.Laws.Making.Saved.{AllUsable, AreSaved, HasKinds, are_many, saves}
+use Rattle.written_runs.specs.Laws.Making.Steps.{Doing, Done, done_as, done_then, frame_of, stand_behind, stand_first}
+use Rattle.written_runs.specs.VirtualObjects.{HasVirtual, TellsField, TellsObject, Virtual, Virtuals, local_slots, stack_slots, tells_plain}
 use Rattle.written_runs.specs.WrittenRuns.{IsReadyMethod}
 
 -- ---- what is left
