@@ -152,7 +152,8 @@ module _ {u : Setup} {w : WrittenMethod} (d : Doing u w) (s : Scene u w) (names 
   loads_fields (type ∷ types) (slot ∷ slots) [] stack number place steps memory told all_kinds held stand = absurd told
   loads_fields (type ∷ types) (slot ∷ slots) (value ∷ values) stack number place steps memory told all_kinds held stand =
       by slot told.0 held stand
-      (λ middle more stand_more. loads_fields types slots values more (suc number) (place + 1) middle memory told.1 kind.rest (held_behind held) stand_more) where
+      (λ middle more stand_more.
+      loads_fields types slots values more (suc number) (place + 1) middle memory told.1 kind.rest (held_behind held) stand_more) where
         kind : FirstKind type types value values
         kind = first_kind type types value values all_kinds
 

@@ -135,20 +135,22 @@ module _ {u : Setup} {w : WrittenMethod} (s : Scene u w) where
     apart : (other : ℕ) (v also : Value) → slice_get (local_slots s.point s.state) other ≡ Some Plain
         → slice_get s.f.locals other ≡ Some (Some v) → SameValue names v also
         → (other + width_of also ≤ unit) ⊎ (unit + 1 ≤ other)
-    apart other v also plain at same = by (is_wide_value v) refl (order other unit (λ e. not_plain (local_slots s.point s.state) other plain (ap (slice_get (local_slots s.point s.state)) e ∙ here))) where
-      order : (n m : ℕ) → (n ≡ m → ⊥) → (n < m) ⊎ (m < n)
-      order n m differ = grind (arith, differ)
+    apart other v also plain at same =
+        by (is_wide_value v) refl
+        (order other unit (λ e. not_plain (local_slots s.point s.state) other plain (ap (slice_get (local_slots s.point s.state)) e ∙ here))) where
+          order : (n m : ℕ) → (n ≡ m → ⊥) → (n < m) ⊎ (m < n)
+          order n m differ = grind (arith, differ)
 
-      by : (b : Bool) → is_wide_value v ≡ b → (other < unit) ⊎ (unit < other) → (other + width_of also ≤ unit) ⊎ (unit + 1 ≤ other)
-      by b e (inr more) = inr (omega (arith, more))
-      by false e (inl less) =
-          let one : width_of also ≡ 1 = rw (same_wide same ∙ e) refl in
-          inl (omega (arith, less, one))
-      by true e (inl less) =
-          let two : width_of also ≡ 2 = rw (same_wide same ∙ e) refl in
-          let next : suc other ≡ unit → ⊥ = λ equal.
-          not_unusable (local_slots s.point s.state) (suc other) (s.kept.wide other v plain at e) (ap (slice_get (local_slots s.point s.state)) equal ∙ here) in
-          inl (omega (arith, less, two, next))
+          by : (b : Bool) → is_wide_value v ≡ b → (other < unit) ⊎ (unit < other) → (other + width_of also ≤ unit) ⊎ (unit + 1 ≤ other)
+          by b e (inr more) = inr (omega (arith, more))
+          by false e (inl less) =
+              let one : width_of also ≡ 1 = rw (same_wide same ∙ e) refl in
+              inl (omega (arith, less, one))
+          by true e (inl less) =
+              let two : width_of also ≡ 2 = rw (same_wide same ∙ e) refl in
+              let next : suc other ≡ unit → ⊥ = λ equal.
+              not_unusable (local_slots s.point s.state) (suc other) (s.kept.wide other v plain at e) (ap (slice_get (local_slots s.point s.state)) equal ∙ here) in
+              inl (omega (arith, less, two, next))
 
     by_unit : (other of : ℕ) → more_copied other → slice_get (local_slots s.point s.state) other ≡ Some (Virt of) → IsTrue (has s.made of)
         → (unit ≡ other) ⊎ (unit ≡ other → ⊥)
