@@ -1,4 +1,5 @@
 -- What follows of the relation. All of it is proved.
+pub mod AddedConstructors
 pub mod AddedMethods
 pub mod AloneTurns
 pub mod BeginningTurns
