@@ -29,3 +29,4 @@ pub mod StandingMore
 pub mod StillThere
 pub mod Turned
 pub mod TypedKept
+pub mod SavedEntries

@@ -26,7 +26,7 @@ use Rattle.plan_flow.specs.Laws.WrittenBlocks.{block_finished, first_block, firs
 use Rattle.plan_flow.specs.Laws.WrittenPads.{StandsFirst, comes_nowhere, none_finished, pad_block}
 use Rattle.plan_flow.specs.MetPlans.{MeetsState, RefersToSite}
 use Rattle.plan_flow.specs.PlanScope.{PlanScope}
-use Rattle.plan_flow.specs.Plans.{IsMadeIn, IsValidAt, planned}
+use Rattle.plan_flow.specs.Plans.{HasPlainBeneathTop, IsMadeIn, IsValidAt, planned}
 use Rattle.plan_flow.specs.Written.Blocks.{Block, BlockOf, blocks_of, handler_pad, instruction_block, jump_pad, state_written}
 use Rattle.plan_flow.specs.Written.Finish.{End, Finished, begins_point, comes_to, end_items, end_of, finish, goto_end, is_empty, no_end}
 use Rattle.plan_flow.specs.Written.Routes.{IsRoute, Route, RouteEdge, edge_by, is_kind}
@@ -49,7 +49,8 @@ use Rattle.virtual_state.specs.declared.slot.Slot.TheVariants.{Virt}
 use Rattle.written_runs.specs.Laws.Halfway.{CanMake, GoesOn, Halfway, goes_then, jumps_on, makes_on}
 use Rattle.written_runs.specs.Laws.KnownClasses.{classes_in, halfway_knowing, met_here, met_left}
 use Rattle.written_runs.specs.Laws.MadeItems.{AreOwn, HasSome, behind_made, length_made, made_at, made_in_form, made_some, make_code_some, own_make_code}
-use Rattle.written_runs.specs.Laws.TypedKept.{HasPlaces, TypesEntries, can_be_kept, places_of}
+use Rattle.written_runs.specs.Laws.SavedEntries.{PlainBelowTop, can_be_saved, entry_has, plain_below}
+use Rattle.written_runs.specs.Laws.TypedKept.{HasPlaces, TypesEntries, can_be_kept, places_of, stack_type}
 use Rattle.written_runs.specs.Inner.MadeObjects.{CanBeSaved, MakesObjects, StandAt}
 use Rattle.written_runs.specs.Inner.PlannedFrames.{AtBlock, InPlanned, IsBlock, IsMet, IsOfSite, IsReached, IsInstructionOf, IsTold, Keeps, Known, MakesOn, Moment, arrives, blocks_in, of_first, of_handler, of_jump, of_next, of_own, scope_in, stays, waits}
 use Rattle.written_runs.specs.Inner.Setup.{IsSetup, Setup, first, second}
@@ -68,14 +69,6 @@ pub record SettleLaws (u : Setup) : Type 0 where
       → u.written at ≡ Some w
       → scope_at u.classes at ≡ Some host
       → code_at (second u) at ≡ Some (written_code (scope_in u w) host u.constructor w.form (blocks_in u w))
-  -- what is typed can be saved, and each stack entry that a state has is there
-  pub savable : (one : World) (f : MethodState) (rest : List RunFrame) (w : WrittenMethod) (point : Point) (state : State) (made : List ℕ)
-      → TypedWorld (first u) u.typings one
-      → one.frames ≡ Method f ∷ rest
-      → u.written f.at ≡ Some w
-      → slice_get w.flat.points f.place ≡ Some point
-      → IsMadeIn state made
-      → CanBeSaved w f.place point state made f
   -- what typing tells make code of entries, local units and values
   pub types : TypesEntries u
   -- a next edge leads to the point behind
@@ -83,13 +76,12 @@ pub record SettleLaws (u : Setup) : Type 0 where
       → IsReached w at point route
       → edge_by route edges.Next ≡ Some edge
       → edge.to ≡ suc at
-  pub full : (one : World) (f : MethodState) (rest : List RunFrame) (w : WrittenMethod) (point : Point) (route : Route) (place site : ℕ)
-      → TypedWorld (first u) u.typings one
-      → one.frames ≡ Method f ∷ rest
-      → u.written f.at ≡ Some w
-      → IsReached w f.place point route
-      → slice_get (stack_slots point route.state) place ≡ Some (Virt site)
-      → (value : Value) × (slice_get (reverse f.stack) place ≡ Some value)
+  -- behind an edge no stack entry below one whose type is Top holds a virtual object
+  pub edges_plain : (w : WrittenMethod) (at number : ℕ) (from point : Point) (route : Route) (edge : RouteEdge)
+      → IsReached w at from route
+      → slice_get route.edges number ≡ Some edge
+      → slice_get w.flat.points edge.to ≡ Some point
+      → PlainBelowTop point edge.state
 
 -- ---- lists
 
@@ -146,6 +138,7 @@ made_block form flat block end instrs items own same =
 
 -- what make code asks of the state of a point and the set
 pub record CanBeMade (point : Point) (state : State) (made order : List ℕ) : Type 0 where
+  pub plain : PlainBelowTop point state
   pub places : HasPlaces point state
   pub is_state : IsState state
   pub is_made : IsMadeIn state made
@@ -173,6 +166,9 @@ module _ (u : Setup) (laws : SettleLaws u) where
     route = there.route;
     reached = record { is_point = is_point; is_route = there.is_route };
     can = record {
+      plain =
+          plain_below (scope_in u w) f.place point there.route.state is_point
+          (subst (HasPlainBeneathTop (scope_in u w) f.place) (sym there.is.state) planned_there.is_planned.beneath);
       places = there_places;
       is_state = subst IsState (sym there.is.state) planned_there.is_planned.state.is_state;
       is_made =
@@ -183,6 +179,9 @@ module _ (u : Setup) (laws : SettleLaws u) where
           (subst (λ (made : List ℕ). IsMakeOrder lead.target.state.objects made there.route.order) (sym there.is.made) there.is.order);
     };
     can_edge = record {
+      plain =
+          laws.edges_plain w at number.0 before point route edge reached number.1
+          (ap (slice_get w.flat.points) to ∙ is_point);
       places = record {
         are = sym (unusable_made (has edge.made) edge.state.slots)
             ∙ ap (λ (state : State). map is_unusable state.slots) (sym lead.left ∙ sym there.is.state)
@@ -225,42 +224,15 @@ module _ (u : Setup) (laws : SettleLaws u) where
         places_of u w f.place point there.route.state is_point
         (ap (λ (state : State). map is_unusable state.slots) there.is.state ∙ planned_there.is_planned.state.places)
 
-  -- where it is known of which classes objects are, a frame has objects of these classes
-  meets_of : (one : Run) (f : MethodState) (rest : List RunFrame) (w : WrittenMethod) (known : Known) (point : Point) (route : Route)
-      → AreKnown one.world.memory.heap known
-      → TypedWorld (first u) u.typings one.world
-      → one.world.frames ≡ Method f ∷ rest
-      → u.written f.at ≡ Some w
-      → IsReached w f.place point route
-      → IsMet u known w point route.state f
-      → MeetsState (first u) (scope_in u w) point route.state one.world.memory.heap f
-  meets_of one f rest w known point route are_known typed stands written reached met = record {
-    locals = λ unit site is. let found = met.locals unit site is in (found.0, found.1, of_site site found.0 found.2);
-    stack = λ entry site is.
-        let full = laws.full one.world f rest w point route entry site typed stands written reached is in
-        (full.0, full.1, of_site site full.0 (met.stack entry site full.0 is full.1));
-  } where
-    of_site : (site : ℕ) (value : Value) → IsOfSite u known w site value
-        → RefersToSite (first u) (scope_in u w) one.world.memory.heap site value
-    of_site site value is =
-        let there = are_known.each is.reference is.class is.is_known in record {
-          site = is.site;
-          is_site = is.is_site;
-          class = is.class;
-          of_folder = is.of_folder;
-          reference = is.reference;
-          refers = is.refers;
-          object = there.0;
-          there = there.1;
-          of_class = there.2;
-        }
-
   -- what is made before the instruction of a reached point can be made
   can_at : (f : MethodState) (w : WrittenMethod) (at : ℕ) (point : Point) (route : Route)
       → u.written f.at ≡ Some w
       → IsReached w at point route
       → CanBeMade point route.state route.made route.order
   can_at f w at point route written reached = record {
+    plain =
+        plain_below (scope_in u w) at point route.state reached.is_point
+        (subst (HasPlainBeneathTop (scope_in u w) at) (sym there.is.state) here.is_planned.beneath);
     places =
         places_of u w at point route.state reached.is_point
         (ap (λ (state : State). map is_unusable state.slots) there.is.state ∙ here.is_planned.state.places);
@@ -280,6 +252,37 @@ module _ (u : Setup) (laws : SettleLaws u) where
 
     here : IsValidAt (scope_in u w) ready.plan at there.point
     here = ready.valid.each at there.point there.reached
+
+  -- where it is known of which classes objects are, a frame has objects of these classes
+  meets_of : (one : Run) (f : MethodState) (rest : List RunFrame) (w : WrittenMethod) (known : Known) (point : Point) (route : Route)
+      → AreKnown one.world.memory.heap known
+      → TypedWorld (first u) u.typings one.world
+      → one.world.frames ≡ Method f ∷ rest
+      → u.written f.at ≡ Some w
+      → IsReached w f.place point route
+      → IsMet u known w point route.state f
+      → MeetsState (first u) (scope_in u w) point route.state one.world.memory.heap f
+  meets_of one f rest w known point route are_known typed stands written reached met = record {
+    locals = λ unit site is. let found = met.locals unit site is in (found.0, found.1, of_site site found.0 found.2);
+    stack = λ entry site is.
+        let type = stack_type (can_at f w f.place point route written reached).places entry (Virt site) is in
+        let full = entry_has laws.is_setup laws.types.frames typed stands written reached.is_point entry type.0 type.1 in
+        (full.0, full.1, of_site site full.0 (met.stack entry site full.0 is full.1));
+  } where
+    of_site : (site : ℕ) (value : Value) → IsOfSite u known w site value
+        → RefersToSite (first u) (scope_in u w) one.world.memory.heap site value
+    of_site site value is =
+        let there = are_known.each is.reference is.class is.is_known in record {
+          site = is.site;
+          is_site = is.is_site;
+          class = is.class;
+          of_folder = is.of_folder;
+          reference = is.reference;
+          refers = is.refers;
+          object = there.0;
+          there = there.1;
+          of_class = there.2;
+        }
 
   module _ {one : Run} {f : MethodState} {rest : List RunFrame} {w : WrittenMethod} {known : Known} {point : Point} (measure : ℕ)
       (low : weight (first u) one.world.memory [] (length w.flat.points - f.place) ≤ measure) where
@@ -368,7 +371,7 @@ module _ (u : Setup) (laws : SettleLaws u) where
             each = λ more within.
                 made_at w.form (blocks_in u w) number finished (make_code w.flat f.place state made order) tail more is_finished items within;
           };
-          savable = laws.savable one.world f rest w point state made h.typed h.stands (ap u.written h.at ∙ h.is_written) is_point can.is_made;
+          savable = can_be_saved laws.is_setup laws.types.frames h.typed h.stands (ap u.written h.at ∙ h.is_written) is_point state made can.plain;
         }) (can_be_kept laws.is_setup laws.types h is_point can.places)
 
     -- there is an instruction, where an object is made

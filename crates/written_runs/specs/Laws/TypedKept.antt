@@ -28,6 +28,7 @@ use Rattle.plan_flow.specs.PlanScope.{local_types, stack_types}
 use Rattle.plan_flow.specs.Plans.{unusable_places}
 use Rattle.plan_flow.specs.Written.WrittenPrograms.{WrittenMethod}
 use Rattle.same_runs.specs.SameMemories.{StaysApart}
+use Rattle.typed_runs.specs.FolderTypings.{HasFlatTypings}
 use Rattle.typed_runs.specs.TypedWorlds.{TypedWorld}
 use Rattle.virtual_state.specs.Laws.Objects.{found_present, found_site}
 use Rattle.virtual_state.specs.States.{State, is_present, is_unusable, object_of}
@@ -40,18 +41,14 @@ use Rattle.written_runs.specs.Inner.Setup.{IsSetup, Setup, first}
 use Rattle.written_runs.specs.Inner.Standing.{apart}
 use Rattle.written_runs.specs.Laws.Halfway.{Halfway}
 use Rattle.written_runs.specs.Laws.LessVirtual.{one_owner}
+use Rattle.written_runs.specs.Laws.SavedEntries.{stack_is}
 use Rattle.written_runs.specs.VirtualObjects.{HasVirtual, TellsObject, Virtual, local_slots, stack_slots}
 use Rattle.written_runs.specs.WrittenRuns.{IsReadyMethod}
 
 -- what typing gives
 pub record TypesEntries (u : Setup) : Type 0 where
-  -- a frame at a point has as many stack entries as the point's type
-  pub stacks : (one : World) (f : MethodState) (rest : List RunFrame) (w : WrittenMethod) (point : Point)
-      → TypedWorld (first u) u.typings one
-      → one.frames ≡ Method f ∷ rest
-      → u.written f.at ≡ Some w
-      → slice_get w.flat.points f.place ≡ Some point
-      → length f.stack ≡ length point.typed.stack
+  -- the frames of the methods that are rewritten are those of their typed points, as they are read
+  pub frames : HasFlatTypings u.flats u.typings
   -- behind a long or double that is typed so there is Top
   pub wide : (one : World) (f : MethodState) (rest : List RunFrame) (w : WrittenMethod) (point : Point)
       → TypedWorld (first u) u.typings one
@@ -153,6 +150,19 @@ module _ {point : Point} {state : State} (places : HasPlaces point state) where
         ap (λ (all : List Bool). slice_get all place) (sym stack_flags)
         ∙ slice_get-map is_unusable (stack_slots point state) place ∙ ap (option_map is_unusable) is
 
+  -- an entry that has a slot has a type
+  pub stack_type : (place : ℕ) (slot : Slot) → slice_get (stack_slots point state) place ≡ Some slot
+      → (type : VType) × (slice_get point.typed.stack place ≡ Some type)
+  stack_type place slot is = by (slice_get point.typed.stack place) refl where
+    told : option_map (λ (type : VType). false) (slice_get point.typed.stack place) ≡ Some (is_unusable slot)
+    told =
+        sym (slice_get-map (λ (type : VType). false) point.typed.stack place) ∙ ap (λ (all : List Bool). slice_get all place) (sym stack_flags)
+        ∙ slice_get-map is_unusable (stack_slots point state) place ∙ ap (option_map is_unusable) is
+
+    by : (found : Option VType) → slice_get point.typed.stack place ≡ found → (type : VType) × (slice_get point.typed.stack place ≡ Some type)
+    by None none = absurd (none-some (is_unusable slot) (sym (ap (option_map (λ (type : VType). false)) none) ∙ told))
+    by (Some type) some = (type, some)
+
   -- the type of a plain local unit, and the slot of one that is typed Top
   pub local_type : (unit : ℕ) → slice_get (local_slots point state) unit ≡ Some Plain
       → (type : VType) × (slice_get point.typed.locals unit ≡ Some type) × (type ≢ Top)
@@ -194,7 +204,7 @@ pub can_be_kept : {u : Setup} {one other : Run} {f : MethodState} {rest : List R
     → HasPlaces point state
     → CanBeKept w h.virtuals (length rest) point state f
 can_be_kept {u = u} {one = one} {f = f} {rest = rest} {w = w} {point = point} {state = state} setup types h is_point places = record {
-  entries = types.stacks one.world f rest w point h.typed h.stands written is_point;
+  entries = stack_is setup types.frames h.typed h.stands written is_point;
   slots = stack_length places;
   usable = stack_usable places;
   wide = λ unit value plain is is_wide.
