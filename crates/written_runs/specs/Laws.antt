@@ -30,3 +30,4 @@ pub mod StillThere
 pub mod Turned
 pub mod TypedKept
 pub mod SavedEntries
+pub mod EdgesPlain

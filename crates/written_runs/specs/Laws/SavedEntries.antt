@@ -59,13 +59,13 @@ any_top [] number is = absurd (none-some types.Top is)
 any_top (type ∷ all) zero is = rw (same_Some type types.Top is) refl
 any_top (type ∷ all) (suc number) is = or_true (is_top type) (list_any is_top all) (any_top all number is)
 
-names_it : (slots : List Slot) (place site : ℕ) → slice_get slots place ≡ Some (Virt site) → names slots site ≡ true
+pub names_it : (slots : List Slot) (place site : ℕ) → slice_get slots place ≡ Some (Virt site) → names slots site ≡ true
 names_it [] place site is = absurd (none-some (Virt site) is)
 names_it (slot ∷ slots) zero site is = rw (same_Some slot (Virt site) is, eq-eqb site site refl) refl
 names_it (slot ∷ slots) (suc place) site is = or_true (is_virtual site slot) (names slots site) (names_it slots place site is)
 
 -- one that is below a Top is among them
-beneath_is : (all : List VType) (slots : List Slot) (place above : ℕ) (slot : Slot) → place < above
+pub beneath_is : (all : List VType) (slots : List Slot) (place above : ℕ) (slot : Slot) → place < above
     → slice_get slots place ≡ Some slot
     → slice_get all above ≡ Some types.Top
     → slice_get (beneath_top all slots) place ≡ Some slot

@@ -49,6 +49,8 @@ use Rattle.virtual_state.specs.declared.slot.Slot.TheVariants.{Virt}
 use Rattle.written_runs.specs.Laws.Halfway.{CanMake, GoesOn, Halfway, goes_then, jumps_on, makes_on}
 use Rattle.written_runs.specs.Laws.KnownClasses.{classes_in, halfway_knowing, met_here, met_left}
 use Rattle.written_runs.specs.Laws.MadeItems.{AreOwn, HasSome, behind_made, length_made, made_at, made_in_form, made_some, make_code_some, own_make_code}
+use Rattle.written_runs.specs.Laws.EdgesPlain.{edges_plain}
+use Rattle.written_runs.specs.Laws.NextEdges.{next_follows}
 use Rattle.written_runs.specs.Laws.SavedEntries.{PlainBelowTop, can_be_saved, entry_has, plain_below}
 use Rattle.written_runs.specs.Laws.TypedKept.{HasPlaces, TypesEntries, can_be_kept, places_of, stack_type}
 use Rattle.written_runs.specs.Inner.MadeObjects.{CanBeSaved, MakesObjects, StandAt}
@@ -71,17 +73,6 @@ pub record SettleLaws (u : Setup) : Type 0 where
       → code_at (second u) at ≡ Some (written_code (scope_in u w) host u.constructor w.form (blocks_in u w))
   -- what typing tells make code of entries, local units and values
   pub types : TypesEntries u
-  -- a next edge leads to the point behind
-  pub next_follows : (w : WrittenMethod) (at : ℕ) (point : Point) (route : Route) (edge : RouteEdge)
-      → IsReached w at point route
-      → edge_by route edges.Next ≡ Some edge
-      → edge.to ≡ suc at
-  -- behind an edge no stack entry below one whose type is Top holds a virtual object
-  pub edges_plain : (w : WrittenMethod) (at number : ℕ) (from point : Point) (route : Route) (edge : RouteEdge)
-      → IsReached w at from route
-      → slice_get route.edges number ≡ Some edge
-      → slice_get w.flat.points edge.to ≡ Some point
-      → PlainBelowTop point edge.state
 
 -- ---- lists
 
@@ -180,7 +171,7 @@ module _ (u : Setup) (laws : SettleLaws u) where
     };
     can_edge = record {
       plain =
-          laws.edges_plain w at number.0 before point route edge reached number.1
+          edges_plain laws.is_setup f.at w at number.0 before point route edge written reached number.1
           (ap (slice_get w.flat.points) to ∙ is_point);
       places = record {
         are = sym (unusable_made (has edge.made) edge.state.slots)
@@ -534,7 +525,9 @@ module _ (u : Setup) (laws : SettleLaws u) where
           code = make_code w.flat f.place edge.state edge.made edge.order
 
           follows : suc at ≡ f.place
-          follows = sym (laws.next_follows w at before route edge reached makes.found) ∙ to
+          follows =
+              let ready = laws.is_setup.ready f.at w written in
+              sym (next_follows s ready.plan w.routes at before route edge ready.routed reached.is_point reached.is_route makes.found) ∙ to
 
           code_is : code ≡ make_code w.flat edge.to edge.state (site ∷ sites) edge.order
           code_is =
