@@ -10,6 +10,7 @@ pub mod ConstructorSteps
 pub mod Constructs
 pub mod FewerVirtuals
 pub mod FieldConstructors
+pub mod FolderFacts
 pub mod GivenValues
 pub mod Halfway
 pub mod KnownClasses
@@ -29,3 +30,4 @@ pub mod StandingMore
 pub mod StillThere
 pub mod Turned
 pub mod TypedKept
+pub mod UpperSlots
