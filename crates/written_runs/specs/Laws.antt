@@ -2,6 +2,7 @@
 pub mod AddedConstructors
 pub mod AddedMethods
 pub mod AloneTurns
+pub mod ApartFields
 pub mod BeginningTurns
 pub mod BegunFrames
 pub mod BothTurns

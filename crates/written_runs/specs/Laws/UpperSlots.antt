@@ -6,6 +6,7 @@ use Rattle.std.proofs.lemmas.Grind.{flat_map-append}
 use Rattle.std.proofs.lemmas.List.{append_assoc, length-append, length-map, reverse-append}
 use Rattle.std.proofs.lemmas.Option.{none-some, same_Some}
 use Rattle.std.proofs.lemmas.Slice.Eq.{bytes_eq-Decides}
+use Rattle.class_model.specs.Laws.Lists.{at_index}
 use Rattle.class_model.specs.declared.header.Header.{Header}
 use Rattle.class_model.specs.declared.header.Member.{Member}
 use Rattle.class_tree.specs.Headers.{Name, Headers, class_named, named}
@@ -20,6 +21,7 @@ use Rattle.member_link.specs.Laws.FirstNumbers.{number_in_back, number_in_front}
 use Rattle.member_link.specs.Machine.Layouts.{own_slots_in, slot_number_in, slots_in}
 use Rattle.member_link.specs.Machine.Programs.{number_of_first, same_reference}
 use Rattle.member_link.specs.References.{Reference}
+use Rattle.written_runs.specs.Laws.ApartFields.{AreDistinct, Differs}
 
 -- ---- slots class by class
 
@@ -165,16 +167,7 @@ module _ (headers : Headers) (hierarchy : IsHierarchy headers) where
 
   -- ---- own fields
 
-  -- fields are apart: no two are of one name and descriptor
-  pub record FieldsApart (fields : List Member) : Type 0 where
-    pub each : (one other : ℕ) (first second : Member)
-        → slice_get fields one ≡ Some first
-        → slice_get fields other ≡ Some second
-        → first.name ≡ second.name
-        → first.desc ≡ second.desc
-        → one ≡ other
-
-  own_number : (name : Name) (fields : List Member) (number : ℕ) (field : Member) → FieldsApart fields → slice_get fields number ≡ Some field
+  own_number : (name : Name) (fields : List Member) (number : ℕ) (field : Member) → AreDistinct fields → slice_get fields number ≡ Some field
       → number_of_first (same_reference (record { class = name; name = field.name; desc = field.desc }))
       (map (λ (f : Member). record { class = name; name = f.name; desc = f.desc }) fields)
       ≡ Some number
@@ -192,14 +185,7 @@ module _ (headers : Headers) (hierarchy : IsHierarchy headers) where
           (bytes_eq-Decides field.desc first.desc).1 (ap (λ (m : Member). m.desc) (sym same)),
         ) refl
   own_number name (first ∷ fields) (suc number) field apart is =
-      rw (differs, own_number name fields number field behind is) refl where
-        behind : FieldsApart fields
-        behind = record {
-          each = λ one other left right is_left is_right names descs. suc_same (apart.each (suc one) (suc other) left right is_left is_right names descs);
-        } where
-          suc_same : {n m : ℕ} → suc n ≡ suc m → n ≡ m
-          suc_same e = omega (arith, e)
-
+      rw (differs, own_number name fields number field apart.1 is) refl where
         differs : same_reference (record { class = name; name = field.name; desc = field.desc })
             (record { class = name; name = first.name; desc = first.desc }) ≡ false
         differs = by _ refl where
@@ -211,14 +197,13 @@ module _ (headers : Headers) (hierarchy : IsHierarchy headers) where
           by true e =
               let classes = and_parts (bytes_eq name name) _ e in
               let names = and_parts (bytes_eq field.name first.name) (bytes_eq field.desc first.desc) classes.1 in
-              let no = apart.each zero (suc number) first field refl is (sym ((bytes_eq-Decides field.name first.name).0 names.0))
-              (sym ((bytes_eq-Decides field.desc first.desc).0 names.1)) in
-              absurd (omega (arith, no))
+              absurd (at_index (Differs first) fields number field apart.0 is (sym ((bytes_eq-Decides field.name first.name).0 names.0))
+              (sym ((bytes_eq-Decides field.desc first.desc).0 names.1)))
 
   -- the number of a field of a class among those of an object at or below it
   pub slot_number_is : (name : Name) (header : Header) (above : Name) → class_named headers name ≡ Some header → header.super_name ≡ Some above
       → IsFalse (is_interface header)
-      → FieldsApart (own_fields headers name)
+      → AreDistinct (own_fields headers name)
       → (number : ℕ) (field : Member) → slice_get (own_fields headers name) number ≡ Some field
       → (low : Name) → (low ≡ name) ⊎ IsBelow headers low name
       → (low_header : Header) → class_named headers low ≡ Some low_header
