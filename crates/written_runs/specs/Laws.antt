@@ -15,6 +15,7 @@ pub mod FolderFacts
 pub mod GivenValues
 pub mod Halfway
 pub mod KnownClasses
+pub mod KnownConstructors
 pub mod LessVirtual
 pub mod LibraryFrames
 pub mod LibraryTurns
