@@ -2,6 +2,7 @@
 pub mod AddedConstructors
 pub mod AddedMethods
 pub mod AloneTurns
+pub mod ApartFields
 pub mod BeginningTurns
 pub mod BegunFrames
 pub mod BothTurns
@@ -10,9 +11,11 @@ pub mod ConstructorSteps
 pub mod Constructs
 pub mod FewerVirtuals
 pub mod FieldConstructors
+pub mod FolderFacts
 pub mod GivenValues
 pub mod Halfway
 pub mod KnownClasses
+pub mod KnownConstructors
 pub mod LessVirtual
 pub mod LibraryFrames
 pub mod LibraryTurns
@@ -31,3 +34,4 @@ pub mod Turned
 pub mod TypedKept
 pub mod SavedEntries
 pub mod EdgesPlain
+pub mod UpperSlots

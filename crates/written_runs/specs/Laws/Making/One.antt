@@ -23,10 +23,11 @@ use Rattle.making_code.specs.Items.{WInstr, constructs, item, makes, plain, stor
 use Rattle.making_code.specs.MakeCode.{Entry, enters, load_fields_from, make_object}
 use Rattle.making_code.specs.Units.{field_unit, object_unit, unit_number}
 use Rattle.member_link.specs.Machine.Locals.{stored}
-use Rattle.member_link.specs.Machine.Programs.{folder_number, headers_in, name_of_class}
+use Rattle.member_link.specs.Machine.Programs.{RunClass, folder_number, headers_in, name_of_class}
 use Rattle.member_link.specs.Machine.Worlds.{Memory}
 use Rattle.plan_flow.specs.Written.WrittenPrograms.{MakesClass, WrittenMethod}
 use Rattle.same_runs.specs.Laws.Apart.{IsNoName, name_made, second_changes}
+use Rattle.same_runs.specs.Laws.BegunClasses.{folder_class}
 use Rattle.same_runs.specs.Laws.FirstBeginnings.{folder_name}
 use Rattle.same_runs.specs.Laws.Heaps.{new_no_name, second_allocates}
 use Rattle.same_runs.specs.Laws.Names.{more_and_more, named_here, named_too, named_too_more, names_themselves, value_more, values_more}
@@ -165,12 +166,15 @@ module _ {u : Setup} {w : WrittenMethod} (laws : MakingLaws u) (d : Doing u w) (
           ap (λ (name : Name). (second u).links.below name t.site.class) (folder_name (second u) t.site.class t.class is_number)
           ∙ laws.alike.itself t.site.class
 
+      of_number : (found : RunClass) × (slice_get (second u).classes t.class ≡ Some found)
+      of_number = folder_class (second u) t.site.class t.class is_number
+
       fills : FillsObjects (second u) (instance_fields (headers_of u.classes) t.site.class) t.class
           (reference_of_constructor u.constructor t.site.class)
       fills =
           laws.constructs.fills t.site.class is_site.candidate.header t.class
           (named_too_far t.site.class (headers_of u.classes).folder (headers_of u.classes).library is_site.candidate.header is_site.candidate.found)
-          (laws.proper t.site.class is_site.candidate) below (laws.is_setup.replaces_also.made t.site.class makes_class)
+          (laws.proper t.site.class is_site.candidate) below (laws.is_setup.replaces_also.made t.site.class makes_class) of_number.0 of_number.1
 
       -- ---- the new object
 
