@@ -1,6 +1,8 @@
 -- What follows of the relation. All of it is proved.
+pub mod AddedConstructors
 pub mod AddedMethods
 pub mod AloneTurns
+pub mod ApartFields
 pub mod BeginningTurns
 pub mod BegunFrames
 pub mod BothTurns
@@ -9,13 +11,16 @@ pub mod ConstructorSteps
 pub mod Constructs
 pub mod FewerVirtuals
 pub mod FieldConstructors
+pub mod FolderFacts
 pub mod GivenValues
 pub mod Halfway
 pub mod KnownClasses
+pub mod KnownConstructors
 pub mod LessVirtual
 pub mod LibraryFrames
 pub mod LibraryTurns
 pub mod MadeItems
+pub mod Making
 pub mod NextEdges
 pub mod OverTurns
 pub mod OwnFrames
@@ -26,3 +31,7 @@ pub mod Simulation
 pub mod StandingMore
 pub mod StillThere
 pub mod Turned
+pub mod TypedKept
+pub mod SavedEntries
+pub mod EdgesPlain
+pub mod UpperSlots
