@@ -165,6 +165,11 @@ wide_type {P = P} {scope = scope} {heap = heap} flat (types.Uninit at) value not
     of_object value null_object = refl
     of_object value (an_object shape fits) = refl
 
+of_unit : {P : Program} {scope : RowScope} {heap : Heap} (type : VType) (unit : Option Value) (value : Value) → UnitConforms P scope heap type unit → unit ≡ Some value
+    → Conforms P scope heap type value
+of_unit type None value conforms is = absurd (none-some value is)
+of_unit {P = P} {scope = scope} {heap = heap} type (Some other) value (has_value conforms) is = subst (Conforms P scope heap type) (same_Some other value is) conforms
+
 -- the value of a local unit conforms to its type
 unit_conforms : {P : Program} {scope : RowScope} {heap : Heap} (all : List VType) (units : List (Option Value)) (number : ℕ) (type : VType) (value : Value)
     → UnitsConform P scope heap all units
@@ -174,9 +179,8 @@ unit_conforms : {P : Program} {scope : RowScope} {heap : Heap} (all : List VType
 unit_conforms [] units number type value are is has_it = absurd (none-some type is)
 unit_conforms (one ∷ all) [] number type value are is has_it = elim are [ ]
 unit_conforms {P = P} {scope = scope} {heap = heap} (one ∷ all) (unit ∷ units) zero type value (and_unit here rest) is has_it =
-    of_unit (subst (λ (u : Option Value). UnitConforms P scope heap one u) (same_Some unit (Some value) has_it) here) where
-      of_unit : UnitConforms P scope heap one (Some value) → Conforms P scope heap type value
-      of_unit (has_value conforms) = subst (λ (t : VType). Conforms P scope heap t value) (same_Some one type is) conforms
+    subst (λ (t : VType). Conforms P scope heap t value) (same_Some one type is)
+    (of_unit one (Some value) value (subst (λ (u : Option Value). UnitConforms P scope heap one u) (same_Some unit (Some value) has_it) here) refl)
 unit_conforms (one ∷ all) (unit ∷ units) (suc number) type value (and_unit here rest) is has_it = unit_conforms all units number type value rest is has_it
 
 module _ {u : Setup} (setup : IsSetup u) (typings : HasFlatTypings u.flats u.typings) {one : World} {f : MethodState} {rest : List RunFrame} {w : WrittenMethod} {point : Point}
