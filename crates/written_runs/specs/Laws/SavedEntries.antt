@@ -4,7 +4,7 @@ use Rattle.std.specs.List.{AllByRecursion, list_any}
 use Rattle.std.proofs.lemmas.Bool.{eq-eqb, false≢true}
 use Rattle.std.proofs.lemmas.List.{length-map, length-reverse, reverse-append}
 use Rattle.std.proofs.lemmas.Option.{none-some, same_Some, slice_get-map}
-use Rattle.class_model.specs.Frames.{depth, is_top}
+use Rattle.class_model.specs.Frames.{depth, is_top, is_wide}
 use Rattle.class_model.specs.Laws.Lists.{at_index}
 use Rattle.class_model.specs.declared.class_file.MethodAt.{MethodAt}
 use Rattle.class_model.specs.declared.frame.Frame.{Frame}
@@ -15,7 +15,7 @@ use Rattle.flow_code.specs.ReadTypes.{class_of_site, read_frame, read_type}
 use Rattle.flow_code.specs.declared.point.Point.{Point}
 use Rattle.machine_values.specs.Frames.{MethodState}
 use Rattle.machine_values.specs.Heaps.{Heap}
-use Rattle.machine_values.specs.Values.{has_kind}
+use Rattle.machine_values.specs.Values.{has_kind, is_wide_value}
 use Rattle.machine_values.specs.declared.frame.RunFrame.{RunFrame}
 use Rattle.machine_values.specs.declared.frame.RunFrame.TheVariants.{Method}
 use Rattle.machine_values.specs.declared.value.Value.{Value}
@@ -27,7 +27,7 @@ use Rattle.plan_flow.specs.PlanScope.{PlanScope, local_types, stack_types}
 use Rattle.plan_flow.specs.PlanSlots.{beneath_top}
 use Rattle.plan_flow.specs.Plans.{HasPlainBeneathTop}
 use Rattle.plan_flow.specs.Written.WrittenPrograms.{WrittenMethod}
-use Rattle.typed_runs.specs.Conforming.{AllConform, Conforms, and_value, no_values, an_int, a_double, a_float, a_long, an_object, null_object, of_new, of_this, only_null, to_top}
+use Rattle.typed_runs.specs.Conforming.{AllConform, Conforms, UnitConforms, UnitsConform, and_unit, and_value, has_value, no_value, no_values, an_int, a_double, a_float, a_long, an_object, null_object, of_new, of_this, only_null, to_top}
 use Rattle.typed_runs.specs.FolderTypings.{HasFlatTypings}
 use Rattle.typed_runs.specs.TypedFrames.{Above, Does, FramesConform, MethodConforms, lowest, nothing_awaited, upon}
 use Rattle.typed_runs.specs.TypedPrograms.{Typings}
@@ -140,6 +140,49 @@ of_kind {P = P} {scope = scope} {heap = heap} flat (types.Uninit at) value not_t
     of_object value null_object = refl
     of_object value (an_object shape fits) = refl
 
+-- a value of two units is of a type of two units, or of Top
+wide_type : {P : Program} {scope : RowScope} {heap : Heap} (flat : FlatCode) (type : VType) (value : Value)
+    → type ≢ types.Top
+    → Conforms P scope heap (read_type flat type) value
+    → IsTrue (is_wide_value value)
+    → IsTrue (is_wide type)
+wide_type flat types.Top value not_top conforms wide = absurd (not_top refl)
+wide_type flat types.Int value not_top an_int wide = absurd (false≢true wide)
+wide_type flat types.Float value not_top a_float wide = absurd (false≢true wide)
+wide_type flat types.Long value not_top conforms wide = refl
+wide_type flat types.Double value not_top conforms wide = refl
+wide_type flat types.Null value not_top only_null wide = absurd (false≢true wide)
+wide_type flat types.UninitThis value not_top (of_this shape below) wide = absurd (false≢true wide)
+wide_type flat (types.Object name) value not_top null_object wide = absurd (false≢true wide)
+wide_type flat (types.Object name) value not_top (an_object shape fits) wide = absurd (false≢true wide)
+wide_type {P = P} {scope = scope} {heap = heap} flat (types.Uninit at) value not_top conforms wide = absurd (false≢true (sym (by (class_of_site flat.sites at) refl) ∙ wide)) where
+  by : (class : Option (List ℕ)) → class_of_site flat.sites at ≡ class → is_wide_value value ≡ false
+  by None none = of_uninit value (subst (λ (t : VType). Conforms P scope heap t value) (rw none refl) conforms) where
+    of_uninit : (value : Value) → Conforms P scope heap (types.Uninit at) value → is_wide_value value ≡ false
+    of_uninit value (of_new is shape same) = refl
+  by (Some class) some = of_object value (subst (λ (t : VType). Conforms P scope heap t value) (rw some refl) conforms) where
+    of_object : (value : Value) → Conforms P scope heap (types.Object class) value → is_wide_value value ≡ false
+    of_object value null_object = refl
+    of_object value (an_object shape fits) = refl
+
+of_unit : {P : Program} {scope : RowScope} {heap : Heap} (type : VType) (unit : Option Value) (value : Value) → UnitConforms P scope heap type unit → unit ≡ Some value
+    → Conforms P scope heap type value
+of_unit type None value conforms is = absurd (none-some value is)
+of_unit {P = P} {scope = scope} {heap = heap} type (Some other) value (has_value conforms) is = subst (Conforms P scope heap type) (same_Some other value is) conforms
+
+-- the value of a local unit conforms to its type
+unit_conforms : {P : Program} {scope : RowScope} {heap : Heap} (all : List VType) (units : List (Option Value)) (number : ℕ) (type : VType) (value : Value)
+    → UnitsConform P scope heap all units
+    → slice_get all number ≡ Some type
+    → slice_get units number ≡ Some (Some value)
+    → Conforms P scope heap type value
+unit_conforms [] units number type value are is has_it = absurd (none-some type is)
+unit_conforms (one ∷ all) [] number type value are is has_it = elim are [ ]
+unit_conforms {P = P} {scope = scope} {heap = heap} (one ∷ all) (unit ∷ units) zero type value (and_unit here rest) is has_it =
+    subst (λ (t : VType). Conforms P scope heap t value) (same_Some one type is)
+    (of_unit one (Some value) value (subst (λ (u : Option Value). UnitConforms P scope heap one u) (same_Some unit (Some value) has_it) here) refl)
+unit_conforms (one ∷ all) (unit ∷ units) (suc number) type value (and_unit here rest) is has_it = unit_conforms all units number type value rest is has_it
+
 module _ {u : Setup} (setup : IsSetup u) (typings : HasFlatTypings u.flats u.typings) {one : World} {f : MethodState} {rest : List RunFrame} {w : WrittenMethod} {point : Point}
     (world : TypedWorld (first u) u.typings one) (stands : one.frames ≡ Method f ∷ rest) (written : u.written f.at ≡ Some w)
     (is_point : slice_get w.flat.points f.place ≡ Some point) where
@@ -181,6 +224,20 @@ module _ {u : Setup} (setup : IsSetup u) (typings : HasFlatTypings u.flats u.typ
       slice_get-map (read_type w.flat) point.typed.stack place ∙ ap (option_map (read_type w.flat)) is in
       let found = conform_at (map (read_type w.flat) point.typed.stack) (reverse f.stack) place (read_type w.flat type) stack_conforms read in
       (found.0, found.1, λ not_top. of_kind w.flat type found.0 not_top found.2)
+
+  -- a local unit that has a value of two units has a type of two
+  pub local_wide : (unit : ℕ) (type : VType) (value : Value)
+      → slice_get point.typed.locals unit ≡ Some type
+      → type ≢ types.Top
+      → slice_get f.locals unit ≡ Some (Some value)
+      → IsTrue (is_wide_value value)
+      → IsTrue (is_wide type)
+  local_wide unit type value is not_top has_it wide =
+      let read : slice_get (map (read_type w.flat) point.typed.locals) unit ≡ Some (read_type w.flat type) =
+      slice_get-map (read_type w.flat) point.typed.locals unit ∙ ap (option_map (read_type w.flat)) is in
+      let all : UnitsConform (first u) scope heap (map (read_type w.flat) point.typed.locals) f.locals =
+      subst (λ (frame : Frame). UnitsConform (first u) scope heap frame.locals f.locals) frame_is does.locals in
+      wide_type w.flat type value not_top (unit_conforms (map (read_type w.flat) point.typed.locals) f.locals unit (read_type w.flat type) value all read has_it) wide
 
   -- ---- saved entries
 

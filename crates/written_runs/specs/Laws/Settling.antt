@@ -52,7 +52,7 @@ use Rattle.written_runs.specs.Laws.MadeItems.{AreOwn, HasSome, behind_made, leng
 use Rattle.written_runs.specs.Laws.EdgesPlain.{edges_plain}
 use Rattle.written_runs.specs.Laws.NextEdges.{next_follows}
 use Rattle.written_runs.specs.Laws.SavedEntries.{PlainBelowTop, can_be_saved, entry_has, plain_below}
-use Rattle.written_runs.specs.Laws.TypedKept.{HasPlaces, TypesEntries, can_be_kept, places_of, stack_type}
+use Rattle.written_runs.specs.Laws.TypedKept.{HasPairs, HasPlaces, TypesEntries, can_be_kept, places_of, stack_type}
 use Rattle.written_runs.specs.Inner.MadeObjects.{CanBeSaved, MakesObjects, StandAt}
 use Rattle.written_runs.specs.Inner.PlannedFrames.{AtBlock, InPlanned, IsBlock, IsMet, IsOfSite, IsReached, IsInstructionOf, IsTold, Keeps, Known, MakesOn, Moment, arrives, blocks_in, of_first, of_handler, of_jump, of_next, of_own, scope_in, stays, waits}
 use Rattle.written_runs.specs.Inner.Setup.{IsSetup, Setup, first, second}
@@ -130,6 +130,7 @@ made_block form flat block end instrs items own same =
 -- what make code asks of the state of a point and the set
 pub record CanBeMade (point : Point) (state : State) (made order : List ℕ) : Type 0 where
   pub plain : PlainBelowTop point state
+  pub pairs : HasPairs point
   pub places : HasPlaces point state
   pub is_state : IsState state
   pub is_made : IsMadeIn state made
@@ -157,6 +158,7 @@ module _ (u : Setup) (laws : SettleLaws u) where
     route = there.route;
     reached = record { is_point = is_point; is_route = there.is_route };
     can = record {
+      pairs = there_pairs;
       plain =
           plain_below (scope_in u w) f.place point there.route.state is_point
           (subst (HasPlainBeneathTop (scope_in u w) f.place) (sym there.is.state) planned_there.is_planned.beneath);
@@ -170,6 +172,7 @@ module _ (u : Setup) (laws : SettleLaws u) where
           (subst (λ (made : List ℕ). IsMakeOrder lead.target.state.objects made there.route.order) (sym there.is.made) there.is.order);
     };
     can_edge = record {
+      pairs = there_pairs;
       plain =
           edges_plain laws.is_setup f.at w at number.0 before point route edge written reached number.1
           (ap (slice_get w.flat.points) to ∙ is_point);
@@ -210,6 +213,9 @@ module _ (u : Setup) (laws : SettleLaws u) where
           is = subst (λ (n : ℕ). IsRoute (scope_in u w) n lead.target found_route.route) (omega arith) found_route.is;
         }
 
+    there_pairs : HasPairs point
+    there_pairs = laws.types.pairs w f.at f.place point there.route written (record { is_point = is_point; is_route = there.is_route })
+
     there_places : HasPlaces point there.route.state
     there_places =
         places_of u w f.place point there.route.state is_point
@@ -221,6 +227,7 @@ module _ (u : Setup) (laws : SettleLaws u) where
       → IsReached w at point route
       → CanBeMade point route.state route.made route.order
   can_at f w at point route written reached = record {
+    pairs = laws.types.pairs w f.at at point route written reached;
     plain =
         plain_below (scope_in u w) at point route.state reached.is_point
         (subst (HasPlainBeneathTop (scope_in u w) at) (sym there.is.state) here.is_planned.beneath);
@@ -363,7 +370,7 @@ module _ (u : Setup) (laws : SettleLaws u) where
                 made_at w.form (blocks_in u w) number finished (make_code w.flat f.place state made order) tail more is_finished items within;
           };
           savable = can_be_saved laws.is_setup laws.types.frames h.typed h.stands (ap u.written h.at ∙ h.is_written) is_point state made can.plain;
-        }) (can_be_kept laws.is_setup laws.types h is_point can.places)
+        }) (can_be_kept laws.is_setup laws.types h is_point can.places can.pairs)
 
     -- there is an instruction, where an object is made
     some_code : (r : Run) (state : State) (site : ℕ) (sites order : List ℕ) (place : ℕ)

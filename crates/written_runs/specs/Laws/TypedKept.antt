@@ -3,8 +3,9 @@ use Rattle.std.proofs.Common.{◌≡◌, ◌≢◌, ℕ, zero, suc, Bool, true, 
 use Rattle.std.proofs.lemmas.Bool.{false≢true, true≢false}
 use Rattle.std.proofs.lemmas.List.{length-map}
 use Rattle.std.proofs.lemmas.Option.{none-some, same_Some, slice_get-map}
-use Rattle.class_model.specs.Frames.{is_top}
+use Rattle.class_model.specs.Frames.{is_top, is_wide}
 use Rattle.class_model.specs.Laws.Lists.{at_index}
+use Rattle.class_model.specs.declared.class_file.MethodAt.{MethodAt}
 use Rattle.class_model.specs.declared.descriptor.FieldType.{FieldType}
 use Rattle.class_model.specs.declared.frame.VType.{VType}
 use Rattle.class_model.specs.declared.frame.VType.TheVariants.{Top, Int, Float, Long, Double, Null, UninitThis, Object, Uninit}
@@ -26,6 +27,7 @@ use Rattle.member_link.specs.Machine.Runs.{Run}
 use Rattle.member_link.specs.Machine.Worlds.{World}
 use Rattle.plan_flow.specs.PlanScope.{local_types, stack_types}
 use Rattle.plan_flow.specs.Plans.{unusable_places}
+use Rattle.plan_flow.specs.Written.Routes.{Route}
 use Rattle.plan_flow.specs.Written.WrittenPrograms.{WrittenMethod}
 use Rattle.same_runs.specs.SameMemories.{StaysApart}
 use Rattle.typed_runs.specs.FolderTypings.{HasFlatTypings}
@@ -36,31 +38,31 @@ use Rattle.virtual_state.specs.declared.slot.Slot.{Slot}
 use Rattle.virtual_state.specs.declared.slot.Slot.TheVariants.{Plain, Virt, Unusable}
 use Rattle.virtual_state.specs.declared.slot.VObject.{VObject}
 use Rattle.written_runs.specs.Inner.MadeObjects.{CanBeKept}
-use Rattle.written_runs.specs.Inner.PlannedFrames.{Known, scope_in}
+use Rattle.written_runs.specs.Inner.PlannedFrames.{IsReached, Known, scope_in}
 use Rattle.written_runs.specs.Inner.Setup.{IsSetup, Setup, first}
 use Rattle.written_runs.specs.Inner.Standing.{apart}
 use Rattle.written_runs.specs.Laws.Halfway.{Halfway}
 use Rattle.written_runs.specs.Laws.LessVirtual.{one_owner}
-use Rattle.written_runs.specs.Laws.SavedEntries.{stack_is}
+use Rattle.written_runs.specs.Laws.SavedEntries.{local_wide, stack_is}
 use Rattle.written_runs.specs.VirtualObjects.{HasVirtual, TellsObject, Virtual, local_slots, stack_slots}
 use Rattle.written_runs.specs.WrittenRuns.{IsReadyMethod}
+
+-- behind a long or double among the local units is Top
+pub record HasPairs (point : Point) : Type 0 where
+  pub each : (unit : ℕ) (type : VType)
+      → slice_get point.typed.locals unit ≡ Some type
+      → IsTrue (is_wide type)
+      → slice_get point.typed.locals (suc unit) ≡ Some Top
 
 -- what typing gives
 pub record TypesEntries (u : Setup) : Type 0 where
   -- the frames of the methods that are rewritten are those of their typed points, as they are read
   pub frames : HasFlatTypings u.flats u.typings
-  -- behind a long or double that is typed so there is Top
-  pub wide : (one : World) (f : MethodState) (rest : List RunFrame) (w : WrittenMethod) (point : Point)
-      → TypedWorld (first u) u.typings one
-      → one.frames ≡ Method f ∷ rest
-      → u.written f.at ≡ Some w
-      → slice_get w.flat.points f.place ≡ Some point
-      → (unit : ℕ) (type : VType) (value : Value)
-      → slice_get point.typed.locals unit ≡ Some type
-      → type ≢ Top
-      → slice_get f.locals unit ≡ Some (Some value)
-      → IsTrue (is_wide_value value)
-      → slice_get point.typed.locals (suc unit) ≡ Some Top
+  -- at a reached point a long or double is followed by its second unit
+  pub pairs : (w : WrittenMethod) (method : MethodAt) (at : ℕ) (point : Point) (route : Route)
+      → u.written method ≡ Some w
+      → IsReached w at point route
+      → HasPairs point
   -- the values of an object are of the kinds of the fields of its class
   pub values : (one : World) (reference class : ℕ) (object : RunObject) (name : Name)
       → TypedWorld (first u) u.typings one
@@ -202,15 +204,16 @@ pub can_be_kept : {u : Setup} {one other : Run} {f : MethodState} {rest : List R
     → (h : Halfway u one other f rest w known point state place)
     → slice_get w.flat.points f.place ≡ Some point
     → HasPlaces point state
+    → HasPairs point
     → CanBeKept w h.virtuals (length rest) point state f
-can_be_kept {u = u} {one = one} {f = f} {rest = rest} {w = w} {point = point} {state = state} setup types h is_point places = record {
+can_be_kept {u = u} {one = one} {f = f} {rest = rest} {w = w} {point = point} {state = state} setup types h is_point places pairs = record {
   entries = stack_is setup types.frames h.typed h.stands written is_point;
   slots = stack_length places;
   usable = stack_usable places;
-  wide = λ unit value plain is is_wide.
+  wide = λ unit value plain is two.
       let type = local_type places unit plain in
       local_unusable places (suc unit)
-      (types.wide one.world f rest w point h.typed h.stands written is_point unit type.0 value type.1 type.2 is is_wide);
+      (pairs.each unit type.0 type.1 (local_wide setup types.frames h.typed h.stands written is_point unit type.0 value type.1 type.2 is two));
   kinds = kinds;
 } where
   written : u.written f.at ≡ Some w
