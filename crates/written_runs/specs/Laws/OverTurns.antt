@@ -1,19 +1,11 @@
 -- Runs that are over stay so.
-use Rattle.std.proofs.Common.{◌≡◌, ◌≢◌, ℕ, sym, ap, subst, ◌∙◌, refl, inr}
-use Rattle.member_link.specs.Machine.Programs.{Program}
-use Rattle.member_link.specs.Machine.Runs.{Run, turn, turn_by}
-use Rattle.member_link.specs.Machine.Worlds.{Halt, going}
+use Rattle.std.proofs.Common.{ℕ, sym, subst, ◌∙◌, inr}
+use Rattle.member_link.specs.Machine.Runs.{Run, turn}
+use Rattle.same_runs.specs.Laws.Turns.{over_stays}
 use Rattle.same_runs.specs.Simulations.{at_once}
 use Rattle.written_runs.specs.Inner.Setup.{Setup, first, second}
 use Rattle.written_runs.specs.Laws.Simulation.{KeepsTurn}
 use Rattle.written_runs.specs.Inner.Together.{Over, Related}
-
--- a run that is over stays
-over_stays : (R : Program) (r : Run) → r.world.halt ≢ going → turn R r ≡ r
-over_stays R r over = by r.world.halt refl where
-  by : (h : Halt) → r.world.halt ≡ h → turn R r ≡ r
-  by going is = absurd (over is)
-  by h is = ap (turn_by R r) is
 
 pub over_keeps : (u : Setup) (measure : ℕ) (one other : Run) → Over u one other → KeepsTurn u measure one other
 over_keeps u measure one other over = record {
