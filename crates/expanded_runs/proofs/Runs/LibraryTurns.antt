@@ -1,5 +1,5 @@
 -- A turn of both where the library's frame, or the beginning of a class, is on top of both.
-use Rattle.std.proofs.Common.{◌≡◌, ℕ, true, false, List, [], ◌∷◌, Option, sym, ap, subst, inl, inr}
+use Rattle.std.proofs.Common.{◌≡◌, ℕ, true, false, List, [], ◌∷◌, Option, sym, ap, subst, inl}
 use Rattle.expanded_runs.proofs.Runs.FlatFacts.{FlatFacts}
 use Rattle.expanded_runs.proofs.Runs.SameStanding.{SameStanding, comparison}
 use Rattle.expanded_runs.proofs.Runs.Setup.{Setup, after, before}
@@ -12,11 +12,12 @@ use Rattle.machine_values.specs.declared.frame.RunFrame.{RunFrame}
 use Rattle.machine_values.specs.declared.frame.RunFrame.TheVariants.{Beginning, Library}
 use Rattle.member_link.specs.Machine.Acting.{act}
 use Rattle.member_link.specs.Machine.Programs.{Program}
-use Rattle.member_link.specs.Machine.Runs.{Run, turn}
+use Rattle.member_link.specs.Machine.Runs.{Run}
 use Rattle.member_link.specs.Machine.Stepping.{is_library_turn}
 use Rattle.member_link.specs.Machine.Worlds.{World}
 use Rattle.same_runs.specs.Laws.BothBegin.{beginning_kept}
 use Rattle.same_runs.specs.Laws.BothTurns.{LibraryTurn, library_turned, takes_action, waits_for_action}
+use Rattle.same_runs.specs.Laws.Turns.{turns_keep}
 use Rattle.same_runs.specs.Renamings.{SameHeld}
 use Rattle.same_runs.specs.SameMemories.{SameMemories}
 use Rattle.same_runs.specs.SameWorlds.{AtLibrary}
@@ -49,27 +50,14 @@ module _ (u : Setup) (basis : Basis u) (facts : FlatFacts u) (parts : LibraryPar
     at : AtLibrary P Q (comparison u) t.names made made_also rest others
     at = at_library facts basis.same held below (subst (AtPoints u) stands (typed_at_points u one.world t.typed))
 
-    keeps : (ones later : Run)
-        → turn P one ≡ ones
-        → turn Q other ≡ later
-        → (then : ℕ) × Related u then ones later
-        → Keeps P Q (Related u) measure one other
-    keeps ones later led led_also related = record {
-      waits = other;
-      quietly = at_once;
-      measure_then = related.0;
-      goes_on = inr (subst (λ (r : Run). Related u related.0 r (turn Q other)) (sym led)
-          (subst (Related u related.0 ones) (sym led_also) related.1));
-    }
-
     pub library_turn : Keeps P Q (Related u) measure one other
     library_turn = by (library_turned basis.same basis.compares stands stands_also memories t.seen t.goes t.goes_also t.actions t.used at) where
       by : LibraryTurn P Q (comparison u) t.names one other → Keeps P Q (Related u) measure one other
-      by (waits_for_action stays stays_also) = keeps one other stays stays_also (measure, record { waits = other; quietly = at_once; state = inl t })
+      by (waits_for_action stays stays_also) = turns_keep measure measure stays stays_also (record { waits = other; quietly = at_once; state = inl t })
       by (takes_action action ones later led led_also is_act left taken then) =
-          keeps ones later led led_also
-          (after_both u basis ones later then
-          (subst (TypedWorld P u.typings) (sym is_act) (parts.acts_typed one.world action t.typed (ap is_library_turn stands)).typed) left taken)
+          let related = after_both u basis ones later then
+          (subst (TypedWorld P u.typings) (sym is_act) (parts.acts_typed one.world action t.typed (ap is_library_turn stands)).typed) left taken in
+          turns_keep measure related.0 led led_also related.1
 
   -- ---- the beginning of a class
 

@@ -14,7 +14,7 @@ use Rattle.same_runs.specs.Laws.AloneTurn.{unbegun_in}
 use Rattle.same_runs.specs.Laws.BothTurns.{BehindBoth, behind_both, both_are_over, both_go_on}
 use Rattle.same_runs.specs.Laws.CaughtUp.{BothTurn, turn_keeps}
 use Rattle.same_runs.specs.Laws.QuietBeginnings.{BeginAlike}
-use Rattle.same_runs.specs.Laws.Turns.{over_stays, turn_is_step}
+use Rattle.same_runs.specs.Laws.Turns.{over_stays, turn_is_step, turns_keep}
 use Rattle.same_runs.specs.Renamings.{Names}
 use Rattle.same_runs.specs.SameMemories.{SameMemories}
 use Rattle.same_runs.specs.SamePrograms.{SamePrograms}
@@ -183,14 +183,9 @@ module _ (u : Setup) (basis : Basis u) where
 
   -- runs that are over
   pub over_keeps : (measure : ℕ) (one other : Run) → Over u one other → Keeps P Q (Related u) measure one other
-  over_keeps measure one other over = record {
-    waits = other;
-    quietly = at_once;
-    measure_then = measure;
-    goes_on = inr (subst (λ (r : Run). Related u measure r (turn Q other)) (sym (over_stays P one over.over))
-        (subst (Related u measure one) (sym (over_stays Q other (λ is. over.over (sym over.same ∙ is))))
-        (record { waits = other; quietly = at_once; state = inr over })));
-  }
+  over_keeps measure one other over =
+      turns_keep measure measure (over_stays P one over.over) (over_stays Q other (λ is. over.over (sym over.same ∙ is)))
+      (record { waits = other; quietly = at_once; state = inr over })
 
   -- ---- turns of the first alone
 

@@ -1,5 +1,5 @@
 -- Turns of a run by what stands on top of it, and operations by what their steps work on.
-use Rattle.std.proofs.Common.{◌≡◌, ◌≢◌, nat_le, ℕ, Bool, true, false, List, ◌∷◌, length, Option, Some, refl, sym, ap, ◌∙◌}
+use Rattle.std.proofs.Common.{◌≡◌, ◌≢◌, nat_le, ℕ, Bool, true, false, List, ◌∷◌, length, Option, Some, refl, sym, ap, subst, ◌∙◌, inr}
 use Rattle.class_model.specs.declared.descriptor.FieldType.{FieldType}
 use Rattle.machine_values.specs.Frames.{MethodState}
 use Rattle.machine_values.specs.declared.frame.RunFrame.{RunFrame}
@@ -11,7 +11,7 @@ use Rattle.member_link.specs.Machine.Stepping.{ends_stuck, is_library_turn, op_s
 use Rattle.member_link.specs.Machine.Work.{arity}
 use Rattle.member_link.specs.Machine.Worlds.{Halt, World, going, stuck}
 use Rattle.same_runs.specs.SameMoves.{IsMove, is_no_operation, is_load, is_store, is_increment, is_test, is_shuffle, is_jump_by_int, is_jump_by_ints, is_jump_by_references, is_jump_by_null, is_jump, is_table_switch, is_lookup_switch}
-use Rattle.same_runs.specs.Simulations.{Quietly, at_once, turn_first}
+use Rattle.same_runs.specs.Simulations.{Keeps, Quietly, at_once, turn_first}
 use Rattle.same_runs.specs.Laws.BothBegin.{counted}
 use Rattle.same_runs.specs.Laws.CaughtUp.{turned_going}
 use Rattle.same_runs.specs.Laws.Operations.{WorksOnOperands, step_works}
@@ -127,3 +127,16 @@ over_stays R r over = by r.world.halt refl where
 pub quietly_shows : {R : Program} {r later : Run} → Quietly R r later → shown later ≡ shown r
 quietly_shows at_once = refl
 quietly_shows (turn_first same more) = quietly_shows more ∙ same
+
+-- a turn of each leads to runs that are related
+pub turns_keep : {P Q : Program} {Relates : ℕ → Run → Run → Type 0} {one other ones others : Run} (measure later : ℕ)
+    → turn P one ≡ ones
+    → turn Q other ≡ others
+    → Relates later ones others
+    → Keeps P Q Relates measure one other
+turns_keep {Q = Q} {Relates = Relates} {other = other} {ones = ones} measure later led led_also related = record {
+  waits = other;
+  quietly = at_once;
+  measure_then = later;
+  goes_on = inr (subst (λ (r : Run). Relates later r (turn Q other)) (sym led) (subst (Relates later ones) (sym led_also) related));
+}

@@ -6,10 +6,11 @@ use Rattle.machine_values.specs.declared.frame.RunFrame.TheVariants.{Beginning, 
 use Rattle.machine_values.specs.declared.frame.RunFrame.{RunFrame}
 use Rattle.member_link.specs.Machine.Acting.{act}
 use Rattle.member_link.specs.Machine.Programs.{Program}
-use Rattle.member_link.specs.Machine.Runs.{Run, turn}
+use Rattle.member_link.specs.Machine.Runs.{Run}
 use Rattle.member_link.specs.Machine.Stepping.{is_library_turn}
 use Rattle.same_runs.specs.Laws.BothTurns.{LibraryTurn, library_turned, takes_action, waits_for_action}
 use Rattle.same_runs.specs.Laws.Compared.{seen_as}
+use Rattle.same_runs.specs.Laws.Turns.{turns_keep}
 use Rattle.same_runs.specs.Renamings.{Names, SameHeld}
 use Rattle.same_runs.specs.SameMemories.{SameMemories}
 use Rattle.same_runs.specs.SameWorlds.{AtLibrary, Comparison, SameSeen}
@@ -23,7 +24,7 @@ use Rattle.written_runs.specs.Inner.PlannedFrames.{Known}
 use Rattle.written_runs.specs.Inner.Setup.{Setup, first, second}
 use Rattle.written_runs.specs.Laws.Simulation.{KeepsTurn}
 use Rattle.written_runs.specs.Inner.Standing.{Stands, beginnings_stand, comparison, libraries_stand, none_stand, own_stand, planned_stand}
-use Rattle.written_runs.specs.Inner.Together.{Along, Related, Together}
+use Rattle.written_runs.specs.Inner.Together.{Along, Together}
 use Rattle.written_runs.specs.VirtualObjects.{Virtuals}
 
 -- the lowest frame of the library has none below it
@@ -94,19 +95,6 @@ module _ (u : Setup) (laws : LibraryLaws u) (measure : ℕ) (one other : Run) (t
       at_library u laws a.virtuals a.known {heap = one.world.memory.heap} held below owned (none_also below)
       (typed_rest u (subst (FramesConform P u.typings one.world.memory.heap nothing_awaited) here a.typed.frames))
 
-  keeps : (later_one later_other : Run)
-      → turn P one ≡ later_one
-      → turn Q other ≡ later_other
-      → (later : ℕ) × Related u later later_one later_other
-      → KeepsTurn u measure one other
-  keeps later_one later_other led led_also related = record {
-    waits = other;
-    quietly = at_once;
-    measure_then = related.0;
-    goes_on = inr (subst (λ (r : Run). Related u related.0 r (turn Q other)) (sym led)
-        (subst (Related u related.0 later_one) (sym led_also) related.1));
-  }
-
   there : (action : Action) → StillThere a.virtuals a.known (act P action one.world)
   there action = record {
     are_apart = a.are_apart;
@@ -120,8 +108,8 @@ module _ (u : Setup) (laws : LibraryLaws u) (measure : ℕ) (one other : Run) (t
       by (library_turned laws.turns.frames.same (over_turn_compares u laws.turns.compares a.virtuals a.known) here here_also memories seen a.goes a.goes_also
       a.actions a.used at) where
         by : LibraryTurn P Q c a.names one other → KeepsTurn u measure one other
-        by (waits_for_action stays stays_also) = keeps one other stays stays_also (measure, record { later = other; quietly = at_once; state = inl t })
+        by (waits_for_action stays stays_also) = turns_keep measure measure stays stays_also (record { later = other; quietly = at_once; state = inl t })
         by (takes_action action ones ones_also led led_also is_act left taken then) =
-            keeps ones ones_also led led_also
-            (after_turn u laws.turns ones ones_also (subst (StillThere a.virtuals a.known) (sym is_act) (there action)) then
-            (subst (TypedWorld P u.typings) (sym is_act) (laws.acts_typed one.world action a.typed library_on_top).typed) left taken)
+            let related = after_turn u laws.turns ones ones_also (subst (StillThere a.virtuals a.known) (sym is_act) (there action)) then
+            (subst (TypedWorld P u.typings) (sym is_act) (laws.acts_typed one.world action a.typed library_on_top).typed) left taken in
+            turns_keep measure related.0 led led_also related.1
