@@ -12,10 +12,12 @@ pub mod FieldConstructors
 pub mod GivenValues
 pub mod Halfway
 pub mod KnownClasses
+pub mod KeptMemories
 pub mod LessVirtual
 pub mod LibraryFrames
 pub mod LibraryTurns
 pub mod MadeItems
+pub mod MethodsBegin
 pub mod NextEdges
 pub mod OverTurns
 pub mod OwnFrames

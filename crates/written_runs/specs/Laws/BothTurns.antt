@@ -1,11 +1,11 @@
 -- How runs that go together do behind a turn of both: the second goes on quietly to where they go together again, or both are over.
-use Rattle.std.proofs.Common.{◌≡◌, ◌≤◌, ◌+◌, ℕ, Bool, false, List, [], None, Some, IsTrue, refl, subst, ◌∙◌, arith, inr}
+use Rattle.std.proofs.Common.{◌≡◌, ◌≤◌, ◌+◌, ℕ, Bool, false, List, [], Some, IsTrue, refl, subst, ◌∙◌, arith, inr}
 use Rattle.class_model.specs.declared.class_file.MethodAt.{MethodAt}
 use Rattle.machine_values.specs.Frames.{MethodState}
 use Rattle.machine_values.specs.declared.frame.RunFrame.{RunFrame}
 use Rattle.member_link.specs.Machine.Beginnings.{initialiser_of}
 use Rattle.member_link.specs.Machine.Performing.{is_initialiser}
-use Rattle.member_link.specs.Machine.Programs.{Program, RunMethod, code_at, run_method}
+use Rattle.member_link.specs.Machine.Programs.{Program, RunMethod, run_method}
 use Rattle.member_link.specs.Machine.Runs.{Run, turn}
 use Rattle.member_link.specs.Machine.Stepping.{is_library_turn, step}
 use Rattle.member_link.specs.Machine.Worlds.{World, going}
@@ -22,6 +22,7 @@ use Rattle.typed_runs.specs.TypedWorlds.{StaysTyped, TypedWorld}
 use Rattle.written_runs.specs.Inner.PlannedFrames.{Known}
 use Rattle.written_runs.specs.Laws.Settling.{SettleLaws, settles as planned_settles}
 use Rattle.written_runs.specs.Inner.Setup.{Setup, first, second}
+use Rattle.written_runs.specs.Laws.MethodsBegin.{RunsOwnCodes}
 use Rattle.written_runs.specs.Laws.Simulation.{KeepsTurn, quietly_related}
 use Rattle.written_runs.specs.Inner.Standing.{IsFresh, SameTop, Stands, apart, begins_class, begins_fresh, comparison, stands}
 use Rattle.written_runs.specs.Laws.StandingMore.{stands_more}
@@ -34,11 +35,7 @@ pub record Basis (u : Setup) : Type 0 where
   pub same : SamePrograms (first u) (second u)
   pub alike : BeginAlike (first u) (second u)
   pub steps_typed : (w : World) → TypedWorld (first u) u.typings w → StaysTyped (first u) u.typings w (step (first u) w)
-  -- a method that is not rewritten runs its own code in both
-  pub own_code : (at : MethodAt) (method : RunMethod)
-      → u.written at ≡ None
-      → run_method (first u) at ≡ Some method
-      → code_at (second u) at ≡ code_at (first u) at
+  pub codes : RunsOwnCodes u
   -- what a class begins with is a class initialiser
   pub initialisers : (class : ℕ) (at : MethodAt) (method : RunMethod)
       → initialiser_of (first u) class ≡ Some at

@@ -17,11 +17,13 @@ use Rattle.same_runs.specs.SameWorlds.{AtLibrary, Comparison, SameSeen}
 use Rattle.same_runs.specs.Simulations.{at_once}
 use Rattle.typed_runs.specs.TypedFrames.{FramesConform, asked_library, lowest, nothing_awaited, upon}
 use Rattle.typed_runs.specs.TypedWorlds.{TypedWorld}
+use Rattle.written_runs.specs.Laws.BothTurns.{compared}
 use Rattle.written_runs.specs.Laws.FewerVirtuals.{OwnedBelow, over_turn, over_turn_compares, owned_below}
 use Rattle.written_runs.specs.Laws.LibraryFrames.{LibraryLaws, at_library}
 use Rattle.written_runs.specs.Laws.OwnTurns.{StillThere, after_turn}
 use Rattle.written_runs.specs.Inner.PlannedFrames.{Known}
 use Rattle.written_runs.specs.Inner.Setup.{Setup, first, second}
+use Rattle.written_runs.specs.Laws.StillThere.{known_still}
 use Rattle.written_runs.specs.Laws.Simulation.{KeepsTurn}
 use Rattle.written_runs.specs.Inner.Standing.{Stands, beginnings_stand, comparison, libraries_stand, none_stand, own_stand, planned_stand}
 use Rattle.written_runs.specs.Inner.Together.{Along, Together}
@@ -96,16 +98,17 @@ module _ (u : Setup) (laws : LibraryLaws u) (measure : ℕ) (one other : Run) (t
       (typed_rest u (subst (FramesConform P u.typings one.world.memory.heap nothing_awaited) here a.typed.frames))
 
   there : (action : Action) → StillThere a.virtuals a.known (act P action one.world)
-  there action = record {
-    are_apart = a.are_apart;
-    are_known = laws.keeps_known one.world action a.known a.typed library_on_top a.are_known;
-    begun = λ number class virtual stands_there shape.
-        laws.keeps_begun one.world action class a.typed library_on_top (a.owned.begun number class virtual stands_there shape);
-  }
+  there action =
+      let stays = laws.keeps one.world action a.typed a.goes library_on_top in
+      record {
+        are_apart = a.are_apart;
+        are_known = known_still stays.shapes a.are_known;
+        begun = λ number class virtual stands_there shape. stays.begun class (a.owned.begun number class virtual stands_there shape);
+      }
 
   pub library_turn : KeepsTurn u measure one other
   library_turn =
-      by (library_turned laws.turns.frames.same (over_turn_compares u laws.turns.compares a.virtuals a.known) here here_also memories seen a.goes a.goes_also
+      by (library_turned laws.turns.frames.same (over_turn_compares u (compared u) a.virtuals a.known) here here_also memories seen a.goes a.goes_also
       a.actions a.used at) where
         by : LibraryTurn P Q c a.names one other → KeepsTurn u measure one other
         by (waits_for_action stays stays_also) = turns_keep measure measure stays stays_also (record { later = other; quietly = at_once; state = inl t })

@@ -12,22 +12,23 @@ use Rattle.machine_values.specs.declared.value.Value.TheVariants.{Ref}
 use Rattle.member_link.specs.Machine.Beginnings.{frame_with}
 use Rattle.member_link.specs.Machine.Completions.{Completion}
 use Rattle.member_link.specs.Machine.Performing.{is_initialiser, resumed}
-use Rattle.member_link.specs.Machine.Programs.{Catch, Point, Program, RunMethod, code_at, point_at, run_method}
+use Rattle.member_link.specs.Machine.Programs.{Catch, Point, Program, RunMethod, point_at, run_method}
 use Rattle.same_runs.specs.Laws.CaughtUp.{less}
-use Rattle.same_runs.specs.Laws.MethodPoints.{awaited_is, catches_are, ends_there}
+use Rattle.same_runs.specs.Laws.MethodPoints.{awaited_is, catches_are, ends_there, method_there}
 use Rattle.same_runs.specs.Laws.Moves.{same_dropped, same_joined, same_reversed}
 use Rattle.same_runs.specs.Laws.Names.{held_more, names_themselves, units_more, values_more}
 use Rattle.same_runs.specs.Laws.Units.{same_arguments}
-use Rattle.same_runs.specs.Renamings.{Names, NamesMore, SameHeld, SameUnits, SameValues, and_value, no_values, none_held, same_reference}
+use Rattle.same_runs.specs.Renamings.{Names, NamesMore, SameUnits, SameValues, and_value, no_values, none_held, same_reference}
 use Rattle.same_runs.specs.SameFrames.{EndSame, SameCatches, Unwinds, and_catch, catches_at, in_beginnings, in_both, in_library, in_none, no_catches}
 use Rattle.same_runs.specs.SameMoves.{MovesAlike}
 use Rattle.same_runs.specs.SamePrograms.{SamePrograms}
 use Rattle.same_runs.specs.SameWorlds.{Goes, Returns, SameBelow, beginnings_below, library_below, methods_below, none_below}
 use Rattle.typed_runs.specs.TypedFrames.{Above, FramesConform, MethodConforms, StandsAt, above_of, asked_library, called_method, nothing_awaited, upon}
-use Rattle.written_runs.specs.Laws.FewerVirtuals.{GoesFewer, OwnedBelow, goes_above, none_under, over_turn, owned_below, stands_under, under}
+use Rattle.written_runs.specs.Laws.FewerVirtuals.{GoesFewer, OwnedBelow, goes_above, none_under, over_turn, owned_below, stands_under}
+use Rattle.written_runs.specs.Laws.MethodsBegin.{RunsOwnCodes, begins_same}
 use Rattle.written_runs.specs.Inner.PlannedFrames.{InPlanned, Known}
 use Rattle.written_runs.specs.Inner.Setup.{Setup, first, second}
-use Rattle.written_runs.specs.Inner.Standing.{HasNone, InOwn, IsWaiting, SameTop, Stands, beginnings_stand, libraries_stand, none_stand, own_stand, planned_stand, stands, is_awaited}
+use Rattle.written_runs.specs.Inner.Standing.{InOwn, IsWaiting, Stands, beginnings_stand, libraries_stand, none_stand, own_stand, planned_stand, stands, is_awaited}
 use Rattle.written_runs.specs.Laws.StandingMore.{stands_more}
 use Rattle.written_runs.specs.VirtualObjects.{Virtuals}
 
@@ -66,16 +67,7 @@ pub record ReturnsToPlanned (u : Setup) : Type 0 where
 
 pub record FrameLaws (u : Setup) : Type 0 where
   pub same : SamePrograms (first u) (second u)
-  -- a method that is not rewritten runs its own code in both
-  pub own_code : (at : MethodAt) → u.written at ≡ None → code_at (second u) at ≡ code_at (first u) at
-  -- a method begins in both
-  pub begins : (virtuals : Virtuals) (known : Known) (names : Names) (at : MethodAt) (units also : List (Option Value)) (held held_also : Option ℕ)
-      (ones others : List RunFrame)
-      → SameUnits names units also
-      → SameHeld names held held_also
-      → HasNone virtuals (length ones)
-      → Stands u virtuals known (is_awaited u at) names ones others
-      → SameTop u virtuals known names (Method (frame_with (first u) at units held) ∷ ones) (Method (frame_with (second u) at also held_also) ∷ others)
+  pub codes : RunsOwnCodes u
   pub unwinds : UnwindsPlanned u
   pub returns : ReturnsToPlanned u
 
@@ -173,7 +165,9 @@ pub own_point : (u : Setup) (laws : FrameLaws u) {names : Names} {f g : MethodSt
     → InOwn u names f g
     → point_at (first u) f.at f.place ≡ Some point
     → point_at (second u) g.at g.place ≡ Some point
-own_point u laws {f = f} point own is = rw (own.at, own.place, laws.own_code f.at own.not_written) is
+own_point u laws {f = f} point own is =
+    let method = method_there (first u) f.at f.place point is in
+    rw (own.at, own.place, laws.codes.same f.at method.0 own.not_written method.1) is
 
 module _ (u : Setup) (laws : FrameLaws u) (virtuals : Virtuals) (known : Known) where
   abbrev P : Program
@@ -343,8 +337,7 @@ module _ (u : Setup) (laws : FrameLaws u) (virtuals : Virtuals) (known : Known) 
       called = λ more at method ones others held held_also grows is are same_held.
           goes_above (Method (frame_with P at (units_of_values ones) held) ∷ Method (less taken f) ∷ [])
           (Method (frame_with Q at (units_of_values others) held_also) ∷ Method (less taken g) ∷ []) rest rest_also owned
-          (laws.begins (under (length rest) virtuals) known more at (units_of_values ones) (units_of_values others) held held_also
-          (Method (less taken f) ∷ rest) (Method (less taken g) ∷ rest_also) (same_arguments are) same_held
+          (begins_same laws.codes at method is (same_arguments are) same_held
           (none_under (length rest) virtuals (suc (length rest)) (omega arith)) (own_stand (own_taken taken grows own) (stands_under grows below)));
       unwinds = λ more throwing grows. throws grows (own_taken taken grows own) refl refl refl;
     }

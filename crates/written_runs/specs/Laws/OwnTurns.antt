@@ -24,11 +24,13 @@ use Rattle.same_runs.specs.SamePrograms.{SameOp}
 use Rattle.same_runs.specs.SameWorlds.{Comparison, Compares, SameAfter, SameSeen}
 use Rattle.typed_runs.specs.TypedFrames.{FramesConform, nothing_awaited}
 use Rattle.typed_runs.specs.TypedWorlds.{StaysTyped, TypedWorld}
+use Rattle.written_runs.specs.Laws.BothTurns.{compared}
 use Rattle.written_runs.specs.Laws.FewerVirtuals.{GoesFewer, OwnedBelow, fewer_are_apart, memories_fewer, over_turn, over_turn_compares, owned_below, was_before}
 use Rattle.written_runs.specs.Laws.OwnFrames.{FrameLaws, own_goes, own_moves, own_point, own_returns, point_on_top}
 use Rattle.written_runs.specs.Inner.PlannedFrames.{Known}
 use Rattle.written_runs.specs.Laws.Settling.{SettleLaws, settles as planned_settles}
 use Rattle.written_runs.specs.Inner.Setup.{Setup, first, second}
+use Rattle.written_runs.specs.Laws.StillThere.{MemoryStays, known_still}
 use Rattle.written_runs.specs.Laws.Simulation.{KeepsTurn, quietly_related}
 use Rattle.written_runs.specs.Inner.Standing.{InOwn, SameTop, Stands, apart, comparison, is_awaited}
 use Rattle.written_runs.specs.Inner.Together.{Along, AreKnown, Related, Together, points_left, weight}
@@ -40,17 +42,13 @@ pub record TurnLaws (u : Setup) : Type 0 where
   pub frames : FrameLaws u
   pub settle : SettleLaws u
   pub alike : BeginAlike (first u) (second u)
-  pub compares : (virtuals : Virtuals) (known : Known) → Compares (comparison u virtuals known)
   pub steps_typed : (w : World) → TypedWorld (first u) u.typings w → StaysTyped (first u) u.typings w (step (first u) w)
   -- a step leaves objects what they are, and classes begun
-  pub keeps_known : (w : World) (known : Known)
+  pub keeps : (w : World)
       → TypedWorld (first u) u.typings w
-      → AreKnown w.memory.heap known
-      → AreKnown (step (first u) w).memory.heap known
-  pub keeps_begun : (w : World) (class : ℕ)
-      → TypedWorld (first u) u.typings w
-      → IsTrue (is_begun w.memory class)
-      → IsTrue (is_begun (step (first u) w).memory class)
+      → w.halt ≡ going
+      → is_library_turn w.frames ≡ false
+      → MemoryStays w.memory (step (first u) w).memory
   -- frames of rewritten methods that begin stand at their first points
   pub fresh_stands : (virtuals : Virtuals) (known : Known) (names : Names) (w : World) (others : List RunFrame)
       → TypedWorld (first u) u.typings w
@@ -138,7 +136,7 @@ module _ (u : Setup) (laws : TurnLaws u) where
       → other.used ≡ one.used
       → (later : ℕ) × Related u later one other
   after_turn {virtuals = virtuals} {known = known} {names = names} one other there then typed actions used =
-      by (behind_both laws.frames.same laws.alike (over_turn_compares u laws.compares virtuals known) (λ more ones others is. is) then) where
+      by (behind_both laws.frames.same laws.alike (over_turn_compares u (compared u) virtuals known) (λ more ones others is. is) then) where
         by : BehindBoth P Q (over_turn u virtuals known) one.world other → (later : ℕ) × Related u later one other
         by (both_go_on waits more quietly left taken frames memories seen goes goes_also) =
             quietly_related quietly (goes_on_together one waits there frames memories seen goes goes_also (left ∙ actions) (taken ∙ used) typed)
@@ -175,7 +173,7 @@ module _ (u : Setup) (laws : TurnLaws u) where
     c = over_turn u a.virtuals a.known
 
     compares : Compares c
-    compares = over_turn_compares u laws.compares a.virtuals a.known
+    compares = over_turn_compares u (compared u) a.virtuals a.known
 
     here : one.world.frames ≡ Method f ∷ rest
     here = a.stands ∙ ap (λ (now : List ℕ). map Beginning now ++ a.ones) none ∙ is
@@ -231,12 +229,13 @@ module _ (u : Setup) (laws : TurnLaws u) where
         (ap (λ (w : World). w.halt) (stepped (op_step P (counted one) f rest op) (turned_by_op P one f rest point.0 a.goes here point.1)) ∙ is_stuck)
 
     still_there : StillThere a.virtuals a.known (step P one.world)
-    still_there = record {
-      are_apart = a.are_apart;
-      are_known = laws.keeps_known one.world a.known a.typed a.are_known;
-      begun = λ number class virtual there shape.
-          laws.keeps_begun one.world class a.typed (a.owned.begun number class virtual there shape);
-    }
+    still_there =
+        let kept = laws.keeps one.world a.typed a.goes no_turn in
+        record {
+          are_apart = a.are_apart;
+          are_known = known_still kept.shapes a.are_known;
+          begun = λ number class virtual there shape. kept.begun class (a.owned.begun number class virtual there shape);
+        }
 
     keeps : BothTurn P Q c a.names one other → KeepsTurn u measure one other
     keeps both =
