@@ -1,4 +1,5 @@
 -- What follows of the relation. All of it is proved.
+pub mod AddedConstructors
 pub mod AddedMethods
 pub mod AloneTurns
 pub mod BeginningTurns
@@ -20,9 +21,11 @@ pub mod MadeItems
 pub mod MethodsBegin
 pub mod NextEdges
 pub mod OverTurns
+pub mod OwnCodes
 pub mod OwnFrames
 pub mod OwnTurns
 pub mod PlannedTurns
+pub mod SameBoth
 pub mod Settling
 pub mod Simulation
 pub mod StandingMore

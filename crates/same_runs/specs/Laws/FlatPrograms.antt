@@ -80,17 +80,16 @@ members_of_class links headers class (method ∷ methods) = rw (members_of_class
 -- ---- the program of a folder
 
 -- each class of the program is that of a class file
-class_of_file : (classes : Classes) (links : Links) (number : ℕ) (class : RunClass)
+pub class_of_file : (classes : Classes) (links : Links) (number : ℕ) (class : RunClass)
     → slice_get (program_of classes links).classes number ≡ Some class
-    → (file : ClassFile) × (run_class_of links (headers_of classes) file ≡ class)
-class_of_file classes links number class is = by (slice_get classes.folder number)
+    → (file : ClassFile) × (run_class_of links (headers_of classes) file ≡ class) × (slice_get classes.folder number ≡ Some file)
+class_of_file classes links number class is = by (slice_get classes.folder number) refl
     (sym (slice_get-map (run_class_of links (headers_of classes)) classes.folder number) ∙ is) where
-      by : (file : Option ClassFile) → option_map (run_class_of links (headers_of classes)) file ≡ Some class
-          → (file : ClassFile) × (run_class_of links (headers_of classes) file ≡ class)
-      by None is = absurd (none-some class is)
-      by (Some file) is = (file, same_Some (run_class_of links (headers_of classes) file) class is)
+      by : (file : Option ClassFile) → slice_get classes.folder number ≡ file → option_map (run_class_of links (headers_of classes)) file ≡ Some class
+          → (file : ClassFile) × (run_class_of links (headers_of classes) file ≡ class) × (slice_get classes.folder number ≡ Some file)
+      by None there is = absurd (none-some class is)
+      by (Some file) there is = (file, same_Some (run_class_of links (headers_of classes) file) class is, there)
 
--- Flat codes of any methods of a folder leave its program the same but for these codes.
 -- ---- what takes the place
 
 -- A folder's program in which initialisers are added to classes, whatever codes and flags are replaced.
@@ -129,7 +128,7 @@ none_added_alike classes links linked r none =
     subst (AllByRecursion (IsAdded (program_of classes links) class)) (sym (none number)) tt)
     (λ number class there interface. none number)
 
--- flat codes
+-- Flat codes of any methods of a folder leave its program the same but for these codes.
 pub flats_alike : (classes : Classes) (links : Links) (flats : Flats) → AreLinksOf (headers_of classes) links
     → ReplacesAlike (program_of classes links) (flats_for_codes classes links flats)
 flats_alike classes links flats linked = none_added_alike classes links linked (flats_for_codes classes links flats) (λ number. refl)
