@@ -23,6 +23,7 @@ pub mod NextEdges
 pub mod OverTurns
 pub mod OwnCodes
 pub mod OwnFrames
+pub mod OwnOperations
 pub mod OwnTurns
 pub mod PlannedTurns
 pub mod SameBoth

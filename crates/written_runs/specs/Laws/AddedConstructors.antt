@@ -1,9 +1,8 @@
 -- Field constructors that are added to classes: a class has none of the same descriptor before, and no method handle of the folder refers to them.
-use Rattle.std.proofs.Common.{◌≡◌, ◌≢◌, ◌==◌, ◌⊎◌, ◌&&◌, ◌||◌, ◌++◌, ℕ, zero, suc, Bool, true, false, List, [], ◌∷◌, bytes_eq, map, slice_get, Option, Some, None, option_and_then, option_map, IsTrue, IsFalse, if◌then◌else◌, refl, sym, ap, subst, ◌∙◌, inl, inr}
-use Rattle.std.specs.List.{AllByRecursion, flat_map, list_any}
+use Rattle.std.proofs.Common.{◌≡◌, ◌≢◌, ◌==◌, ◌⊎◌, ◌&&◌, ◌||◌, ℕ, Bool, true, false, List, [], ◌∷◌, bytes_eq, map, slice_get, Option, Some, None, option_and_then, option_map, IsFalse, if◌then◌else◌, refl, sym, ap, subst, ◌∙◌}
+use Rattle.std.specs.List.{AllByRecursion, list_any}
 use Rattle.std.proofs.lemmas.Bool.{and_parts, false≢true}
-use Rattle.std.proofs.lemmas.List.Folds.{list_any-append}
-use Rattle.std.proofs.lemmas.Option.{none-some, same_Some, slice_get-map}
+use Rattle.std.proofs.lemmas.Option.{none-some, slice_get-map}
 use Rattle.std.proofs.lemmas.Slice.Eq.{bytes_eq-Decides}
 use Rattle.class_model.specs.Header.{header_of, method_member}
 use Rattle.class_model.specs.Names.{init}
@@ -25,8 +24,7 @@ use Rattle.member_link.specs.DeclaredMembers.{Declared, declared, declared_by, o
 use Rattle.member_link.specs.FieldConstructors.{HandlesNone, HasDimensions, constructor_descriptor, constructor_reference, handled}
 use Rattle.member_link.specs.Machine.Acting.{NEW_INVOKE_SPECIAL, is_handled}
 use Rattle.member_link.specs.Machine.Classes.{handles_in, program_of, run_class_of, run_method_of}
-use Rattle.member_link.specs.Machine.Codes.{handle_of}
-use Rattle.member_link.specs.Machine.Programs.{Links, Program, RunClass, RunMethod}
+use Rattle.member_link.specs.Machine.Programs.{Links, RunClass, RunMethod}
 use Rattle.member_link.specs.Machine.Replaced.{Replacement}
 use Rattle.member_link.specs.References.{Reference}
 use Rattle.member_link.specs.Signatures.{reference_of}

@@ -1,5 +1,5 @@
 -- The program with written codes is the same as the one with flat codes but for codes, flags of fields and field constructors, and classes begin alike.
-use Rattle.std.proofs.Common.{◌≡◌, ◌⊎◌, ℕ, List, [], ◌∷◌, slice_get, Some, IsTrue, refl, sym, ap, subst, ◌∙◌, inl, inr}
+use Rattle.std.proofs.Common.{◌≡◌, ◌⊎◌, ℕ, [], ◌∷◌, slice_get, Some, IsTrue, sym, ap, subst, ◌∙◌, inl, inr}
 use Rattle.std.specs.List.{AllByRecursion}
 use Rattle.std.proofs.lemmas.Bool.{false≢true}
 use Rattle.class_model.specs.declared.class_file.ClassFile.{ClassFile}
@@ -7,7 +7,7 @@ use Rattle.class_tree.specs.Headers.{headers_of}
 use Rattle.class_tree.specs.Hierarchy.{IsHierarchy}
 use Rattle.class_tree.specs.Names.{is_interface}
 use Rattle.member_link.specs.Machine.Classes.{program_of, run_class_of}
-use Rattle.member_link.specs.Machine.Programs.{Program, RunClass, RunMethod}
+use Rattle.member_link.specs.Machine.Programs.{Program, RunClass}
 use Rattle.plan_flow.specs.Written.WrittenPrograms.{constructor_method}
 use Rattle.same_runs.specs.Laws.BothReplaced.{both_replaced_same}
 use Rattle.same_runs.specs.Laws.FlatPrograms.{added_alike, class_of_file, none_added_alike}
