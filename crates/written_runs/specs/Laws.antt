@@ -16,16 +16,21 @@ pub mod GivenValues
 pub mod Halfway
 pub mod KnownClasses
 pub mod KnownConstructors
+pub mod KeptMemories
 pub mod LessVirtual
 pub mod LibraryFrames
 pub mod LibraryTurns
 pub mod MadeItems
 pub mod Making
+pub mod MethodsBegin
 pub mod NextEdges
 pub mod OverTurns
+pub mod OwnCodes
 pub mod OwnFrames
+pub mod OwnOperations
 pub mod OwnTurns
 pub mod PlannedTurns
+pub mod SameBoth
 pub mod Settling
 pub mod Simulation
 pub mod StandingMore
@@ -35,3 +40,4 @@ pub mod TypedKept
 pub mod SavedEntries
 pub mod EdgesPlain
 pub mod UpperSlots
+pub mod AddedFree

@@ -6,18 +6,24 @@ use Rattle.class_model.specs.Checks.{AllHold}
 use Rattle.class_model.specs.ClassOf.{ClassOf, entered_attr, entered_method, methods_checks}
 use Rattle.class_model.specs.Laws.Checks.{first_holds, others_hold}
 use Rattle.class_model.specs.Laws.ClassFiles.{methods_place, parts_hold}
+use Rattle.class_model.specs.Laws.Lists.{at_index}
 use Rattle.class_model.specs.Members.{Signature, ABSTRACT, NATIVE, has, has_named, is_named}
 use Rattle.class_model.specs.MethodCode.{code_of}
 use Rattle.class_model.specs.Methods.{Home, code, home_of, method_checks, method_signature}
 use Rattle.class_model.specs.Pool.{Constants}
-use Rattle.class_model.specs.Spelling.{method_bytes}
+use Rattle.class_model.specs.Spelling.{class_bytes, method_bytes}
 use Rattle.class_model.specs.Values.{IsRaw}
 use Rattle.class_model.specs.declared.class_file.Attr.{Attr}
 use Rattle.class_model.specs.declared.class_file.Attr.TheVariants.{Raw, Code}
 use Rattle.class_model.specs.declared.class_file.ClassFile.{ClassFile}
 use Rattle.class_model.specs.declared.class_file.CodePart.{CodePart}
 use Rattle.class_model.specs.declared.class_file.Method.{Method}
+use Rattle.class_model.specs.declared.class_file.MethodAt.{MethodAt}
+use Rattle.class_tree.specs.Headers.{Classes, IsClassFile}
+use Rattle.class_tree.specs.Trees.{IsTree}
 use Rattle.expanded_code.specs.Laws.CutMethods.{AreRaw, class_cut}
+use Rattle.member_link.specs.Scope.{Scope, scope_at}
+use Rattle.same_runs.specs.Laws.Scopes.{scope_is_at}
 
 -- ---- which methods have code
 
@@ -72,3 +78,10 @@ class_coded bytes class is =
     let c = is.cut in
     subst (λ (file : ClassFile). AllByRecursion IsCoded file.methods) (sym is.is)
     (methods_coded (home_of c) [] (methods_place c + 2) c.methods (class_cut is.version is.rest c is.is_cut) (parts_hold c is.holds).methods)
+
+-- so a method of a folder that has code is not native
+pub not_native : (classes : Classes) (at : MethodAt) (s : Scope) → IsTree classes → scope_at classes at ≡ Some s → has s.method.flags NATIVE ≡ false
+not_native classes at s tree is =
+    let known = scope_is_at classes at s is in
+    let read : IsClassFile s.class = at_index IsClassFile classes.folder at.class s.class tree.folder known.of_folder in
+    (at_index IsCoded s.class.methods at.method s.method (class_coded (class_bytes s.class) s.class read) known.of_class s.part known.has_code).no_native

@@ -47,9 +47,10 @@ use Rattle.same_runs.specs.Laws.Methods.{is_method}
 use Rattle.same_runs.specs.Laws.Programs.{same_number, same_static_field}
 use Rattle.same_runs.specs.Laws.ReplacedPrograms.{members_same}
 use Rattle.same_runs.specs.SamePrograms.{SamePrograms}
+use Rattle.same_runs.specs.Laws.Numbered.{slice_numbered}
 use Rattle.written_runs.specs.Inner.Setup.{IsSetup, Setup, second}
 use Rattle.written_runs.specs.Laws.AddedConstructors.{AddsToCandidates, HasFree, IsAddedTo, added_to, has_free, own_second_same}
-use Rattle.written_runs.specs.Laws.AddedMethods.{FindsLast, class_replaced, finds_last, first_of_last, get_numbered, member_itself}
+use Rattle.written_runs.specs.Laws.AddedMethods.{FindsLast, class_replaced, finds_last, first_of_last, member_itself}
 use Rattle.written_runs.specs.Laws.ApartFields.{AreDistinct, declared_itself, distinct_still, fields_distinct}
 use Rattle.written_runs.specs.Laws.Constructs.{Constructs, KnowsEach, constructs_by, fields_above_and_own, object_without_fields}
 use Rattle.written_runs.specs.Laws.FieldConstructors.{HasSlot, HasSlots, IsBelowObject, IsConstructor, reference_of_constructor}
@@ -366,7 +367,7 @@ module _ (u : Setup) (setup : IsSetup u) (hierarchy : IsHierarchy (headers_of u.
       own : slice_get (second u).classes shape
           ≡ option_map (replaced_class u.s shape) (option_map (run_class_of u.links (headers_of u.classes)) (slice_get u.classes.folder shape))
       own =
-          get_numbered (replaced_class u.s) 0 shape (map (run_class_of u.links (headers_of u.classes)) u.classes.folder)
+          slice_numbered (replaced_class u.s) 0 (map (run_class_of u.links (headers_of u.classes)) u.classes.folder) shape
           ∙ ap (λ (n : ℕ). option_map (replaced_class u.s n) (slice_get (map (run_class_of u.links (headers_of u.classes)) u.classes.folder) shape)) zeroth
           ∙ ap (option_map (replaced_class u.s shape)) (slice_get-map (run_class_of u.links (headers_of u.classes)) u.classes.folder shape)
 

@@ -32,9 +32,9 @@ use Rattle.plan_flow.specs.Written.Finish.{End, Finished, begins_point, comes_to
 use Rattle.plan_flow.specs.Written.Routes.{IsRoute, Route, RouteEdge, edge_by, is_kind}
 use Rattle.plan_flow.specs.declared.edge.EdgeKind.{EdgeKind}
 use Rattle.plan_flow.specs.declared.edge.EdgeKind.TheVariants as edges
-use Rattle.member_link.specs.Machine.Replaced.{map_numbered}
 use Rattle.plan_flow.specs.Written.WrittenCode.{Form, block_items, in_form, is_handler_pad, is_jump_pad, short, start_of, target_number, wide, written_code, written_items, written_point}
 use Rattle.plan_flow.specs.Written.WrittenPrograms.{WrittenMethod}
+use Rattle.same_runs.specs.Laws.Numbered.{slice_numbered}
 use Rattle.same_runs.specs.Laws.QuietBeginnings.{quietly_then}
 use Rattle.same_runs.specs.SameMemories.{SameMemories}
 use Rattle.same_runs.specs.Simulations.{at_once}
@@ -75,17 +75,6 @@ pub record SettleLaws (u : Setup) : Type 0 where
   pub types : TypesEntries u
 
 -- ---- lists
-
-slice_numbered : {A B : Type 0} (change : ℕ → A → B) (number : ℕ) (items : List A) (k : ℕ) (one : A)
-    → slice_get items k ≡ Some one
-    → slice_get (map_numbered change number items) k ≡ Some (change (number + k) one)
-slice_numbered change number [] k one is = absurd (none-some one is)
-slice_numbered {A = A} {B = B} change number (first ∷ items) zero one is =
-    let here : number ≡ number + 0 = omega arith in
-    ap (λ (found : A). Some (change number found)) (same_Some first one is) ∙ ap (λ (n : ℕ). Some (change n one)) here
-slice_numbered {A = A} {B = B} change number (first ∷ items) (suc k) one is =
-    let here : suc number + k ≡ number + suc k = omega arith in
-    slice_numbered change (suc number) items k one is ∙ ap (λ (n : ℕ). Some (change n one)) here
 
 -- an edge that is found is one of the route
 found_edge : (wanted : RouteEdge → Bool) (all : List RouteEdge) (edge : RouteEdge) → find wanted all ≡ Some edge
@@ -681,7 +670,9 @@ module _ (u : Setup) (laws : SettleLaws u) where
               ≡ Some (written_point s ready.scope u.constructor w.form (blocks_in u w) (0 + (first_item w.form (blocks_in u w) number + length code)) goto)
           at_goto =
               slice_numbered (written_point s ready.scope u.constructor w.form (blocks_in u w)) 0 (written_items w.form (blocks_in u w))
-              (first_item w.form (blocks_in u w) number + length code) goto
+              (first_item w.form (blocks_in u w) number + length code)
+              ∙ ap (option_map (written_point s ready.scope u.constructor w.form (blocks_in u w)
+              (0 + (first_item w.form (blocks_in u w) number + length code))))
               (behind_made w.form (blocks_in u w) number finished code goto [] is_finished items)
 
           there : GoesOn u one r f rest w known point (without edge.state (has edge.made))
