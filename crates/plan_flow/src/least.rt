@@ -1,21 +1,25 @@
 //! The least plan of flat code.
 ghost use Rattle.std.specs.Prelude.{◌≡◌, ◌++◌, ◌∷◌, [], IfOk};
 ghost use Rattle.std.specs.Option.{option_copied};
-ghost use Rattle.class_tree.specs.Headers.{headers_of};
+ghost use Rattle.class_tree.specs.Headers.{Classes, headers_of};
 ghost use Rattle.member_link.specs.Machine.Links.{AreLinksOf};
 ghost use Rattle.member_link.specs.Machine.Programs.{Links};
+ghost use Rattle.plan_flow.specs.Inner.Blocks.{AreReachingBy};
 ghost use Rattle.plan_flow.specs.Inner.Planning.{IsPlanOf, made_edge, made_edges, made_on as sites_made_on};
-ghost use Rattle.plan_flow.specs.Inner.Reaching.{AreReaching, IsReaching, reached_in};
+ghost use Rattle.plan_flow.specs.Inner.Reaching.{AreReaching, reached_in};
 ghost use Rattle.plan_flow.specs.Inner.Sharing.{AreTargets, own_part};
 ghost use Rattle.plan_flow.specs.Narrow.{IsNarrow};
-ghost use Rattle.plan_flow.specs.PlanScope.{PlanScope, scope_of};
+ghost use Rattle.plan_flow.specs.PlanScope.{scope_of};
 ghost use Rattle.plan_flow.specs.PlanSlots.{fit_locals, fit_stack};
 ghost use Rattle.plan_flow.specs.Plans.{FlowsInside, IsLeast};
 ghost use Rattle.virtual_state.specs.Sites.{differing as differing_sites};
 
+use crate::blocks::all_states;
 use crate::edge::Edge;
 use crate::effects::shared_effect;
 use crate::handler_targets::HandlerTargets;
+use crate::head_states::HeadStates;
+use crate::heads::heads_of;
 use crate::iteration::iterate;
 use crate::plan::{EdgePlan, Plan, PointPlan};
 use crate::planned_edges::{own_edge, planned_edges};
@@ -30,9 +34,10 @@ use std::alloc::Global;
 use virtual_state::{SiteSet, VState, differing};
 
 /// The least plan of flat code that control does not leave: each other valid plan makes an object wherever this one does, or
-/// earlier. Takes the points off a work list, pass after pass by increasing number, and raises the states of the targets of
-/// their edges, until each edge leads to its target (the iteration of partial escape analysis, CGO 2014, over a work list in
-/// place of a walk over the control flow).
+/// earlier. Takes the heads of blocks off a work list, pass after pass by increasing number, goes through their blocks and raises
+/// the states of the heads behind them, until each edge leads to its target (the iteration of partial escape analysis, CGO 2014,
+/// over a work list in place of a walk over the control flow). Then goes through each block once more, to give each point its
+/// state.
 ///
 /// # Errors
 /// `NoMemory`, where memory runs out.
@@ -43,22 +48,26 @@ pub fn least_plan(alloc: Global, tree: &Tree, flat: &Flat) -> Result<Plan, NoMem
         → AreLinksOf (headers_of tree.now) links
         → IsLeast (scope_of tree.now links flat.now) plan) }
 {
-    let mut states = start(alloc, flat)?;
+    let targets = HandlerTargets::of(alloc, flat)?;
+    let mut heads = start(alloc, flat, &targets)?;
     let mut work = WorkList::new(alloc);
     work.add(0)?;
-    let targets = HandlerTargets::of(alloc, flat)?;
-    iterate(alloc, tree, flat, &targets, &mut states, &mut work)?;
+    iterate(alloc, tree, flat, &targets, &mut heads, &mut work)?;
+    let states = all_states(alloc, tree, flat, &targets, &heads)?;
     let plan = plan_of(alloc, tree, flat, &targets, &states)?;
     Ok(plan)
 }
 
-// The states where point 0 alone is reached, with no site.
-fn start(alloc: Global, flat: &Flat) -> Result<PointStates, NoMemory>
-    requires { FlowsInside flat.now }
-    ensures { IfOk result
-        (λ states. (s : PlanScope) → s.flat ≡ flat.now → IsReaching s states (0 ∷ [])) }
+// The states of heads where point 0 alone is reached, with no site.
+fn start(alloc: Global, flat: &Flat, targets: &HandlerTargets) -> Result<HeadStates, NoMemory>
+    requires narrow { IsNarrow flat.now }
+    requires flows { FlowsInside flat.now }
+    requires targets { AreTargets flat.now targets.now }
+    ensures { IfOk result (λ table. (classes : Classes)
+        → AreReachingBy classes flat.now table (0 ∷ [])) }
 {
-    let mut states = PointStates::new(alloc, flat.len())?;
+    let heads = heads_of(alloc, flat, targets)?;
+    let mut states = HeadStates::new(alloc, heads)?;
     if let Some(types) = flat.typed(0) {
         let state = blank_state(alloc, types)?;
         states.put(0, state);
