@@ -11,7 +11,7 @@ use Rattle.flow_code.specs.FlatCode.{FlatCode, point_at}
 use Rattle.flow_code.specs.declared.point.Point.{Point}
 use Rattle.member_link.specs.Machine.Links.{AreLinksOf}
 use Rattle.member_link.specs.Machine.Programs.{Links}
-use Rattle.plan_flow.specs.Inner.Blocks.{AreHeads, AreReachingBy, HeadTable, marked}
+use Rattle.plan_flow.specs.Inner.Blocks.{AreHeads, AreReachingBy, HeadTable, IsKnownTo, marked}
 use Rattle.plan_flow.specs.Inner.Planning.{made_edges, IsPlanOf}
 use Rattle.plan_flow.specs.Inner.Reaching.{Reached, reached_in, IsUnder, IsReaching, AreReaching, HasListed}
 use Rattle.plan_flow.specs.Inner.Sharing.{AreTargets, plans_of, targets_in}
@@ -220,6 +220,22 @@ one_more classes flat states points count plan done inside is = record {
         (sym (ap option_flatten (appended_before points at plan there))) (done.each links are at low)
   ];
 }
+
+-- a point that is not reached has no plan
+pub none_planned :
+    (classes : Classes) (flat : FlatCode) (states : List (Option State)) (at : ℕ) (links : Links)
+    → reached_in states at ≡ None
+    → IsPlanOf (scope_of classes links flat) (reached_in states) at None
+none_planned classes flat states at links none = record {
+  from = λ point is. absurd (none-some point is);
+  found = λ state is. absurd (none-some state (sym none ∙ is));
+}
+
+-- the plans of points, and the states that are known meanwhile
+pub record IsPlanning (classes : Classes) (flat : FlatCode) (table : HeadTable) (states : List (Option State)) (points : Plan) (count : ℕ)
+    : Type 0 where
+  pub known : IsKnownTo classes flat table count states
+  pub planned : (all : AreReachingBy classes flat table []) → ArePlanned classes flat all.states points count
 
 pub all_planned :
     (classes : Classes) (flat : FlatCode) (states : List (Option State)) (points : Plan) (count : ℕ) (links : Links)

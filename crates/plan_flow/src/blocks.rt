@@ -1,9 +1,7 @@
-//! Blocks of flat code: from the state of a head to the edges behind the last point of its block, and to the states of all
-//! points.
-ghost use Rattle.std.specs.Prelude.{◌≡◌, ◌<◌, ◌∷◌, [], ℕ, List, IfOk, length, Some};
-ghost use Rattle.std.specs.Option.{option_copied};
-ghost use Rattle.plan_flow.specs.Inner.Blocks.{AreEdgesAt, AreHeads, AreReachingBy, IsBlockWalked, IsKnownBy, IsStateInside};
-ghost use Rattle.plan_flow.specs.Inner.Reaching.{AreReaching, reached_in};
+//! Blocks of flat code: from the state of a head to the edges behind the last point of its block.
+ghost use Rattle.std.specs.Prelude.{◌≡◌, ◌<◌, ◌∷◌, ℕ, List, IfOk, length, Some};
+ghost use Rattle.plan_flow.specs.Inner.Blocks.{AreEdgesAt, AreHeads, AreReachingBy, IsBlockWalked, IsStateInside};
+ghost use Rattle.plan_flow.specs.Inner.Reaching.{reached_in};
 ghost use Rattle.plan_flow.specs.Inner.Sharing.{AreTargets};
 ghost use Rattle.plan_flow.specs.Narrow.{IsNarrow};
 ghost use Rattle.plan_flow.specs.Plans.{FlowsInside};
@@ -12,7 +10,6 @@ use crate::edge::{Edge, EdgeList};
 use crate::effects::shared_effect;
 use crate::handler_targets::HandlerTargets;
 use crate::head_states::HeadStates;
-use crate::point_states::PointStates;
 use crate::settling::settled;
 use crate::targets::cleaned;
 use class_model::NoMemory;
@@ -76,8 +73,11 @@ fn edges_at(
     Ok(edges)
 }
 
-// The state of a point by the edges of the point before, if it is inside a block: the only one of them leads to it.
-fn state_inside(
+/// The state of a point by the edges of the point before, if it is inside a block: the only one of them leads to it.
+///
+/// # Errors
+/// `NoMemory`, where memory runs out.
+pub(crate) fn state_inside(
     alloc: Global,
     flat: &Flat,
     states: &HeadStates,
@@ -96,79 +96,4 @@ fn state_inside(
     let behind = edge.state.copy()?;
     let state = cleaned(alloc, flat, at, behind)?;
     Ok(Some(state))
-}
-
-/// The states of all points that are reached, when each head has its state.
-///
-/// # Errors
-/// `NoMemory`, where memory runs out.
-pub(crate) fn all_states(
-    alloc: Global,
-    tree: &Tree,
-    flat: &Flat,
-    targets: &HandlerTargets,
-    heads: &HeadStates,
-) -> Result<PointStates, NoMemory>
-    requires narrow { IsNarrow flat.now }
-    requires targets { AreTargets flat.now targets.now }
-    requires reaching { AreReachingBy tree.now flat.now heads.now [] }
-    ensures { IfOk result (λ states. AreReaching tree.now flat.now states []) }
-{
-    let mut states = Vec::with_capacity(alloc, flat.len())?;
-    for at in 0..flat.len() {
-        let state = state_at(alloc, tree, flat, targets, heads, at, states.as_slice())?;
-        states.push(state)?;
-    }
-    Ok(PointStates::of(states))
-}
-
-// The state of a point, if it is reached, where those of the points before are known.
-fn state_at(
-    alloc: Global,
-    tree: &Tree,
-    flat: &Flat,
-    targets: &HandlerTargets,
-    heads: &HeadStates,
-    at: usize,
-    known: &[Option<VState>],
-) -> Result<Option<VState>, NoMemory>
-    requires narrow { IsNarrow flat.now }
-    requires targets { AreTargets flat.now targets.now }
-    requires heads { AreHeads flat.now heads.now.heads }
-    requires known { IsKnownBy tree.now flat.now heads.now at known.now }
-    ensures { IfOk result (λ state. (all : AreReachingBy tree.now flat.now heads.now [])
-        → state ≡ reached_in all.states at) }
-{
-    a_tree_has_links(tree);
-    if heads.is_head(at) {
-        let state = copied(heads.get(at))?;
-        return Ok(state);
-    }
-    let before = at.saturating_sub(1);
-    let Some(state) = known_at(known, before) else {
-        return Ok(None);
-    };
-    let edges = edges_at(alloc, tree, flat, targets, before, state)?;
-    let state = state_inside(alloc, flat, heads, at, edges.as_slice())?;
-    Ok(state)
-}
-
-// The state of a point of which it is known.
-fn known_at(known: &[Option<VState>], at: usize) -> Option<&VState>
-    ensures { option_copied result ≡ reached_in known.now at }
-{
-    known.get(at)?.as_ref()
-}
-
-// The same state, if there is one.
-fn copied(state: Option<&VState>) -> Result<Option<VState>, NoMemory>
-    ensures { IfOk result (λ copy. copy ≡ option_copied state.entry) }
-{
-    match state {
-        Some(state) => {
-            let copy = state.copy()?;
-            Ok(Some(copy))
-        }
-        None => Ok(None),
-    }
 }

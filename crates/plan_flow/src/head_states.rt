@@ -1,9 +1,10 @@
 //! The states of the heads of blocks that are reached so far.
-ghost use Rattle.std.specs.Prelude.{◌≡◌, ◌<◌, length, replicate, slice_set, None, Some, IfOk, IsTrue};
+ghost use Rattle.std.specs.Prelude.{◌≡◌, ◌<◌, length, replicate, slice_get, slice_set, None, Some, IfOk, IsTrue};
 ghost use Rattle.std.specs.Option.{option_copied};
-ghost use Rattle.plan_flow.specs.Inner.Blocks.{marked};
+ghost use Rattle.plan_flow.specs.Inner.Blocks.{HoldHeads, marked};
 ghost use Rattle.plan_flow.specs.Inner.Reaching.{reached_in};
 
+use crate::point_states::PointStates;
 use class_model::NoMemory;
 use std::alloc::Global;
 use std::marker::Model;
@@ -66,5 +67,51 @@ impl HeadStates {
             ≡ record self.old { states = slice_set self.old.states at (Some state) } }
     {
         self.states[at] = Some(state);
+    }
+
+    /// The states of all heads that are reached. No other point has one.
+    ///
+    /// # Errors
+    /// `NoMemory`, where memory runs out.
+    pub(crate) fn all(&self, alloc: Global) -> Result<PointStates, NoMemory>
+        ensures same { IfOk result (λ states. states ≡ self.now.states) }
+        ensures hold { HoldHeads self.now.heads self.now.states }
+    {
+        let states = all_of(alloc, self.states.as_slice())?;
+        Ok(PointStates::of(states))
+    }
+}
+
+// The same states.
+fn all_of(alloc: Global, states: &[Option<VState>]) -> Result<Vec<Option<VState>>, NoMemory>
+    ensures { IfOk result (λ copies. copies.items ≡ states.now) }
+{
+    let mut copies = Vec::with_capacity(alloc, states.len())?;
+    let mut number = 0;
+    while let Some(state) = state_at(states, number) {
+        let copy = copied(state)?;
+        copies.push(copy)?;
+        number += 1;
+    }
+    Ok(copies)
+}
+
+// The state of a point of a list, if there is such a point.
+fn state_at(states: &[Option<VState>], at: usize) -> Option<&Option<VState>>
+    ensures { option_copied result ≡ slice_get states.now at }
+{
+    states.get(at)
+}
+
+// The same state, if there is one.
+fn copied(state: &Option<VState>) -> Result<Option<VState>, NoMemory>
+    ensures { IfOk result (λ copy. copy ≡ state.now) }
+{
+    match state {
+        Some(state) => {
+            let copy = state.copy()?;
+            Ok(Some(copy))
+        }
+        None => Ok(None),
     }
 }

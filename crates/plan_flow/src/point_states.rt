@@ -1,12 +1,14 @@
-//! The states of the points that are reached.
-ghost use Rattle.std.specs.Prelude.{◌≡◌};
+//! The states of the points that are reached, as far as they are known.
+ghost use Rattle.std.specs.Prelude.{◌≡◌, ◌<◌, Some, length};
 ghost use Rattle.std.specs.Option.{option_copied};
+ghost use Rattle.plan_flow.specs.Inner.Blocks.{put_state};
 ghost use Rattle.plan_flow.specs.Inner.Reaching.{reached_in};
+ghost use Rattle.virtual_state.specs.States.{State};
 
 use std::marker::Model;
 use virtual_state::VState;
 
-/// The state before each point that is reached.
+/// The state before each point that is reached, as far as it is known.
 #[derive(Drop)]
 pub(crate) struct PointStates {
     states: Vec<Option<VState>>,
@@ -34,5 +36,18 @@ impl PointStates {
         ensures { option_copied result ≡ reached_in self.now at }
     {
         self.states.get(at)?.as_ref()
+    }
+
+    /// Reaches a point with a state, if there is one.
+    pub(crate) fn put(&mut self, at: usize, state: Option<VState>)
+        requires { (one : State) → state ≡ Some one → at < length self.old }
+        ensures { self.new ≡ put_state self.old at state }
+    {
+        match state {
+            Some(state) => {
+                self.states[at] = Some(state);
+            }
+            None => {}
+        }
     }
 }

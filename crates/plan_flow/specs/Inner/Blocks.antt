@@ -1,6 +1,6 @@
 -- Blocks of flat code: a block is entered at its head alone and left behind its last point alone. While the least plan is found
 -- heads alone hold states.
-use Rattle.std.specs.Prelude.{◌≡◌, ◌<◌, ◌≤◌, ◌+◌, ◌&&◌, ◌||◌, ◌==◌, ◌⊎◌, ℕ, zero, suc, Bool, true, false, List, [], ◌∷◌, length, slice_get, get_or, Option, Some, None, IsTrue, IsFalse, if◌then◌else◌}
+use Rattle.std.specs.Prelude.{◌≡◌, ◌<◌, ◌≤◌, ◌+◌, ◌&&◌, ◌||◌, ◌==◌, ◌⊎◌, ℕ, zero, suc, Bool, true, false, List, [], ◌∷◌, length, slice_get, slice_set, get_or, Option, Some, None, IsTrue, IsFalse, if◌then◌else◌}
 use Rattle.class_tree.specs.Headers.{Classes, headers_of}
 use Rattle.class_model.specs.declared.instr.Instr.{Instr}
 use Rattle.class_model.specs.declared.instr.Instr.TheVariants.{ArrayLoad, ArrayStore, Divide, PutStatic, GetField, PutField, Invoke, Dynamic, NewArray, NewRefArray, NewMulti, Length, Throw, Cast, Enter, Leave}
@@ -263,12 +263,22 @@ pub record IsAdvanced (classes : Classes) (flat : FlatCode) (before after : Head
 
 -- ---- the states of all points
 
--- What is known of states of points is what any states of all points are of which heads hold these.
-pub record IsKnownBy (classes : Classes) (flat : FlatCode) (table : HeadTable) (at : ℕ)
+-- The states of points up to a number, and those of heads, are what any states of all points are of which heads hold these. No other
+-- point has one yet.
+pub record IsKnownTo (classes : Classes) (flat : FlatCode) (table : HeadTable) (at : ℕ)
     (known : List (Option State))
     : Type 0 where
-  pub len : length known ≡ at
-  pub few : at ≤ length flat.points
+  pub len : length known ≡ length table.states
+  pub hold : length table.states ≡ length table.heads
+  pub ahead : (place : ℕ)
+      → at < place
+      → IsFalse (marked table.heads place)
+      → reached_in known place ≡ None
   pub each : (all : AreReachingBy classes flat table []) (place : ℕ)
-      → place < at
+      → (place ≤ at) ⊎ IsTrue (marked table.heads place)
       → reached_in known place ≡ reached_in all.states place
+
+-- a state is put in, if there is one
+abbrev pub put_state : List (Option State) → ℕ → Option State → List (Option State)
+put_state states at None = states
+put_state states at (Some state) = slice_set states at (Some state)
