@@ -5,3 +5,4 @@ pub mod MakeOrder
 pub mod MakeCode
 pub mod Constants
 pub mod FieldConstructor
+pub mod IndexedMaking
