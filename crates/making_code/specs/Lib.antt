@@ -6,3 +6,4 @@ pub mod MakeCode
 pub mod Constants
 pub mod FieldConstructor
 pub mod Opposites
+pub mod IndexedMaking
