@@ -8,6 +8,7 @@ pub mod BegunFrames
 pub mod BothTurns
 pub mod ConstructorRuns
 pub mod ConstructorSteps
+pub mod ConstructorTexts
 pub mod Constructs
 pub mod FewerVirtuals
 pub mod FieldConstructors

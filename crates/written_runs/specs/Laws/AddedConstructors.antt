@@ -36,10 +36,11 @@ use Rattle.member_link.specs.References.{Reference}
 use Rattle.member_link.specs.Signatures.{reference_of}
 use Rattle.plan_flow.specs.Written.WrittenPrograms.{constructor_method}
 use Rattle.same_runs.specs.Flats.{flats_for_codes}
+use Rattle.same_runs.specs.Laws.BothReplaced.{both_replaced_same}
 use Rattle.same_runs.specs.Laws.FlatPrograms.{flats_alike, members_of_class}
 use Rattle.same_runs.specs.Laws.ReplacedPrograms.{ReplacesAlike, replaced_same}
 use Rattle.same_runs.specs.SamePrograms.{IsAdded, SamePrograms}
-use Rattle.written_runs.specs.Inner.Setup.{IsSetup, Setup, second}
+use Rattle.written_runs.specs.Inner.Setup.{IsSetup, Setup, first, second}
 
 -- Field constructors are added to classes of candidates' chains alone: to those whose objects written code may make, and to the classes above.
 pub record AddsToCandidates (u : Setup) : Type 0 where
@@ -347,3 +348,19 @@ module _ (u : Setup) (setup : IsSetup u) (hierarchy : IsHierarchy (headers_of u.
   -- the folder's own program and the second
   pub own_second_same : SamePrograms (program_of u.classes u.links) (second u)
   own_second_same = replaced_same written_alike
+
+  -- the first program and the second
+  pub first_alike : ReplacesAlike (program_of u.classes u.links) u.r
+  first_alike = record {
+    no_init = flats.no_init;
+    members = flats.members;
+    plain_starts = flats.plain_starts;
+    are_added = λ number class is.
+        subst (AllByRecursion (IsAdded (program_of u.classes u.links) class)) (sym (setup.replaces.none_added number)) tt;
+    of_interface = λ number class is interface. setup.replaces.none_added number;
+  } where
+    flats : ReplacesAlike (program_of u.classes u.links) (flats_for_codes u.classes u.links u.flats)
+    flats = flats_alike u.classes u.links u.flats setup.linked
+
+  pub first_second_same : SamePrograms (first u) (second u)
+  first_second_same = both_replaced_same first_alike written_alike setup.replaces.none_added

@@ -154,3 +154,20 @@ fields_distinct file is =
     subst (λ (c : ClassFile). AreDistinct (header_of c).fields) (sym is.is)
     (distinct_fields is.cut.pool [] is.cut.fields
     (fields_hold is.cut.pool is.cut.flags [] _ is.cut.fields (parts_hold is.cut is.holds).fields))
+
+-- each descriptor is one
+described_fields : (pool : Constants) (before : List Signature) (fields : List Field) → FieldsHold pool before fields
+    → AllByRecursion (λ (member : Member). IsFieldDescriptor member.desc) (map (field_member pool) fields)
+described_fields pool before [] all = tt
+described_fields pool before (field ∷ fields) all =
+    (by (utf8_at pool field.desc) all.0.has_desc all.0.described, described_fields pool (before ++ field_signature field ∷ []) fields all.1) where
+      by : (text : Option (List ℕ)) → IsSome text → IfSome text IsFieldDescriptor → IsFieldDescriptor (text_or_empty text)
+      by None some is = absurd (false≢true some)
+      by (Some text) some is = is
+
+pub fields_described : (file : ClassFile) → IsClassFile file
+    → AllByRecursion (λ (member : Member). IsFieldDescriptor member.desc) (header_of file).fields
+fields_described file is =
+    subst (λ (c : ClassFile). AllByRecursion (λ (member : Member). IsFieldDescriptor member.desc) (header_of c).fields) (sym is.is)
+    (described_fields is.cut.pool [] is.cut.fields
+    (fields_hold is.cut.pool is.cut.flags [] _ is.cut.fields (parts_hold is.cut is.holds).fields))
