@@ -34,3 +34,4 @@ pub mod StillThere
 pub mod Turned
 pub mod TypedKept
 pub mod UpperSlots
+pub mod WrittenCodes

@@ -1,5 +1,5 @@
 -- The fields of a class file: no two are of one name and descriptor, and each descriptor is that of a field.
-use Rattle.std.proofs.Common.{◌≡◌, ◌⊎◌, ◌&&◌, ◌+◌, ◌++◌, ℕ, zero, suc, Bool, true, false, List, [], ◌∷◌, bytes_eq, filter, length, map, slice_get, Option, Some, None, IfSome, IsSome, IsTrue, IsFalse, refl, sym, ap, subst, ◌∙◌}
+use Rattle.std.proofs.Common.{◌≡◌, ◌+◌, ◌++◌, ℕ, zero, suc, Bool, true, false, List, [], ◌∷◌, bytes_eq, filter, length, map, slice_get, Option, Some, None, IfSome, IsSome, refl, sym, ap, subst, ◌∙◌}
 use Rattle.std.specs.List.{AllByRecursion, list_any}
 use Rattle.std.proofs.lemmas.Bool.{and_from, and_parts, false≢true}
 use Rattle.std.proofs.lemmas.Option.{none-some, same_Some}
@@ -82,8 +82,8 @@ fields_hold pool flags before at (field ∷ fields) all =
     (fields_checks pool flags (before ++ field_signature field ∷ []) (at + length (field_bytes field)) fields) all in (
       record { other = own.1.0; has_name = own.1.1.0; has_desc = own.1.1.1.1.0; described = own.1.1.1.1.1.0 },
       fields_hold pool flags (before ++ field_signature field ∷ []) (at + length (field_bytes field)) fields
-      (others_hold (field_checks pool flags before at field)
-      (fields_checks pool flags (before ++ field_signature field ∷ []) (at + length (field_bytes field)) fields) all),
+          (others_hold (field_checks pool flags before at field)
+          (fields_checks pool flags (before ++ field_signature field ∷ []) (at + length (field_bytes field)) fields) all),
     )
 
 none_at : {A : Type 0} (test : A → Bool) (xs : List A) (number : ℕ) (x : A) → list_any test xs ≡ false → slice_get xs number ≡ Some x

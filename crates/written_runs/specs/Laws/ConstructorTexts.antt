@@ -1,5 +1,5 @@
 -- The descriptor of a field constructor: its parameters are the types of the fields, and an array behind them.
-use Rattle.std.proofs.Common.{◌≡◌, ◌⊎◌, inl, inr, ◌+◌, ◌-◌, ◌≤◌, ◌++◌, not, ℕ, zero, suc, List, [], ◌∷◌, codes, length, map, replicate, reverse, slice_get, take, Option, Some, None, option_map, IfSome, IsSome, IsTrue, refl, sym, ap, subst, ◌∙◌, append-nil, arith}
+use Rattle.std.proofs.Common.{◌≡◌, inl, inr, ◌-◌, ◌≤◌, ◌++◌, not, ℕ, List, [], ◌∷◌, codes, length, replicate, reverse, slice_get, take, Option, Some, None, option_map, refl, sym, ap, subst, ◌∙◌, append-nil, arith}
 use Rattle.std.specs.List.{AllByRecursion, flat_map}
 use Rattle.std.proofs.lemmas.List.{append_assoc, length-append}
 use Rattle.std.proofs.lemmas.List.Sums.{sum_by-append}
@@ -14,19 +14,16 @@ use Rattle.class_model.specs.declared.class_file.ClassFile.{ClassFile}
 use Rattle.class_model.specs.declared.descriptor.Descriptor.{Descriptor}
 use Rattle.class_model.specs.declared.descriptor.FieldType.{FieldType}
 use Rattle.class_model.specs.declared.descriptor.FieldType.TheVariants.{Byte, Char, Short, Bool, Int, Long, Float, Double, Named}
-use Rattle.class_model.specs.declared.descriptor.Kind.TheVariants as kinds
 use Rattle.class_model.specs.declared.header.Header.{Header}
 use Rattle.class_model.specs.declared.header.Member.{Member}
 use Rattle.class_model.specs.Members.{STATIC, has}
-use Rattle.class_tree.specs.Headers.{Classes, Headers, IsClassFile, Name, headers_of, named}
+use Rattle.class_tree.specs.Headers.{Classes, IsClassFile, Name, headers_of, named}
 use Rattle.class_tree.specs.Layouts.{instance_fields, own_fields, superclasses}
 use Rattle.class_tree.specs.Order.{place_of}
 use Rattle.class_tree.specs.Trees.{IsTree}
 use Rattle.class_tree.specs.declared.place.Place.TheVariants.{Folder}
 use Rattle.member_link.specs.FieldConstructors.{constructor_descriptor, field_types}
 use Rattle.member_link.specs.Laws.FolderClasses.{folder_index}
-use Rattle.member_link.specs.Machine.Layouts.{own_slots_in, slots_in}
-use Rattle.member_link.specs.References.{Reference}
 use Rattle.written_runs.specs.Laws.ApartFields.{fields_described}
 use Rattle.written_runs.specs.Laws.GivenValues.{types_of}
 use Rattle.written_runs.specs.Laws.LessVirtual.{all_still}

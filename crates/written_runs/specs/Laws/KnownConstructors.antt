@@ -1,6 +1,6 @@
 -- The field constructors of the second program are found, have the parameters of their classes' fields, and store each field into its place.
-use Rattle.std.proofs.Common.{◌≡◌, ◌≢◌, ◌≤◌, ◌⊎◌, inl, inr, ◌+◌, ◌++◌, not, ℕ, zero, suc, Bool, true, false, List, [], ◌∷◌, bytes_eq, codes, filter, length, map, replicate, slice_get, Option, Some, None, is_some, option_and_then, option_map, IfSome, IsTrue, IsFalse, refl, sym, ap, subst, ◌∙◌, arith}
-use Rattle.std.specs.List.{AllByRecursion, list_any}
+use Rattle.std.proofs.Common.{◌≡◌, ◌≢◌, ◌≤◌, ◌⊎◌, inl, inr, ◌+◌, ◌++◌, not, ℕ, zero, suc, Bool, true, false, List, [], ◌∷◌, bytes_eq, codes, filter, length, map, replicate, slice_get, Option, Some, None, is_some, option_and_then, option_map, IfSome, IsTrue, refl, sym, ap, subst, ◌∙◌, arith}
+use Rattle.std.specs.List.{list_any}
 use Rattle.std.proofs.lemmas.Bool.{false≢true, not-true}
 use Rattle.std.proofs.lemmas.List.{map-append}
 use Rattle.std.proofs.lemmas.List.Sums.{sum_by-append}
@@ -13,27 +13,25 @@ use Rattle.class_model.specs.Laws.Lists.{at_index}
 use Rattle.class_model.specs.Members.{STATIC, has}
 use Rattle.class_model.specs.Names.{init}
 use Rattle.class_model.specs.declared.class_file.ClassFile.{ClassFile}
-use Rattle.class_model.specs.declared.class_file.MethodAt.{MethodAt}
 use Rattle.class_model.specs.declared.descriptor.FieldType.{FieldType}
 use Rattle.class_model.specs.declared.descriptor.FieldType.TheVariants.{Named}
 use Rattle.class_model.specs.declared.header.Header.{Header}
 use Rattle.class_model.specs.declared.header.Member.{Member}
-use Rattle.class_tree.specs.Headers.{IsClassFile, Name, Classes, Headers, class_named, headers_of, named}
+use Rattle.class_tree.specs.Headers.{IsClassFile, Name, Headers, class_named, headers_of, named}
 use Rattle.class_tree.specs.Hierarchy.{IsHierarchy}
 use Rattle.class_tree.specs.Laws.Above.{above_is_there, below_more, class_decides, class_is_subtype, hierarchy_is_rooted, hierarchy_is_sound, object_no_superclass, there_is_no_array}
 use Rattle.class_tree.specs.Laws.Headers.{class_there, same_class}
 use Rattle.class_tree.specs.Laws.Names.{one_of_first}
 use Rattle.class_tree.specs.Layouts.{instance_fields, own_fields, superclasses}
 use Rattle.class_tree.specs.Names.{object}
-use Rattle.class_tree.specs.Order.{first_place, place_of}
+use Rattle.class_tree.specs.Order.{first_place}
 use Rattle.class_tree.specs.Steps.{HasOneConstructor}
 use Rattle.class_tree.specs.Subtype.{IsArray, IsBelow, IsDirectlyBelow, directly, superclass}
 use Rattle.class_tree.specs.declared.place.Place.TheVariants.{Folder}
 use Rattle.expanded_code.specs.Laws.SuperChains.{has_superclass, of_each_class, superclasses_is, superclasses_of_root}
-use Rattle.making_code.specs.FieldConstructor.{superclass_of}
 use Rattle.member_link.specs.DeclaredMembers.{Declared, declared, declared_by}
 use Rattle.member_link.specs.FieldConstructors.{field_types}
-use Rattle.member_link.specs.Fields.{FindsFirst, above_class, absent_class, in_class, in_no_class, in_other_class}
+use Rattle.member_link.specs.Fields.{FindsFirst, above_class, absent_class, in_class, in_other_class}
 use Rattle.member_link.specs.Laws.FirstNumbers.{number_is_place, number_of_mapped}
 use Rattle.member_link.specs.Laws.FolderClasses.{class_of_folder, found_in_folder}
 use Rattle.member_link.specs.Laws.FolderNumbers.{number_at, number_of_place}
@@ -41,7 +39,7 @@ use Rattle.member_link.specs.Laws.ProgramHeaders.{folder_headers}
 use Rattle.member_link.specs.Machine.Classes.{program_of, run_class_of, run_method_of}
 use Rattle.member_link.specs.Machine.Layouts.{slot_number, slot_number_in}
 use Rattle.member_link.specs.Machine.Links.{IsLink, reference_to}
-use Rattle.member_link.specs.Machine.Programs.{Links, Program, RunClass, RunMethod, field_of, first_member, folder_number, has_flag, header_named, headers_in, member_of, method_of, name_of_class, number_of_first}
+use Rattle.member_link.specs.Machine.Programs.{RunClass, RunMethod, field_of, first_member, folder_number, has_flag, header_named, headers_in, member_of, method_of, name_of_class, number_of_first}
 use Rattle.member_link.specs.Machine.Replaced.{map_numbered, method_replaced, replaced_class}
 use Rattle.member_link.specs.References.{Reference}
 use Rattle.plan_flow.specs.Written.WrittenPrograms.{constructor_method}
@@ -358,7 +356,7 @@ module _ (u : Setup) (setup : IsSetup u) (hierarchy : IsHierarchy (headers_of u.
       slots_by [] start each = tt
       slots_by (field ∷ fields) start each = (
         let zeroth : start + 0 ≡ start = omega arith in
-        subst (λ (n : ℕ). HasSlot (second u) shape (header_of file).name n field) zeroth (each 0 field refl),
+            subst (λ (n : ℕ). HasSlot (second u) shape (header_of file).name n field) zeroth (each 0 field refl),
         slots_by fields (start + 1) (λ place one is.
             let next : start + suc place ≡ start + 1 + place = omega arith in
             subst (λ (n : ℕ). HasSlot (second u) shape (header_of file).name n one) next (each (suc place) one is)),

@@ -1,8 +1,7 @@
 -- What make code asks of the setup, from the setup.
-use Rattle.std.proofs.Common.{◌≡◌, ◌≢◌, ◌+◌, ℕ, List, length, map, slice_get, Option, Some, None, option_map, IsTrue, refl, sym, ap, subst, ◌∙◌, arith}
+use Rattle.std.proofs.Common.{◌≡◌, ◌≢◌, ◌+◌, ℕ, List, length, slice_get, Option, Some, None, option_map, refl, sym, ap, subst, ◌∙◌}
 use Rattle.std.proofs.lemmas.List.{length-map}
 use Rattle.std.proofs.lemmas.Option.{none-some, same_Some}
-use Rattle.class_model.specs.declared.class_file.MethodAt.{MethodAt}
 use Rattle.class_model.specs.declared.header.Member.{Member}
 use Rattle.class_tree.specs.Headers.{Headers, Name, headers_of}
 use Rattle.class_tree.specs.Hierarchy.{IsHierarchy}
@@ -13,20 +12,15 @@ use Rattle.expanded_code.specs.Candidates.{IsCandidate}
 use Rattle.machine_values.specs.Values.{blank_value}
 use Rattle.machine_values.specs.declared.value.Value.{Value}
 use Rattle.member_link.specs.Laws.FolderClasses.{class_of_folder, folder_index}
-use Rattle.member_link.specs.Machine.Beginnings.{come_first}
 use Rattle.member_link.specs.Machine.Classes.{program_of}
 use Rattle.member_link.specs.Machine.Links.{AreLinksOf}
-use Rattle.member_link.specs.Machine.Programs.{RunClass, code_at, folder_number, headers_in, name_of_class}
+use Rattle.member_link.specs.Machine.Programs.{RunClass, folder_number, headers_in, name_of_class}
 use Rattle.member_link.specs.Machine.Replaced.{replaced_class}
-use Rattle.member_link.specs.Scope.{Scope, scope_at}
-use Rattle.plan_flow.specs.Written.WrittenCode.{written_code}
-use Rattle.plan_flow.specs.Written.WrittenPrograms.{WrittenMethod}
 use Rattle.same_runs.specs.Laws.FirstBeginnings.{folder_name}
 use Rattle.same_runs.specs.Laws.Layouts.{same_blanks}
 use Rattle.same_runs.specs.Laws.QuietBeginnings.{BeginAlike, hierarchies_begin_alike}
 use Rattle.same_runs.specs.Laws.ReplacedPrograms.{replaced_same}
 use Rattle.written_runs.specs.Inner.MadeObjects.{MakesObjects}
-use Rattle.written_runs.specs.Inner.PlannedFrames.{blocks_in, scope_in}
 use Rattle.written_runs.specs.Inner.Setup.{IsSetup, Setup, first, second}
 use Rattle.written_runs.specs.Laws.AddedConstructors.{AddsToCandidates, first_alike, first_second_same, own_second_same}
 use Rattle.written_runs.specs.Laws.AddedMethods.{get_numbered}
@@ -35,6 +29,7 @@ use Rattle.written_runs.specs.Laws.FolderFacts.{not_object}
 use Rattle.written_runs.specs.Laws.KnownConstructors.{constructs, own_headers}
 use Rattle.written_runs.specs.Laws.Making.Asked.{MakingLaws}
 use Rattle.written_runs.specs.Laws.Making.Whole.{makes_objects}
+use Rattle.written_runs.specs.Laws.WrittenCodes.{written_code_at}
 
 module _ (u : Setup) (setup : IsSetup u) (hierarchy : IsHierarchy (headers_of u.classes)) (adds : AddsToCandidates u)
     (reads : ReadsParameters) where
@@ -109,18 +104,17 @@ module _ (u : Setup) (setup : IsSetup u) (hierarchy : IsHierarchy (headers_of u.
 
   -- ---- the whole
 
-  -- where the second program runs written code
-  pub making_laws : ((at : MethodAt) (w : WrittenMethod) (host : Scope)
-      → u.written at ≡ Some w
-      → scope_at u.classes at ≡ Some host
-      → code_at (second u) at ≡ Some (written_code (scope_in u w) host u.constructor w.form (blocks_in u w)))
-      → MakingLaws u
-  making_laws code = record {
+  pub making_laws : MakingLaws u
+  making_laws = record {
     is_setup = setup;
     same = first_second_same u setup hierarchy adds;
     alike = begin_alike;
     constructs = constructs u setup hierarchy adds reads;
-    code = code;
+    code = written_code_at u setup;
     proper = no_object;
     blanks = as_many;
   }
+
+  -- Make code makes the objects.
+  pub setup_makes_objects : MakesObjects u
+  setup_makes_objects = makes_objects u making_laws
