@@ -8,6 +8,7 @@ pub mod BegunFrames
 pub mod BothTurns
 pub mod ConstructorRuns
 pub mod ConstructorSteps
+pub mod ConstructorTexts
 pub mod Constructs
 pub mod FewerVirtuals
 pub mod FieldConstructors
@@ -41,3 +42,4 @@ pub mod SavedEntries
 pub mod EdgesPlain
 pub mod UpperSlots
 pub mod AddedFree
+pub mod WrittenCodes

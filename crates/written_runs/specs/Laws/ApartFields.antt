@@ -1,5 +1,5 @@
 -- The fields of a class file: no two are of one name and descriptor, and each descriptor is that of a field.
-use Rattle.std.proofs.Common.{◌≡◌, ◌⊎◌, ◌&&◌, ◌+◌, ◌++◌, ℕ, zero, suc, Bool, true, false, List, [], ◌∷◌, bytes_eq, filter, length, map, slice_get, Option, Some, None, IfSome, IsSome, IsTrue, IsFalse, refl, sym, ap, subst, ◌∙◌}
+use Rattle.std.proofs.Common.{◌≡◌, ◌+◌, ◌++◌, ℕ, zero, suc, Bool, true, false, List, [], ◌∷◌, bytes_eq, filter, length, map, slice_get, Option, Some, None, IfSome, IsSome, refl, sym, ap, subst, ◌∙◌}
 use Rattle.std.specs.List.{AllByRecursion, list_any}
 use Rattle.std.proofs.lemmas.Bool.{and_from, and_parts, false≢true}
 use Rattle.std.proofs.lemmas.Option.{none-some, same_Some}
@@ -82,8 +82,8 @@ fields_hold pool flags before at (field ∷ fields) all =
     (fields_checks pool flags (before ++ field_signature field ∷ []) (at + length (field_bytes field)) fields) all in (
       record { other = own.1.0; has_name = own.1.1.0; has_desc = own.1.1.1.1.0; described = own.1.1.1.1.1.0 },
       fields_hold pool flags (before ++ field_signature field ∷ []) (at + length (field_bytes field)) fields
-      (others_hold (field_checks pool flags before at field)
-      (fields_checks pool flags (before ++ field_signature field ∷ []) (at + length (field_bytes field)) fields) all),
+          (others_hold (field_checks pool flags before at field)
+          (fields_checks pool flags (before ++ field_signature field ∷ []) (at + length (field_bytes field)) fields) all),
     )
 
 none_at : {A : Type 0} (test : A → Bool) (xs : List A) (number : ℕ) (x : A) → list_any test xs ≡ false → slice_get xs number ≡ Some x
@@ -153,4 +153,21 @@ pub fields_distinct : (file : ClassFile) → IsClassFile file → AreDistinct (h
 fields_distinct file is =
     subst (λ (c : ClassFile). AreDistinct (header_of c).fields) (sym is.is)
     (distinct_fields is.cut.pool [] is.cut.fields
+    (fields_hold is.cut.pool is.cut.flags [] _ is.cut.fields (parts_hold is.cut is.holds).fields))
+
+-- each descriptor is one
+described_fields : (pool : Constants) (before : List Signature) (fields : List Field) → FieldsHold pool before fields
+    → AllByRecursion (λ (member : Member). IsFieldDescriptor member.desc) (map (field_member pool) fields)
+described_fields pool before [] all = tt
+described_fields pool before (field ∷ fields) all =
+    (by (utf8_at pool field.desc) all.0.has_desc all.0.described, described_fields pool (before ++ field_signature field ∷ []) fields all.1) where
+      by : (text : Option (List ℕ)) → IsSome text → IfSome text IsFieldDescriptor → IsFieldDescriptor (text_or_empty text)
+      by None some is = absurd (false≢true some)
+      by (Some text) some is = is
+
+pub fields_described : (file : ClassFile) → IsClassFile file
+    → AllByRecursion (λ (member : Member). IsFieldDescriptor member.desc) (header_of file).fields
+fields_described file is =
+    subst (λ (c : ClassFile). AllByRecursion (λ (member : Member). IsFieldDescriptor member.desc) (header_of c).fields) (sym is.is)
+    (described_fields is.cut.pool [] is.cut.fields
     (fields_hold is.cut.pool is.cut.flags [] _ is.cut.fields (parts_hold is.cut is.holds).fields))

@@ -1,23 +1,22 @@
 -- What a tree of classes says of java/lang/Object: no class of the folder is it, and it has an initialiser that the folder's classes call.
-use Rattle.std.proofs.Common.{◌≡◌, ◌≢◌, ◌&&◌, ◌++◌, not, ℕ, zero, suc, Bool, true, false, List, [], ◌∷◌, bytes_eq, codes, filter, length, slice_get, Option, Some, None, IfSome, IsSome, IsTrue, IsFalse, refl, sym, ap, subst, ◌∙◌, arith}
+use Rattle.std.proofs.Common.{◌≡◌, ◌≢◌, ◌&&◌, ◌++◌, not, ℕ, zero, suc, Bool, true, false, List, [], ◌∷◌, bytes_eq, codes, filter, length, slice_get, Option, Some, None, IfSome, IsSome, IsTrue, refl, sym, subst, ◌∙◌, arith}
 use Rattle.std.specs.List.{list_any}
 use Rattle.std.proofs.lemmas.Bool.{and_parts, false≢true, not-true}
 use Rattle.std.proofs.lemmas.List.Sums.{length-filter}
-use Rattle.std.proofs.lemmas.Option.{none-some, same_Some, slice_get-map}
+use Rattle.std.proofs.lemmas.Option.{none-some, same_Some}
 use Rattle.class_model.specs.Checks.{AllHold, Check, asked_each}
-use Rattle.class_model.specs.Header.{header_of}
 use Rattle.class_model.specs.Laws.Checks.{first_holds, others_hold}
 use Rattle.class_model.specs.Members.{PUBLIC, STATIC, has}
 use Rattle.class_model.specs.Names.{init}
 use Rattle.class_model.specs.declared.class_file.ClassFile.{ClassFile}
 use Rattle.class_model.specs.declared.header.Header.{Header}
 use Rattle.class_model.specs.declared.header.Member.{Member}
-use Rattle.class_tree.specs.Headers.{Classes, Headers, class_named, headers_of, named}
+use Rattle.class_tree.specs.Headers.{Classes, class_named, headers_of, named}
 use Rattle.class_tree.specs.Hierarchy.{IsHierarchy}
 use Rattle.class_tree.specs.Laws.Headers.{own_name}
 use Rattle.class_tree.specs.Names.{cloneable, is_interface, is_member, machine_throwables, method_handle, method_type, base_names, object, serializable, throwable}
 use Rattle.class_tree.specs.Problems.{Problem, check}
-use Rattle.class_tree.specs.Steps.{HasOneConstructor, base_checks, folder_checks, hierarchy_checks, is_method_handle, is_method_type, is_open_constructor, library_checks, needed_class_checks, step_checks}
+use Rattle.class_tree.specs.Steps.{HasOneConstructor, base_checks, folder_checks, hierarchy_checks, is_method_handle, is_method_type, is_open_constructor, library_checks, needed_class_checks}
 use Rattle.class_tree.specs.Subtype.{IsBelow}
 use Rattle.class_tree.specs.Trees.{IsTree}
 use Rattle.class_tree.specs.declared.fault.LinkRule.TheVariants as rules
@@ -68,7 +67,8 @@ module _ (classes : Classes) (tree : IsTree classes) where
       by classes.folder is (others_hold (hierarchy_checks (headers_of classes)) (base_of classes classes.folder) tree.holds) where
         second_of_six : (a b c d e f : List (Check Problem)) → AllHold (a ++ b ++ c ++ d ++ e ++ f) → AllHold b
         second_of_six a b c d e f all =
-            others_hold a b (first_holds (a ++ b) c (first_holds (a ++ b ++ c) d (first_holds (a ++ b ++ c ++ d) e (first_holds (a ++ b ++ c ++ d ++ e) f all))))
+            others_hold a b (first_holds (a ++ b) c (first_holds (a ++ b ++ c) d (first_holds (a ++ b ++ c ++ d) e
+            (first_holds (a ++ b ++ c ++ d ++ e) f all))))
 
         by : (folder : List ClassFile) → slice_get folder number ≡ Some file → AllHold (base_of classes folder)
             → IfSome (class_named (headers_of classes) object) HasOneConstructor

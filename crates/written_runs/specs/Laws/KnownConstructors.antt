@@ -1,35 +1,37 @@
 -- The field constructors of the second program are found, have the parameters of their classes' fields, and store each field into its place.
-use Rattle.std.proofs.Common.{◌≡◌, ◌≢◌, ◌⊎◌, inl, inr, ◌+◌, ◌++◌, not, ℕ, zero, suc, Bool, true, false, List, [], ◌∷◌, bytes_eq, codes, filter, length, map, slice_get, Option, Some, None, is_some, option_and_then, option_map, IfSome, IsTrue, IsFalse, refl, sym, ap, subst, ◌∙◌, arith}
-use Rattle.std.specs.List.{AllByRecursion}
+use Rattle.std.proofs.Common.{◌≡◌, ◌≢◌, ◌≤◌, ◌⊎◌, inl, inr, ◌+◌, ◌++◌, not, ℕ, zero, suc, Bool, true, false, List, [], ◌∷◌, bytes_eq, codes, filter, length, map, replicate, slice_get, Option, Some, None, is_some, option_and_then, option_map, IfSome, IsTrue, refl, sym, ap, subst, ◌∙◌, arith}
+use Rattle.std.specs.List.{list_any}
 use Rattle.std.proofs.lemmas.Bool.{false≢true, not-true}
+use Rattle.std.proofs.lemmas.List.{map-append}
+use Rattle.std.proofs.lemmas.List.Sums.{sum_by-append}
 use Rattle.std.proofs.lemmas.Option.{none-some, same_Some, slice_get-map}
 use Rattle.std.proofs.lemmas.Slice.Eq.{bytes_eq-Decides}
-use Rattle.class_model.specs.Descriptors.{kind_of, parameters_of}
+use Rattle.class_model.specs.Characters.{boolean_letter, left_bracket}
+use Rattle.class_model.specs.Descriptors.{kind_of, parameter_units, parameters_of, type_of, units_of}
 use Rattle.class_model.specs.Header.{header_of}
 use Rattle.class_model.specs.Laws.Lists.{at_index}
 use Rattle.class_model.specs.Members.{STATIC, has}
 use Rattle.class_model.specs.Names.{init}
 use Rattle.class_model.specs.declared.class_file.ClassFile.{ClassFile}
-use Rattle.class_model.specs.declared.class_file.MethodAt.{MethodAt}
 use Rattle.class_model.specs.declared.descriptor.FieldType.{FieldType}
-use Rattle.class_model.specs.declared.descriptor.Kind.TheVariants as kinds
+use Rattle.class_model.specs.declared.descriptor.FieldType.TheVariants.{Named}
 use Rattle.class_model.specs.declared.header.Header.{Header}
 use Rattle.class_model.specs.declared.header.Member.{Member}
-use Rattle.class_tree.specs.Headers.{IsClassFile, Name, Classes, Headers, class_named, headers_of, named}
+use Rattle.class_tree.specs.Headers.{IsClassFile, Name, Headers, class_named, headers_of, named}
 use Rattle.class_tree.specs.Hierarchy.{IsHierarchy}
-use Rattle.class_tree.specs.Laws.Above.{above_is_there, below_more, class_decides, class_is_subtype, hierarchy_is_sound, there_is_no_array}
+use Rattle.class_tree.specs.Laws.Above.{above_is_there, below_more, class_decides, class_is_subtype, hierarchy_is_rooted, hierarchy_is_sound, object_no_superclass, there_is_no_array}
 use Rattle.class_tree.specs.Laws.Headers.{class_there, same_class}
-use Rattle.class_tree.specs.Layouts.{instance_fields, own_fields}
+use Rattle.class_tree.specs.Laws.Names.{one_of_first}
+use Rattle.class_tree.specs.Layouts.{instance_fields, own_fields, superclasses}
 use Rattle.class_tree.specs.Names.{object}
-use Rattle.class_tree.specs.Order.{first_place, place_of}
+use Rattle.class_tree.specs.Order.{first_place}
 use Rattle.class_tree.specs.Steps.{HasOneConstructor}
 use Rattle.class_tree.specs.Subtype.{IsArray, IsBelow, IsDirectlyBelow, directly, superclass}
 use Rattle.class_tree.specs.declared.place.Place.TheVariants.{Folder}
-use Rattle.expanded_code.specs.Laws.SuperChains.{has_superclass}
-use Rattle.making_code.specs.FieldConstructor.{superclass_of}
+use Rattle.expanded_code.specs.Laws.SuperChains.{has_superclass, of_each_class, superclasses_is, superclasses_of_root}
 use Rattle.member_link.specs.DeclaredMembers.{Declared, declared, declared_by}
-use Rattle.member_link.specs.FieldConstructors.{HasDimensions, constructor_descriptor}
-use Rattle.member_link.specs.Fields.{FindsFirst, above_class, absent_class, in_class, in_no_class, in_other_class}
+use Rattle.member_link.specs.FieldConstructors.{field_types}
+use Rattle.member_link.specs.Fields.{FindsFirst, above_class, absent_class, in_class, in_other_class}
 use Rattle.member_link.specs.Laws.FirstNumbers.{number_is_place, number_of_mapped}
 use Rattle.member_link.specs.Laws.FolderClasses.{class_of_folder, found_in_folder}
 use Rattle.member_link.specs.Laws.FolderNumbers.{number_at, number_of_place}
@@ -37,7 +39,7 @@ use Rattle.member_link.specs.Laws.ProgramHeaders.{folder_headers}
 use Rattle.member_link.specs.Machine.Classes.{program_of, run_class_of, run_method_of}
 use Rattle.member_link.specs.Machine.Layouts.{slot_number, slot_number_in}
 use Rattle.member_link.specs.Machine.Links.{IsLink, reference_to}
-use Rattle.member_link.specs.Machine.Programs.{Links, Program, RunClass, RunMethod, field_of, first_member, folder_number, has_flag, header_named, headers_in, member_of, method_of, name_of_class, number_of_first}
+use Rattle.member_link.specs.Machine.Programs.{RunClass, RunMethod, field_of, first_member, folder_number, has_flag, header_named, headers_in, member_of, method_of, name_of_class, number_of_first}
 use Rattle.member_link.specs.Machine.Replaced.{map_numbered, method_replaced, replaced_class}
 use Rattle.member_link.specs.References.{Reference}
 use Rattle.plan_flow.specs.Written.WrittenPrograms.{constructor_method}
@@ -49,9 +51,10 @@ use Rattle.same_runs.specs.Laws.ReplacedPrograms.{members_same}
 use Rattle.same_runs.specs.SamePrograms.{SamePrograms}
 use Rattle.same_runs.specs.Laws.Numbered.{slice_numbered}
 use Rattle.written_runs.specs.Inner.Setup.{IsSetup, Setup, second}
-use Rattle.written_runs.specs.Laws.AddedConstructors.{AddsToCandidates, HasFree, IsAddedTo, added_to, has_free, own_second_same}
+use Rattle.written_runs.specs.Laws.AddedConstructors.{AddsToCandidates, HasFree, IsAddedTo, added_to, has_free, of_chain, own_second_same}
 use Rattle.written_runs.specs.Laws.AddedMethods.{FindsLast, class_replaced, finds_last, first_of_last, member_itself}
 use Rattle.written_runs.specs.Laws.ApartFields.{AreDistinct, declared_itself, distinct_still, fields_distinct}
+use Rattle.written_runs.specs.Laws.ConstructorTexts.{ReadsParameters, parameters_are}
 use Rattle.written_runs.specs.Laws.Constructs.{Constructs, KnowsEach, constructs_by, fields_above_and_own, object_without_fields}
 use Rattle.written_runs.specs.Laws.FieldConstructors.{HasSlot, HasSlots, IsBelowObject, IsConstructor, reference_of_constructor}
 use Rattle.written_runs.specs.Laws.FolderFacts.{HasInitialiser, has_initialiser, no_folder_object, not_object, object_has}
@@ -59,14 +62,48 @@ use Rattle.written_runs.specs.Laws.GivenValues.{types_of}
 use Rattle.written_runs.specs.Laws.LessVirtual.{WasIn, was_in}
 use Rattle.written_runs.specs.Laws.UpperSlots.{slot_number_is}
 
--- The text of a field constructor's descriptor: its parameters are the types of the fields, and then one of a reference.
-pub record ConstructorTexts (classes : Classes) : Type 0 where
-  pub parameters : (class : Name) (dimensions : ℕ)
-      → HasDimensions classes class dimensions
-      → (last : FieldType)
-      × (kind_of last ≡ kinds.Ref)
-      × (parameters_of (constructor_descriptor (headers_of classes) class dimensions)
-      ≡ types_of (instance_fields (headers_of classes) class) ++ last ∷ [])
+-- ---- units of fields
+
+-- a class above has no more units of fields
+fewer_units : (headers : Headers) → IsHierarchy headers → (class : Name) (header : Header) → class_named headers class ≡ Some header
+    → (name : Name) → IsTrue (list_any (bytes_eq name) (superclasses headers class))
+    → parameter_units (field_types headers name) ≤ parameter_units (field_types headers class)
+fewer_units headers hierarchy class header is =
+    of_each_class headers hierarchy (λ (low : Name). (name : Name) → IsTrue (list_any (bytes_eq name) (superclasses headers low))
+    → parameter_units (field_types headers name) ≤ parameter_units (field_types headers low)) top step class header is where
+      same_units : (one other : Name) → one ≡ other → parameter_units (field_types headers other) ≤ parameter_units (field_types headers one)
+      same_units one other same =
+          let equal = ap (λ (n : Name). parameter_units (field_types headers n)) same in omega (arith, equal)
+
+      top : (top_header : Header) → class_named headers object ≡ Some top_header → (name : Name)
+          → IsTrue (list_any (bytes_eq name) (superclasses headers object))
+          → parameter_units (field_types headers name) ≤ parameter_units (field_types headers object)
+      top top_header there name one =
+          elim (one_of_first object [] name (subst (λ (names : List Name). IsTrue (list_any (bytes_eq name) names))
+          (superclasses_of_root headers hierarchy object top_header there
+          (object_no_superclass headers (hierarchy_is_sound headers hierarchy) (hierarchy_is_rooted headers hierarchy) top_header there)) one)) [
+            | inl same ↦ same_units object name same
+            | inr none ↦ absurd (false≢true none)
+          ]
+
+      step : (low above : Name) (low_header : Header) → class_named headers low ≡ Some low_header → low ≢ object → low_header.super_name ≡ Some above
+          → ((name : Name) → IsTrue (list_any (bytes_eq name) (superclasses headers above))
+          → parameter_units (field_types headers name) ≤ parameter_units (field_types headers above))
+          → (name : Name) → IsTrue (list_any (bytes_eq name) (superclasses headers low))
+          → parameter_units (field_types headers name) ≤ parameter_units (field_types headers low)
+      step low above low_header there differ some rest name one =
+          elim (one_of_first low (superclasses headers above) name (subst (λ (names : List Name). IsTrue (list_any (bytes_eq name) names))
+          (superclasses_is headers hierarchy low low_header there above some) one)) [
+            | inl same ↦ same_units low name same
+            | inr later ↦
+                let higher = rest name later in
+                let all : parameter_units (field_types headers low)
+                ≡ parameter_units (field_types headers above) + parameter_units (types_of (own_fields headers low)) =
+                ap (λ (fields : List Member). parameter_units (types_of fields)) (fields_above_and_own headers hierarchy low low_header there above some)
+                ∙ ap parameter_units (map-append (λ (field : Member). type_of field.desc) (instance_fields headers above) (own_fields headers low))
+                ∙ sum_by-append (λ (type : FieldType). units_of (kind_of type)) (field_types headers above) (types_of (own_fields headers low)) in
+                omega (arith, higher, all)
+          ]
 
 -- ---- lists
 
@@ -161,14 +198,14 @@ finds_own {headers = headers} {name = name} {desc = desc} header member (in_othe
 finds_own header member (absent_class class classes found absent others) here declares = absurd (none-some header (sym absent ∙ here))
 
 module _ (u : Setup) (setup : IsSetup u) (hierarchy : IsHierarchy (headers_of u.classes)) (adds : AddsToCandidates u)
-    (texts : ConstructorTexts u.classes) where
+    (reads : ReadsParameters) where
   abbrev headers : Headers
   headers = headers_of u.classes
 
   same : SamePrograms (program_of u.classes u.links) (second u)
   same = own_second_same u setup hierarchy adds
 
-  own_headers : headers_in (program_of u.classes u.links) ≡ headers_of u.classes
+  pub own_headers : headers_in (program_of u.classes u.links) ≡ headers_of u.classes
   own_headers =
       ap (λ (folder : List Header). let all : Headers = record { folder = folder; library = u.classes.library } in all)
       (folder_headers u.links (headers_of u.classes) u.classes.folder)
@@ -320,7 +357,7 @@ module _ (u : Setup) (setup : IsSetup u) (hierarchy : IsHierarchy (headers_of u.
       slots_by [] start each = tt
       slots_by (field ∷ fields) start each = (
         let zeroth : start + 0 ≡ start = omega arith in
-        subst (λ (n : ℕ). HasSlot (second u) shape (header_of file).name n field) zeroth (each 0 field refl),
+            subst (λ (n : ℕ). HasSlot (second u) shape (header_of file).name n field) zeroth (each 0 field refl),
         slots_by fields (start + 1) (λ place one is.
             let next : start + suc place ≡ start + 1 + place = omega arith in
             subst (λ (n : ℕ). HasSlot (second u) shape (header_of file).name n one) next (each (suc place) one is)),
@@ -333,9 +370,11 @@ module _ (u : Setup) (setup : IsSetup u) (hierarchy : IsHierarchy (headers_of u.
         at = record { class = number; method = length olds };
         is_place = last_found.is_place;
         is_method = last_found.is_method;
-        last = text.0;
-        last_reference = text.1;
-        parameters = ap parameters_of free.is ∙ text.2;
+        last = Named (replicate free.dimensions left_bracket ++ boolean_letter ∷ []);
+        last_reference = refl;
+        parameters = ap parameters_of free.is
+            ∙ parameters_are u.classes setup.tree reads (header_of file).name free.dimensions free.has.some
+            (let few = free.has.few in omega (arith, few)) narrow;
         conforms = below;
         number = number;
         of_folder = second_number number file is_file;
@@ -345,11 +384,14 @@ module _ (u : Setup) (setup : IsSetup u) (hierarchy : IsHierarchy (headers_of u.
         fields = fields_above_and_own (headers_of u.classes) hierarchy (header_of file).name (header_of file) to.named_class above.0 above.1;
         own = slots_by (own_fields (headers_of u.classes) (header_of file).name) (length (instance_fields (headers_of u.classes) above.0)) has_slot;
       } where
-        text : (last : FieldType)
-            × (kind_of last ≡ kinds.Ref)
-            × (parameters_of (constructor_descriptor (headers_of u.classes) (header_of file).name free.dimensions)
-            ≡ types_of (instance_fields (headers_of u.classes) (header_of file).name) ++ last ∷ [])
-        text = texts.parameters (header_of file).name free.dimensions free.has
+        narrow : parameter_units (field_types (headers_of u.classes) (header_of file).name) ≤ 64
+        narrow =
+            let candidate = to.is_candidate in
+            let few = candidate.narrow in
+            let less = fewer_units (headers_of u.classes) hierarchy to.candidate candidate.header
+            (class_of_folder (headers_of u.classes) to.candidate candidate.header candidate.found) (header_of file).name
+            (of_chain (headers_of u.classes) to.candidate (header_of file).name to.of_chain_of).there in
+            omega (arith, few, less)
 
   -- ---- the class of an object
 
@@ -409,9 +451,9 @@ module _ (u : Setup) (setup : IsSetup u) (hierarchy : IsHierarchy (headers_of u.
 
     -- java/lang/Object
     at_top : IsBelow (headers_of u.classes) low_name object → (second u).links.below (name_of_class (second u) shape) object ≡ true
-        → (name : Name) → name ≡ object → bytes_eq name object ≡ true
-        → IsBelowObject (second u) u.classes shape name
-    at_top below conforms name equal is_object = record {
+        → (upper : Name) → upper ≡ object → bytes_eq upper object ≡ true
+        → IsBelowObject (second u) u.classes shape upper
+    at_top below conforms upper equal is_object = record {
       is_object = is_object;
       no_fields = ap (instance_fields (headers_of u.classes)) equal
           ∙ object_without_fields (headers_of u.classes) hierarchy top.0 top.1 outside;

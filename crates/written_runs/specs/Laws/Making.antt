@@ -5,6 +5,7 @@ pub mod Copies
 pub mod Cuts
 pub mod Entered
 pub mod Fields
+pub mod FromSetup
 pub mod Held
 pub mod InOrder
 pub mod Left

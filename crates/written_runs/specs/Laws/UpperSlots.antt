@@ -1,7 +1,7 @@
 -- The fields of an object of a class among those of an object of a class below it, by the members that they are.
-use Rattle.std.proofs.Common.{◌≡◌, ◌≢◌, ◌⊎◌, inl, inr, ◌&&◌, ◌+◌, ◌++◌, ℕ, zero, suc, Bool, true, false, List, [], ◌∷◌, bytes_eq, length, map, reverse, slice_get, Option, Some, None, option_map, if◌then◌else◌, IsTrue, IsFalse, refl, sym, ap, subst, ◌∙◌, append-nil, arith}
-use Rattle.std.specs.List.{AllByRecursion, flat_map, list_any}
-use Rattle.std.proofs.lemmas.Bool.{and_parts, false≢true}
+use Rattle.std.proofs.Common.{◌≡◌, ◌≢◌, ◌⊎◌, inl, inr, ◌+◌, ◌++◌, ℕ, zero, suc, Bool, true, false, List, [], ◌∷◌, bytes_eq, length, map, reverse, slice_get, Some, None, option_map, IsFalse, refl, sym, ap, subst, ◌∙◌, append-nil}
+use Rattle.std.specs.List.{AllByRecursion, flat_map}
+use Rattle.std.proofs.lemmas.Bool.{and_parts}
 use Rattle.std.proofs.lemmas.Grind.{flat_map-append}
 use Rattle.std.proofs.lemmas.List.{append_assoc, length-append, length-map, reverse-append}
 use Rattle.std.proofs.lemmas.Option.{none-some, same_Some}
@@ -9,10 +9,9 @@ use Rattle.std.proofs.lemmas.Slice.Eq.{bytes_eq-Decides}
 use Rattle.class_model.specs.Laws.Lists.{at_index}
 use Rattle.class_model.specs.declared.header.Header.{Header}
 use Rattle.class_model.specs.declared.header.Member.{Member}
-use Rattle.class_tree.specs.Headers.{Name, Headers, class_named, named}
+use Rattle.class_tree.specs.Headers.{Name, Headers, class_named}
 use Rattle.class_tree.specs.Hierarchy.{IsHierarchy}
 use Rattle.class_tree.specs.Laws.Above.{class_is_climbed, hierarchy_is_rooted, hierarchy_is_sound, nothing_above_object, object_no_superclass}
-use Rattle.class_tree.specs.Laws.Headers.{own_name}
 use Rattle.class_tree.specs.Layouts.{instance_fields, own_fields, superclasses}
 use Rattle.class_tree.specs.Names.{is_interface, object}
 use Rattle.class_tree.specs.Subtype.{IsBelow, IsDirectlyBelow, directly, onwards, superclass}
@@ -215,7 +214,8 @@ module _ (headers : Headers) (hierarchy : IsHierarchy headers) where
         | inr below ↦
             let begins = begins_above name header is none low low_header low_is below in
             ap (number_of_first (same_reference (record { class = name; name = field.name; desc = field.desc }))) begins.are
-            ∙ number_in_front (same_reference (record { class = name; name = field.name; desc = field.desc })) (slots_in headers name) begins.more (length (instance_fields headers above) + number) at_own
+            ∙ number_in_front (same_reference (record { class = name; name = field.name; desc = field.desc })) (slots_in headers name) begins.more
+            (length (instance_fields headers above) + number) at_own
       ] where
         higher : (h : Header) × (class_named headers above ≡ Some h)
         higher = super_there headers hierarchy name header is above some

@@ -149,7 +149,8 @@ module _ {u : Setup} {w : WrittenMethod} (s : Scene u w) where
           by true e (inl less) =
               let two : width_of also ≡ 2 = rw (same_wide same ∙ e) refl in
               let next : suc other ≡ unit → ⊥ = λ equal.
-              not_unusable (local_slots s.point s.state) (suc other) (s.kept.wide other v plain at e) (ap (slice_get (local_slots s.point s.state)) equal ∙ here) in
+              not_unusable (local_slots s.point s.state) (suc other) (s.kept.wide other v plain at e)
+              (ap (slice_get (local_slots s.point s.state)) equal ∙ here) in
               inl (omega (arith, less, two, next))
 
     by_unit : (other of : ℕ) → more_copied other → slice_get (local_slots s.point s.state) other ≡ Some (Virt of) → IsTrue (has s.made of)
