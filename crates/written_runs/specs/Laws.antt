@@ -11,6 +11,7 @@ pub mod Constructs
 pub mod FewerVirtuals
 pub mod FieldConstructors
 pub mod GivenValues
+pub mod FilledLaws
 pub mod FreshFrames
 pub mod Halfway
 pub mod KnownClasses
