@@ -1,9 +1,8 @@
 -- Methods that run flat code are typed by its typed points.
-use Rattle.std.proofs.Common.{◌≡◌, ℕ, zero, Bool, true, false, slice_get, Option, Some, None, option_map, refl, sym, ap, subst, ◌∙◌, if◌then◌else◌}
+use Rattle.std.proofs.Common.{◌≡◌, ℕ, zero, slice_get, Option, Some, None, option_map, refl, sym, ap, subst, ◌∙◌}
 use Rattle.std.proofs.lemmas.List.{length-map}
 use Rattle.std.proofs.lemmas.Option.{none-some, same_Some, slice_get-map}
 use Rattle.class_model.specs.Header.{method_member}
-use Rattle.class_model.specs.Members.{NATIVE, has}
 use Rattle.class_model.specs.declared.class_file.MethodAt.{MethodAt}
 use Rattle.class_model.specs.declared.header.Member.{Member}
 use Rattle.class_tree.specs.Headers.{Classes, headers_of}
@@ -20,6 +19,7 @@ use Rattle.member_link.specs.Scope.{Scope, scope_at}
 use Rattle.same_runs.specs.ClearedFields.{ReplacesByFlats}
 use Rattle.same_runs.specs.Flats.{Flats, flat_body, flat_code, flat_point, flat_points}
 use Rattle.same_runs.specs.Laws.Numbered.{from_zero, length_numbered}
+use Rattle.same_runs.specs.Laws.ReplacedPrograms.{body_is}
 use Rattle.same_runs.specs.Laws.Scopes.{IsScopeAt, own_run, program_headers, scope_is_at}
 use Rattle.same_runs.specs.ReadyCode.{IsReadyCode}
 use Rattle.typed_flats.proofs.FlatMethods.{entry_is, own_class, own_name}
@@ -32,14 +32,6 @@ use Rattle.typed_runs.specs.FolderTypings.{HasFlatTypings}
 use Rattle.typed_runs.specs.LinkedInstrs.{LinksInstrs}
 use Rattle.typed_runs.specs.TypedPoints.{LeadsTo, TypedPoint}
 use Rattle.typed_runs.specs.TypedPrograms.{IsTypedMethod, IsTypedProgram, Typings}
-
--- the code of a method is another one where it has code
-body_is : (method : RunMethod) (body code : Code) → code_run (with_body method (Some body)) ≡ Some code → code ≡ body
-body_is method body code runs = by (has method.member.flags NATIVE) method.code runs where
-  by : (native : Bool) (own : Option Code) → (if native then None else option_map (λ (old : Code). body) own) ≡ Some code → code ≡ body
-  by true own e = absurd (none-some code e)
-  by false None e = absurd (none-some code e)
-  by false (Some old) e = sym (same_Some body code e)
 
 module _ (classes : Classes) (links : Links) (tree : IsTree classes) (instrs : LinksInstrs (program_of classes links) classes)
     (hierarchy : IsHierarchy (headers_of classes)) where

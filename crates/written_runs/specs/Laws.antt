@@ -14,6 +14,8 @@ pub mod FewerVirtuals
 pub mod FieldConstructors
 pub mod FolderFacts
 pub mod GivenValues
+pub mod FilledLaws
+pub mod FreshFrames
 pub mod Halfway
 pub mod KnownClasses
 pub mod KnownConstructors

@@ -1,11 +1,12 @@
 -- Items of a list by their numbers, and the methods of a program in which methods run other code.
-use Rattle.std.proofs.Common.{◌≡◌, ◌+◌, ℕ, zero, suc, List, [], ◌∷◌, ◌++◌, length, slice_get, Option, Some, None, option_map, refl, ap, ◌∙◌, arith}
+use Rattle.std.proofs.Common.{◌≡◌, ◌+◌, ℕ, zero, suc, List, [], ◌∷◌, ◌++◌, length, slice_get, Option, Some, None, option_map, refl, sym, ap, ◌∙◌, arith}
 use Rattle.std.specs.Prelude.{option_and_then}
 use Rattle.std.proofs.lemmas.List.{append-nil}
 use Rattle.std.proofs.lemmas.Option.{none-some}
 use Rattle.class_model.specs.declared.class_file.MethodAt.{MethodAt}
-use Rattle.member_link.specs.Machine.Programs.{Program, RunClass, RunMethod, run_method}
+use Rattle.member_link.specs.Machine.Programs.{Code, Program, RunClass, RunMethod, code_at, code_run, run_method}
 use Rattle.member_link.specs.Machine.Replaced.{Replacement, map_numbered, method_replaced, replaced, replaced_class, with_body}
+use Rattle.same_runs.specs.Laws.ReplacedPrograms.{body_is}
 
 -- ---- items
 
@@ -76,3 +77,11 @@ module _ (P : Program) (r : Replacement) where
     replaced_run at =
         ap (option_and_then (λ (class : RunClass). slice_get class.methods at.method)) (replaced_at at.class)
         ∙ in_class at (slice_get P.classes at.class)
+
+    -- the code that a method runs is the one that takes the place of its own, if one does
+    pub replaced_code : (at : MethodAt) (body code : Code) → r.body at ≡ Some body → code_at (replaced P r) at ≡ Some code → code ≡ body
+    replaced_code at body code is runs = by (run_method P at) (ap (option_and_then code_run) (sym (replaced_run at)) ∙ runs) where
+      by : (method : Option RunMethod) → option_and_then code_run (option_map (λ (method : RunMethod). with_body method (r.body at)) method) ≡ Some code
+          → code ≡ body
+      by None none = absurd (none-some code none)
+      by (Some method) some = body_is method body code (ap (λ (other : Option Code). code_run (with_body method other)) (sym is) ∙ some)

@@ -40,6 +40,12 @@ pub record PendAlike (u : Setup) (f g : MethodState) : Type 0 where
   pub is_also : point_at (second u) g.at g.place ≡ Some also
   pub same : pending_of also.op ≡ pending_of point.op
 
+-- a planned frame waits at an instruction that is written as it is
+pub record PendsPlanned (u : Setup) : Type 0 where
+  pub pends : (virtuals : Virtuals) (known : Known) (names : Names) (heap : Heap) (f g : MethodState) (ones others : List RunFrame)
+      → WaitsPlanned u virtuals known names heap f g ones others
+      → PendAlike u f g
+
 pub record LibraryLaws (u : Setup) : Type 0 where
   pub turns : TurnLaws u
   pub acts_typed : (w : World) (action : Action)
@@ -52,10 +58,7 @@ pub record LibraryLaws (u : Setup) : Type 0 where
       → w.halt ≡ going
       → is_library_turn w.frames ≡ true
       → MemoryStays w.memory (act (first u) action w).memory
-  -- a planned frame waits at an instruction that is written as it is
-  pub pends : (virtuals : Virtuals) (known : Known) (names : Names) (heap : Heap) (f g : MethodState) (ones others : List RunFrame)
-      → WaitsPlanned u virtuals known names heap f g ones others
-      → PendAlike u f g
+  pub pends : PendsPlanned u
 
 -- ---- frames
 
@@ -121,7 +124,7 @@ module _ (u : Setup) (laws : LibraryLaws u) (virtuals : Virtuals) (known : Known
   library_waits {names = names} {heap = heap} made made_also (planned_stand {f = f} {g = g} {ones = ones} {others = others} in_planned waits below) owned
       awaited typed =
       waits_by made made_also
-      (laws.pends virtuals known names heap f g ones others
+      (laws.pends.pends virtuals known names heap f g ones others
       (waits_planned u laws.turns.frames virtuals known in_planned (waits refl) below owned awaited typed))
       (planned_stand in_planned waits below) owned awaited typed
 
