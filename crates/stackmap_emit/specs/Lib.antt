@@ -1,0 +1,3 @@
+pub mod PlacedFrames
+pub mod FrameConstants
+pub mod FramesAttribute
