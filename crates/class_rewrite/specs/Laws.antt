@@ -1,1 +1,3 @@
 pub mod Kept
+pub mod OneReason
+pub mod OneWriting

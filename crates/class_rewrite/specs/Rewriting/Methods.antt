@@ -17,6 +17,7 @@ use Rattle.flow_code.specs.TypedFrames.{FolderFrames}
 use Rattle.flow_code.specs.WrittenUnits.{written_units}
 use Rattle.flow_code.specs.declared.reason.Reason.{Reason}
 use Rattle.flow_code.specs.declared.reason.Reason.TheVariants as reasons
+use Rattle.making_code.specs.Items.{WItem}
 use Rattle.member_link.specs.Bodies.{Body}
 use Rattle.member_link.specs.Machine.Programs.{Links}
 use Rattle.member_link.specs.Scope.{Scope, scope_at}
@@ -24,12 +25,12 @@ use Rattle.plan_flow.specs.Gain.{Gains}
 use Rattle.plan_flow.specs.Plans.{IsLeast, Plan}
 use Rattle.plan_flow.specs.Written.FramedCode.{IsFramed, body_of_items, greatest_of}
 use Rattle.plan_flow.specs.Written.Routes.{IsRouted}
-use Rattle.plan_flow.specs.Written.WrittenCode.{Form, short, wide}
+use Rattle.plan_flow.specs.Written.WrittenCode.{Form, short, wide, written_items}
 use Rattle.plan_flow.specs.Written.WrittenConstants.{code_pool, indexed_items}
 use Rattle.stackmap_emit.specs.FrameConstants.{frames_pool}
 use Rattle.stackmap_emit.specs.FramesAttribute.{IsFramesAttribute}
 use Rattle.stackmap_emit.specs.PlacedFrames.{IsLaidIn, placed_frames, stated_from}
-use Rattle.plan_flow.specs.Written.WrittenPrograms.{WrittenMethod, finished_of, items_of, plan_scope}
+use Rattle.plan_flow.specs.Written.WrittenPrograms.{WrittenMethod, finished_of, plan_scope}
 
 -- what becoming of methods goes by: the folder with its frames and links, and the descriptors of field constructors
 pub record Rewriting : Type 0 where
@@ -47,6 +48,10 @@ pub record IsPlanned (r : Rewriting) (at : MethodAt) (one : WrittenMethod) (plan
   pub routed : IsRouted (plan_scope r.classes r.links one) plan one.routes
 
 -- ---- the form
+
+-- its items in the short form; those of the wide one need the same constants
+abbrev pub short_items : Rewriting → WrittenMethod → List WItem
+short_items r one = written_items short (finished_of r.classes r.links one)
 
 -- the items of a written method in a pool, in a form, are emitted as these
 abbrev pub AreItems : Rewriting → WrittenMethod → Form → Constants → List EmitItem → Type 0
@@ -89,17 +94,17 @@ pub record IsCoded (r : Rewriting) (at : MethodAt) (pool : Constants) (w : Rewri
   pub planned : IsPlanned r at w.one w.plan
   pub gains : Gains (plan_scope r.classes r.links w.one) w.plan
   pub grows : code_pool (plan_scope r.classes r.links w.one) r.constructor
-      (items_of r.classes r.links w.one) pool ≡ Some w.code_pool
+      (short_items r w.one) pool ≡ Some w.code_pool
   pub chosen : IsChosen r w.one w.code_pool
   pub items : AreItems r w.one w.one.form w.code_pool w.items
 
--- and laid out, with its frames
+-- and laid out, with its frames, which do not depend on how deep the stack may be
 pub record IsFramedIn (r : Rewriting) (host : Scope) (w : Rewritten) : Type 0 where
   pub fits : ¬ IsTooLong w.one.form w.items
   pub laid : IsLaidIn w.one.form w.items w.laid
   pub state : ℕ → Option Frame
   pub body : w.body
-      ≡ body_of_items host w.one.flat w.code_pool w.part.max_stack (plain_items w.items) state
+      ≡ body_of_items host w.one.flat w.code_pool 0 (plain_items w.items) state
   pub framed : IsFramed w.one.flat w.one.form (finished_of r.classes r.links w.one)
       (plain_items w.items) w.body w.frames
   pub stated : w.stated ≡ stated_from w.body.stated 0 w.items
@@ -134,7 +139,7 @@ pub record CodeIsPast (r : Rewriting) (at : MethodAt) (pool : Constants) : Type 
   pub planned : IsPlanned r at one plan
   pub gains : Gains (plan_scope r.classes r.links one) plan
   pub past : code_pool (plan_scope r.classes r.links one) r.constructor
-      (items_of r.classes r.links one) pool ≡ None
+      (short_items r one) pool ≡ None
 
 -- its code or its exception table is too long
 pub record IsLongCode (r : Rewriting) (at : MethodAt) (pool : Constants) : Type 0 where
