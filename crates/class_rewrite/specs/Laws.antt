@@ -1,3 +1,4 @@
 pub mod Kept
 pub mod OneReason
 pub mod OneWriting
+pub mod OneFolder

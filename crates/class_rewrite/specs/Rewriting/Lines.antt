@@ -1,5 +1,5 @@
 -- The lines of a report by what becomes of methods. It is this project's profile.
-use Rattle.std.specs.Prelude.{◌≡◌, ◌≢◌, ℕ, Bool, true, false, List, count_by, length}
+use Rattle.std.specs.Prelude.{◌≡◌, ◌≢◌, Bool, true, false, count_by, length}
 use Rattle.class_model.specs.declared.class_file.MethodAt.{MethodAt}
 use Rattle.class_model.specs.declared.instr.Instr.{Instr}
 use Rattle.class_model.specs.declared.instr.Instr.TheVariants.{Enter}
@@ -8,7 +8,7 @@ use Rattle.class_rewrite.specs.Rewriting.Folders.{HasReasonAt, IsRewrittenAt}
 use Rattle.class_rewrite.specs.Rewriting.Methods.{Rewriting, Rewritten}
 use Rattle.class_rewrite.specs.declared.report.Line.{Line}
 use Rattle.flow_code.specs.declared.reason.Reason.TheVariants as reasons
-use Rattle.making_code.specs.Items.{WInstr, WItem, carried, constructs, load, makes, plain, store}
+use Rattle.making_code.specs.Items.{WInstr, carried, constructs, load, makes, plain, store}
 use Rattle.plan_flow.specs.Written.WrittenPrograms.{items_of}
 
 -- an object of a candidate site is made: a new of the method's own is none

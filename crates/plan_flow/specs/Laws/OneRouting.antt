@@ -80,8 +80,8 @@ module _ (s : PlanScope) (effect_is_one : (at : ℕ) (state : State) (edges also
       let order : route.order ≡ other.order = order_is_one point.state.objects point.made route.order other.order one.order also.order in
       let effects : also.effect ≡ one.effect = effect_is_one at (state_left point) also.effect one.effect also.is_effect one.is_effect in
       let edges : route.edges ≡ other.edges =
-          edges_are_one one.effect point.edges route.edges other.edges one.edges
-          (subst (λ (x : List Edge). AreEdgeRoutes x point.edges other.edges) effects also.edges) in
+      edges_are_one one.effect point.edges route.edges other.edges one.edges
+      (subst (λ (x : List Edge). AreEdgeRoutes x point.edges other.edges) effects also.edges) in
       route_parts route.state other.state state route.made other.made made route.order other.order order route.edges other.edges edges
 
   routes_from : (at : ℕ) (plan : Plan) (routes others : Routes) → AreRoutes s at plan routes → AreRoutes s at plan others → routes ≡ others

@@ -69,7 +69,7 @@ module _ (host : Scope) (flat : FlatCode) (form : Form) (blocks : List Finished)
           let had : frame_had (state n) (flow_into one_body frames n) ≡ Some x = framed.had n x e in
           let had_also : frame_had (other n) (flow_into other_body others n) ≡ Some y = also.had n y f in
           let same : frame_had (state n) (flow_into one_body frames n) ≡ frame_had (other n) (flow_into other_body others n) =
-              rw (same_stated n flows) (rw flows refl) in
+          rw (same_stated n flows) (rw flows refl) in
           e ∙ sym had ∙ same ∙ had_also ∙ sym f
 
     flows_next : (n : ℕ) → slice_get frames n ≡ slice_get others n → flow_into one_body frames (suc n) ≡ flow_into other_body others (suc n)
