@@ -2,3 +2,4 @@ pub mod Kept
 pub mod OneReason
 pub mod OneWriting
 pub mod OneFolder
+pub mod GrownPools
