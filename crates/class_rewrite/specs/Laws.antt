@@ -1,1 +1,5 @@
 pub mod Kept
+pub mod OneReason
+pub mod OneWriting
+pub mod OneFolder
+pub mod GrownPools

@@ -13,8 +13,9 @@ use Rattle.member_link.specs.Scope.{Scope, scope_at}
 use Rattle.plan_flow.specs.Written.WrittenCode.{written_code}
 use Rattle.plan_flow.specs.Written.WrittenPrograms.{WrittenMethod}
 use Rattle.written_runs.specs.Inner.PlannedFrames.{blocks_in, scope_in}
+use Rattle.same_runs.specs.Laws.Numbered.{slice_numbered}
 use Rattle.written_runs.specs.Inner.Setup.{IsSetup, Setup, second}
-use Rattle.written_runs.specs.Laws.AddedMethods.{class_replaced, get_numbered}
+use Rattle.written_runs.specs.Laws.AddedMethods.{class_replaced}
 
 get_front : {A : Type 0} (xs ys : List A) (number : ℕ) (x : A) → slice_get xs number ≡ Some x → slice_get (xs ++ ys) number ≡ Some x
 get_front [] ys number x is = absurd (none-some x is)
@@ -47,7 +48,7 @@ written_code_at u setup at w host written is =
           (map_numbered (method_replaced u.s at.class) zero (map (run_method_of u.links (headers_of u.classes) host.class) host.class.methods)) at.method
           ≡ Some (with_body (run_method_of u.links (headers_of u.classes) host.class host.method) (u.s.body at))
       method_there =
-          get_numbered (method_replaced u.s at.class) 0 at.method (map (run_method_of u.links (headers_of u.classes) host.class) host.class.methods)
+          slice_numbered (method_replaced u.s at.class) 0 (map (run_method_of u.links (headers_of u.classes) host.class) host.class.methods) at.method
           ∙ ap (λ (n : ℕ). option_map (method_replaced u.s at.class n)
           (slice_get (map (run_method_of u.links (headers_of u.classes) host.class) host.class.methods) at.method)) zeroth
           ∙ ap (option_map (method_replaced u.s at.class at.method))

@@ -23,7 +23,7 @@ use Rattle.same_runs.specs.Laws.ReplacedPrograms.{replaced_same}
 use Rattle.written_runs.specs.Inner.MadeObjects.{MakesObjects}
 use Rattle.written_runs.specs.Inner.Setup.{IsSetup, Setup, first, second}
 use Rattle.written_runs.specs.Laws.AddedConstructors.{AddsToCandidates, first_alike, first_second_same, own_second_same}
-use Rattle.written_runs.specs.Laws.AddedMethods.{get_numbered}
+use Rattle.same_runs.specs.Laws.Numbered.{slice_numbered}
 use Rattle.written_runs.specs.Laws.ConstructorTexts.{ReadsParameters}
 use Rattle.written_runs.specs.Laws.FolderFacts.{not_object}
 use Rattle.written_runs.specs.Laws.KnownConstructors.{constructs, own_headers}
@@ -61,7 +61,7 @@ module _ (u : Setup) (setup : IsSetup u) (hierarchy : IsHierarchy (headers_of u.
   own_class : (number : ℕ) (class : RunClass) → slice_get (first u).classes number ≡ Some class → IsOwnClass number class
   own_class number class is =
       by (slice_get (program_of u.classes u.links).classes number) refl
-      (sym (get_numbered (replaced_class u.r) 0 number (program_of u.classes u.links).classes) ∙ is) where
+      (sym (slice_numbered (replaced_class u.r) 0 (program_of u.classes u.links).classes number) ∙ is) where
         by : (found : Option RunClass) → slice_get (program_of u.classes u.links).classes number ≡ found
             → option_map (replaced_class u.r (0 + number)) found ≡ Some class
             → IsOwnClass number class
