@@ -38,7 +38,6 @@ pub mod CalledNames
 pub mod FlatSites
 pub mod SiteInitialisers
 pub mod Bars
-pub mod CodedMethods
 pub mod CallTargets
 pub mod FolderReceivers
 mod CallChoices

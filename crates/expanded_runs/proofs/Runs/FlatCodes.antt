@@ -9,7 +9,7 @@ use Rattle.class_tree.specs.Headers.{headers_of}
 use Rattle.expanded_code.specs.Alone.{number_in}
 use Rattle.expanded_code.specs.Laws.NumberedInstrs.{found-instr, or_behind}
 use Rattle.expanded_runs.proofs.AloneCode.{first-placed, found-point}
-use Rattle.expanded_runs.proofs.Runs.CodedMethods.{not_native}
+use Rattle.expanded_code.specs.Laws.CodedMethods.{not_native}
 use Rattle.expanded_runs.proofs.Runs.Setup.{IsSetup, Setup, after, before}
 use Rattle.flow_code.specs.FlatCode.{FlatCode}
 use Rattle.flow_code.specs.declared.point.Point.{Point as FlatPoint}
@@ -59,7 +59,7 @@ module _ (u : Setup) (is_setup : IsSetup u) where
   -- a method of the folder with code runs it in the first
   pub code_before : (at : MethodAt) (s : Scope) → scope_at u.classes at ≡ Some s → code_at (before u) at ≡ Some (method_code u.links s)
   code_before at s is =
-      own_code_at u.classes u.links at s (scope_is_at u.classes at s is) (not_native u.classes at s is_setup.tree is)
+      own_code_at u.classes u.links at s (scope_is_at u.classes at s is) (let known = scope_is_at u.classes at s is in not_native u.classes at s.class s.method s.part is_setup.tree known.of_folder known.of_class known.has_code)
 
   pub point_before : (at : MethodAt) (s : Scope) → scope_at u.classes at ≡ Some s → (k : ℕ)
       → point_at (before u) at k ≡ option_map (own_point u.links s) (slice_get (instructions s) k)
@@ -102,7 +102,7 @@ module _ (u : Setup) (is_setup : IsSetup u) where
       → code_at (after u) at ≡ Some (flat_code u.classes u.links s flat)
   code_after at flat s some is =
       ap (option_and_then code_run) (flat_run_method at flat s some is)
-      ∙ by (has s.method.flags NATIVE) (not_native u.classes at s is_setup.tree is) where
+      ∙ by (has s.method.flags NATIVE) (let known = scope_is_at u.classes at s is in not_native u.classes at s.class s.method s.part is_setup.tree known.of_folder known.of_class known.has_code) where
         by : (native : Bool) → native ≡ false
             → (if native then None else Some (flat_code u.classes u.links s flat)) ≡ Some (flat_code u.classes u.links s flat)
         by true e = absurd cc

@@ -13,7 +13,7 @@ use Rattle.same_runs.specs.Laws.FoundMembers.{FieldLaws}
 use Rattle.typed_runs.specs.TypedPrograms.{IsTypedProgram, Typings}
 use Rattle.typed_runs.specs.TypedWorlds.{StaysTyped, TypedWorld}
 use Rattle.written_runs.specs.Inner.Setup.{IsSetup, Setup, first, second}
-use Rattle.written_runs.specs.Laws.AddedConstructors.{AddsWhereFree}
+use Rattle.written_runs.specs.Laws.AddedFree.{AddsWhereFree}
 use Rattle.written_runs.specs.Laws.AloneTurns.{alone_turn}
 use Rattle.written_runs.specs.Laws.BeginningTurns.{beginning_turn}
 use Rattle.written_runs.specs.Laws.BothTurns.{Basis}

@@ -4,7 +4,8 @@ use Rattle.std.proofs.lemmas.Option.{none-some, slice_get-map}
 use Rattle.class_model.specs.Members.{NATIVE, has}
 use Rattle.class_model.specs.declared.class_file.MethodAt.{MethodAt}
 use Rattle.class_tree.specs.Headers.{headers_of}
-use Rattle.expanded_code.specs.Laws.NativeMethods.{IsScopeAt, not_native, scope_is_at}
+use Rattle.expanded_code.specs.Laws.CodedMethods.{not_native}
+use Rattle.same_runs.specs.Laws.Scopes.{IsScopeAt, scope_is_at}
 use Rattle.member_link.specs.Machine.Classes.{run_method_of}
 use Rattle.member_link.specs.Machine.Codes.{method_code}
 use Rattle.member_link.specs.Machine.Programs.{Code, RunMethod, code_at, code_run, run_method}
@@ -34,7 +35,7 @@ pub written_code_at : (u : Setup) → IsSetup u → (at : MethodAt) (w : Written
 written_code_at u setup at w host written is =
     ap (option_and_then code_run) runs
     ∙ ap (λ (body : Option Code). code_run (with_body (run_method_of u.links (headers_of u.classes) host.class host.method) body)) body_is
-    ∙ body_runs (run_method_of u.links (headers_of u.classes) host.class host.method) _ _ (not_native u.classes at host setup.tree is) own_code where
+    ∙ body_runs (run_method_of u.links (headers_of u.classes) host.class host.method) _ _ (not_native u.classes at host.class host.method host.part setup.tree known.of_folder known.of_class known.has_code) own_code where
       known : IsScopeAt u.classes at host
       known = scope_is_at u.classes at host is
 
