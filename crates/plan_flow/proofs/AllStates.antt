@@ -1,5 +1,5 @@
 -- The states of all points, when each head has its state: a point inside a block has the state of the one edge that leads to it.
-use Rattle.std.proofs.Common.{◌≡◌, ℕ, ◌<◌, ◌≤◌, ◌+◌, ◌-◌, zero, suc, Bool, true, false, cond, List, [], ◌∷◌, ◌++◌, length, slice_get, slice_set, take, Option, Some, None, IsTrue, IsFalse, refl, sym, ap, subst, ◌∙◌, inl, inr, ◌⊎◌, arith}
+use Rattle.std.proofs.Common.{◌≡◌, ℕ, ◌<◌, ◌+◌, zero, suc, Bool, true, false, cond, List, [], ◌∷◌, ◌++◌, length, slice_get, slice_set, take, Option, Some, None, IsTrue, IsFalse, refl, sym, ap, subst, ◌∙◌, inl, inr, arith}
 use Rattle.std.specs.Option.{option_flatten}
 use Rattle.std.proofs.lemmas.Bool.{both_ways, cases_Bool}
 use Rattle.std.proofs.lemmas.List.{length-set}
@@ -19,7 +19,7 @@ use Rattle.plan_flow.specs.Inner.Planning.{made_edges, made_on}
 use Rattle.plan_flow.specs.Inner.Sharing.{AreTargets, caught_made, caught_part, caught_plans, last_set, open_by, or_no_site, own_part, plans_of, put_set, targets_in}
 use Rattle.plan_flow.specs.Must.{open_edges, row_of_point}
 use Rattle.plan_flow.specs.PlanRows.{RowEdge}
-use Rattle.plan_flow.specs.PlanScope.{PlanScope, scope_of}
+use Rattle.plan_flow.specs.PlanScope.{scope_of}
 use Rattle.plan_flow.specs.PlanTable.{falls_on, next_edges}
 use Rattle.plan_flow.specs.declared.edge.Edge.{Edge}
 use Rattle.virtual_state.specs.States.{State}

@@ -9,9 +9,9 @@ use Rattle.flow_code.specs.FlatCode.{FlatCode}
 use Rattle.member_link.specs.Machine.Links.{AreLinksOf}
 use Rattle.member_link.specs.Machine.Programs.{Links}
 use Rattle.plan_flow.specs.Inner.Iteration.{IsRaised}
-use Rattle.plan_flow.specs.Inner.Reaching.{Reached, reached_in, IsUnder, IsMore, IsEdgeTo, LeadsIn, IsLess, IsRaisedTo, AreStarted, AreFollowed, HasListed}
+use Rattle.plan_flow.specs.Inner.Reaching.{Reached, reached_in, IsUnder, IsMore, IsEdgeTo, LeadsIn, IsLess, IsRaisedTo, AreStarted, AreFollowed}
 use Rattle.plan_flow.specs.PlanScope.{PlanScope, scope_of}
-use Rattle.plan_flow.specs.Plans.{IsStateAt, state_without_sites}
+use Rattle.plan_flow.specs.Plans.{state_without_sites}
 use Rattle.plan_flow.specs.declared.edge.Edge.{Edge}
 use Rattle.virtual_state.specs.Orders.{IsBelow, HaveSamePlaces}
 use Rattle.virtual_state.specs.Sites.{has}

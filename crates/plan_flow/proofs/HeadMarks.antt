@@ -1,12 +1,12 @@
 -- Heads of blocks are marked, point by point.
 use Rattle.std.proofs.Common.{◌≡◌, ℕ, ◌<◌, ◌≤◌, ◌+◌, ◌==◌, ◌||◌, ◌&&◌, zero, suc, Bool, true, false, List, [], ◌∷◌, take, length, replicate, slice_get, slice_set, Option, Some, None, IsTrue, IsFalse, refl, sym, ap, subst, ◌∙◌, inl, inr, ◌⊎◌, arith, if◌then◌else◌}
-use Rattle.std.proofs.lemmas.Bool.{cases_Bool, or_cases, or_left, or_right, eq-eqb, eqb-true, ne_eqb, false≢true}
+use Rattle.std.proofs.lemmas.Bool.{cases_Bool, or_cases, or_left, or_right, eq-eqb, eqb-true, ne_eqb}
 use Rattle.std.proofs.lemmas.List.{length-replicate}
 use Rattle.std.proofs.lemmas.Option.{none-some, same_Some}
 use Rattle.flow_code.specs.FlatCode.{FlatCode, point_at}
 use Rattle.flow_code.specs.declared.point.FlatInstr.{FlatInstr}
 use Rattle.flow_code.specs.declared.point.Point.{Point}
-use Rattle.plan_flow.specs.Inner.Blocks.{AreHeads, AreHeadsUpTo, AreMarked, HoldHeads, IsHead, IsMarkedBy, at_start, branches, caught_by, has_some, made_by, makes_head, marked, may_throw}
+use Rattle.plan_flow.specs.Inner.Blocks.{AreHeadsUpTo, AreMarked, HoldHeads, IsHead, IsMarkedBy, at_start, branches, caught_by, has_some, made_by, makes_head, marked, may_throw}
 use Rattle.plan_flow.specs.Inner.Reaching.{Reached, reached_in}
 use Rattle.plan_flow.specs.Inner.Sharing.{AreTargetsOf, points_of}
 use Rattle.plan_flow.specs.PlanTable.{targets_at}

@@ -1,5 +1,5 @@
 -- The edges behind a block are followed: heads are reached or raised.
-use Rattle.std.proofs.Common.{◌≡◌, ℕ, ◌<◌, ◌≤◌, ◌+◌, ◌==◌, ◌||◌, ◌*◌, zero, suc, Bool, false, cond, List, [], ◌∷◌, take, length, slice_get, slice_set, not, is_some, Option, Some, None, IsTrue, IsFalse, refl, sym, ap, subst, ◌∙◌, inl, inr, ◌⊎◌, arith}
+use Rattle.std.proofs.Common.{◌≡◌, ℕ, ◌<◌, ◌≤◌, ◌+◌, ◌==◌, ◌||◌, ◌*◌, zero, suc, Bool, false, cond, List, [], ◌∷◌, take, length, slice_get, slice_set, not, is_some, Option, Some, None, IsTrue, IsFalse, refl, sym, ap, subst, ◌∙◌, inl, inr, arith}
 use Rattle.std.specs.Option.{option_flatten}
 use Rattle.std.proofs.lemmas.Bool.{both_ways, or_left, or_right, eq-eqb}
 use Rattle.std.proofs.lemmas.List.{length-set}
@@ -8,9 +8,9 @@ use Rattle.class_tree.specs.Headers.{Classes, headers_of}
 use Rattle.flow_code.specs.FlatCode.{FlatCode, IsFlat}
 use Rattle.member_link.specs.Machine.Links.{AreLinksOf}
 use Rattle.member_link.specs.Machine.Programs.{Links}
-use Rattle.plan_flow.specs.Inner.Blocks.{AreFollowedBy, AreHeads, AreReachingBy, AreSpread, AreStartedBy, CanBeFollowed, HeadTable, IsBlockWalked, IsSpread, IsVisited, marked}
+use Rattle.plan_flow.specs.Inner.Blocks.{AreFollowedBy, AreReachingBy, AreStartedBy, HeadTable, IsBlockWalked, IsSpread, IsVisited, marked}
 use Rattle.plan_flow.specs.Inner.Iteration.{IsRaised}
-use Rattle.plan_flow.specs.Inner.Reaching.{reached_in, AreFollowed, HasListed, IsLess, IsMore, LeadsIn, unreached_in}
+use Rattle.plan_flow.specs.Inner.Reaching.{reached_in, HasListed, IsLess, IsMore, LeadsIn, unreached_in}
 use Rattle.plan_flow.specs.Inner.Sharing.{AreTargets}
 use Rattle.plan_flow.specs.PlanScope.{PlanScope, scope_of}
 use Rattle.plan_flow.specs.Plans.{FlowsInside, IsStateAt}

@@ -1,18 +1,17 @@
 -- Points that have no edge to a target or to a handler, and the points behind them.
-use Rattle.std.proofs.Common.{◌≡◌, ℕ, ◌<◌, ◌+◌, ◌||◌, ◌&&◌, ◌==◌, zero, suc, Bool, true, false, cond, List, [], ◌∷◌, ◌++◌, length, slice_get, Option, Some, None, IsTrue, IsFalse, refl, sym, ap, subst, ◌∙◌, inl, inr, ◌⊎◌, arith}
+use Rattle.std.proofs.Common.{◌≡◌, ℕ, ◌<◌, ◌+◌, ◌||◌, ◌&&◌, ◌==◌, zero, suc, Bool, true, false, cond, List, [], ◌∷◌, ◌++◌, length, slice_get, Option, Some, None, IsTrue, IsFalse, refl, sym, ap, subst, ◌∙◌, inl, inr, ◌⊎◌}
 use Rattle.std.specs.List.{filter}
-use Rattle.std.proofs.lemmas.Bool.{cases_Bool, both_ways, eq-eqb, eqb-true, false≢true, true≢false, or_left, or_right, or_parts}
+use Rattle.std.proofs.lemmas.Bool.{cases_Bool, both_ways, eq-eqb, false≢true, true≢false, or_left, or_right, or_parts}
 use Rattle.std.proofs.lemmas.List.{append-nil}
 use Rattle.std.proofs.lemmas.Option.{none-some, same_Some}
 use Rattle.class_model.specs.Instructions.{targets}
-use Rattle.class_model.specs.Pool.{Constants, constant_at}
+use Rattle.class_model.specs.Pool.{constant_at}
 use Rattle.class_model.specs.PoolChecks.{class_at}
 use Rattle.class_model.specs.declared.descriptor.Kind.{Kind}
 use Rattle.class_model.specs.declared.frame.Frame.{Frame}
 use Rattle.class_model.specs.declared.instr.Instr.{Instr}
 use Rattle.class_model.specs.declared.instr.Instr.TheVariants.{Nop, Const, Ldc, Ldc2, Load, Store, Iinc, ArrayLoad, ArrayStore, Shuffle, Pure, Divide, FloatAsk, If, If2, IfSame, IfNull, Goto, Table, Lookup, Return, GetStatic, PutStatic, GetField, PutField, Invoke, Dynamic, New, NewArray, NewRefArray, NewMulti, Length, Throw, Cast, InstanceOf, Enter, Leave}
 use Rattle.class_model.specs.declared.opcodes.TheConstants.{IF_ACMPEQ, IFNULL}
-use Rattle.class_model.specs.declared.pool.Const.{Const as PoolConst}
 use Rattle.class_tree.specs.Headers.{Name}
 use Rattle.flow_code.specs.FlatCode.{FlatCode, point_at}
 use Rattle.flow_code.specs.declared.handlers.FlatHandler.{FlatHandler}
@@ -30,12 +29,10 @@ use Rattle.plan_flow.specs.Must.{open_edges, row_of_point}
 use Rattle.plan_flow.specs.PlanRows.{Guard, in_each_state, PlanRow, RowEdge}
 use Rattle.plan_flow.specs.PlanScope.{PlanScope, pool_of, member_of, field_of, site_at}
 use Rattle.plan_flow.specs.PlanSlots.{is_open}
-use Rattle.plan_flow.specs.PlanTable.{call_row, cast_row, edges_of, falls_on, get_field_row, instr_row, jump_edges, new_row, next_edges, put_field_row, return_row, row_at, shuffle_row, targets_at, thrown_edges}
+use Rattle.plan_flow.specs.PlanTable.{call_row, cast_row, falls_on, get_field_row, instr_row, jump_edges, new_row, next_edges, put_field_row, return_row, row_at, shuffle_row, targets_at, thrown_edges}
 use Rattle.plan_flow.specs.declared.edge.Edge.{Edge}
 use Rattle.virtual_state.specs.Sites.{has}
 use Rattle.virtual_state.specs.States.{State}
-use Rattle.plan_flow.proofs.EffectGrows.{EdgeOf, edge_of_row, row_of_edge}
-use Rattle.plan_flow.proofs.MustGrows.{StandsIn}
 use Rattle.plan_flow.proofs.RowUpdates.{dynamic_is}
 use Rattle.plan_flow.proofs.Sharing.{filtered_stands, stands_either, stands_has, stands_target}
 

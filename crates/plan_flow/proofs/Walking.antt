@@ -1,7 +1,7 @@
 -- A block is gone through, point by point: each point behind its head gets its state from the one edge that leads to it.
-use Rattle.std.proofs.Common.{◌≡◌, ℕ, ◌<◌, ◌≤◌, ◌+◌, ◌-◌, ◌==◌, zero, suc, Bool, true, false, List, [], ◌∷◌, length, slice_get, slice_set, Option, Some, None, IsTrue, IsFalse, refl, sym, ap, subst, ◌∙◌, inl, inr, ◌⊎◌, arith}
+use Rattle.std.proofs.Common.{◌≡◌, ℕ, ◌<◌, ◌≤◌, ◌+◌, ◌-◌, ◌==◌, Bool, List, [], ◌∷◌, length, slice_get, slice_set, Some, None, IsTrue, IsFalse, refl, sym, ap, subst, ◌∙◌, inl, inr, arith}
 use Rattle.std.specs.Option.{option_flatten}
-use Rattle.std.proofs.lemmas.Bool.{cases_Bool, both_ways, or_left, or_right, eq-eqb, true≢false}
+use Rattle.std.proofs.lemmas.Bool.{cases_Bool, both_ways, or_left, or_right, eq-eqb}
 use Rattle.std.proofs.lemmas.List.{length-set}
 use Rattle.std.proofs.lemmas.Option.{none-some, same_Some}
 use Rattle.class_tree.specs.Headers.{Classes, headers_of}
@@ -10,14 +10,14 @@ use Rattle.flow_code.specs.declared.point.Point.{Point}
 use Rattle.member_link.specs.Machine.Links.{AreLinksOf}
 use Rattle.member_link.specs.Machine.Programs.{Links}
 use Rattle.plan_flow.specs.Effect.{AreEdges, IsStateBehind}
-use Rattle.plan_flow.specs.Inner.Blocks.{AreEdgesAt, AreHeads, AreReachingBy, AreSpread, HeadTable, IsBlockWalked, IsInner, IsSpread, IsStateInside, IsWalked, marked, next_edge}
+use Rattle.plan_flow.specs.Inner.Blocks.{AreEdgesAt, AreHeads, AreReachingBy, HeadTable, IsBlockWalked, IsInner, IsSpread, IsStateInside, IsWalked, marked, next_edge}
 use Rattle.plan_flow.specs.Inner.Iteration.{IsCleaned, IsLeft, IsRaised, IsTarget}
 use Rattle.plan_flow.specs.Inner.Reaching.{Reached, reached_in, AreFollowed, AreReaching, AreStarted, IsMore}
 use Rattle.plan_flow.specs.Inner.Sharing.{AreTargets, open_by, targets_in}
-use Rattle.plan_flow.specs.Must.{IsMustOf, row_of_point}
+use Rattle.plan_flow.specs.Must.{IsMustOf}
 use Rattle.plan_flow.specs.PlanRows.{RowEdge}
 use Rattle.plan_flow.specs.PlanScope.{PlanScope, scope_of}
-use Rattle.plan_flow.specs.PlanTable.{falls_on, next_edges}
+use Rattle.plan_flow.specs.PlanTable.{falls_on}
 use Rattle.plan_flow.specs.Plans.{FlowsInside}
 use Rattle.plan_flow.specs.declared.edge.Edge.{Edge}
 use Rattle.virtual_state.specs.Orders.{IsBelow}
@@ -26,7 +26,7 @@ use Rattle.virtual_state.specs.States.{State}
 use Rattle.virtual_state.specs.Laws.Objects.{same_or_not}
 use Rattle.virtual_state.specs.Laws.Orders.{below_itself, below_and_below}
 use Rattle.plan_flow.proofs.EffectGrows.{behind_below, row_of_edge}
-use Rattle.plan_flow.proofs.Following.{Following, followed_none, followed_one, started_inside, started_next}
+use Rattle.plan_flow.proofs.Following.{Following, followed_one, started_inside}
 use Rattle.plan_flow.proofs.HeadMarks.{in_or_out, outside_marked}
 use Rattle.plan_flow.proofs.LeastPlans.{point_there}
 use Rattle.plan_flow.proofs.PointLists.{set_here, set_other}

@@ -1,6 +1,6 @@
 -- Blocks of flat code: a block is entered at its head alone and left behind its last point alone. While the least plan is found
 -- heads alone hold states.
-use Rattle.std.specs.Prelude.{◌≡◌, ◌<◌, ◌≤◌, ◌+◌, ◌&&◌, ◌||◌, ◌==◌, ◌⊎◌, ℕ, zero, suc, Bool, true, false, List, [], ◌∷◌, length, slice_get, slice_set, get_or, Option, Some, None, IsTrue, IsFalse, if◌then◌else◌}
+use Rattle.std.specs.Prelude.{◌≡◌, ◌<◌, ◌≤◌, ◌+◌, ◌&&◌, ◌||◌, ◌==◌, ◌⊎◌, ℕ, Bool, true, false, List, [], ◌∷◌, length, slice_get, slice_set, get_or, Option, Some, None, IsTrue, IsFalse, if◌then◌else◌}
 use Rattle.class_tree.specs.Headers.{Classes, headers_of}
 use Rattle.class_model.specs.declared.instr.Instr.{Instr}
 use Rattle.class_model.specs.declared.instr.Instr.TheVariants.{ArrayLoad, ArrayStore, Divide, PutStatic, GetField, PutField, Invoke, Dynamic, NewArray, NewRefArray, NewMulti, Length, Throw, Cast, Enter, Leave}

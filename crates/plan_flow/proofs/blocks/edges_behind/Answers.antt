@@ -1,4 +1,4 @@
-use Rattle.std.proofs.Common.{◌<◌, ◌≤◌, length, sym, subst, ◌∙◌, arith, List, Some, None, Option}
+use Rattle.std.proofs.Common.{◌≤◌, length, subst, arith, List, Some, None, Option}
 use Rattle.plan_flow.specs.Inner.Blocks.{IsStateInside}
 use Rattle.plan_flow.specs.declared.edge.Edge.{Edge}
 use Rattle.plan_flow.proofs.Walking.{going_end, going_on, going_past, going_start}

@@ -1,10 +1,9 @@
-use Rattle.std.proofs.Common.{◌≡◌, ◌+◌, ◌++◌, ◌∷◌, [], ℕ, List, Option, suc, take, sym, ap, ◌∙◌, arith, rules}
+use Rattle.std.proofs.Common.{◌≡◌, ◌+◌, ◌++◌, ◌∷◌, [], ℕ, suc, take, sym, ap, ◌∙◌, arith, rules}
 use Rattle.std.specs.Option.{option_copied}
 use Rattle.plan_flow.proofs.AllStates.{took_one}
 use Rattle.plan_flow.proofs.Opening.{got_inside}
 use Rattle.plan_flow.proofs.PointLists.{took_all}
 use Rattle.plan_flow.proofs.head_states.all_of.Goals as goal
-use Rattle.virtual_state.specs.States.{State}
 
 pub loop-state-smaller : goal.loop-state-smaller
 loop-state-smaller c =

@@ -1,4 +1,4 @@
-use Rattle.std.proofs.Common.{◌≡◌, ◌<◌, ◌≤◌, ◌+◌, ◌-◌, ◌^◌, ℕ, false, List, Bool, length, replicate, sym, ap, subst, ◌∙◌, arith, rules}
+use Rattle.std.proofs.Common.{◌≡◌, ◌<◌, ℕ, false, Bool, length, replicate, ap, subst, ◌∙◌, arith, rules}
 use Rattle.plan_flow.specs.Inner.Blocks.{AreHeadsUpTo}
 use Rattle.plan_flow.proofs.HeadMarks.{heads_more, heads_start}
 use Rattle.plan_flow.proofs.LeastPlans.{point_there}

@@ -1,11 +1,9 @@
-use Rattle.std.proofs.Common.{◌≡◌, ◌||◌, ◌+◌, ◌<◌, ℕ, suc, Bool, true, List, [], take, length, slice_get, None, Some, sym, ap, subst, ◌∙◌, arith, rules}
+use Rattle.std.proofs.Common.{◌≡◌, ◌||◌, ◌+◌, ◌<◌, ℕ, suc, Bool, true, take, length, Some, sym, ap, subst, ◌∙◌, arith, rules}
 use Rattle.std.proofs.lemmas.Bool.{or_right}
 use Rattle.std.proofs.lemmas.Option.{slice_get-get_or}
 use Rattle.plan_flow.specs.Inner.Blocks.{AreFollowedBy}
-use Rattle.plan_flow.specs.declared.edge.Edge.{Edge}
 use Rattle.plan_flow.proofs.Following.{or_false}
 use Rattle.plan_flow.proofs.HeadSteps.{more_followed, next_started, start_followed}
-use Rattle.plan_flow.proofs.PointLists.{took_all}
 use Rattle.plan_flow.proofs.iteration.follow_all.Goals.{then-branch, else-branch}
 use Rattle.plan_flow.proofs.iteration.follow_all.Goals as goal
 

@@ -1,4 +1,4 @@
-use Rattle.std.proofs.Common.{◌∷◌, ◌==◌, List, sym, ap, subst, ◌∙◌}
+use Rattle.std.proofs.Common.{◌==◌, List, sym, ap, subst, ◌∙◌}
 use Rattle.std.specs.Option.{option_copied}
 use Rattle.std.proofs.lemmas.Bool.{or_right}
 use Rattle.plan_flow.specs.Inner.Blocks.{AreFollowedBy, AreStartedBy, CanBeFollowed}

@@ -1,4 +1,4 @@
-use Rattle.std.proofs.Common.{◌+◌, ◌<◌, ◌≤◌, [], List, Option, length, sym, subst, arith}
+use Rattle.std.proofs.Common.{◌+◌, ◌<◌, ◌≤◌, length, sym, subst, arith}
 use Rattle.plan_flow.specs.PlanScope.{scope_of}
 use Rattle.plan_flow.specs.Plans.{IsLeast, Plan}
 use Rattle.plan_flow.proofs.AllStates.{known_start}

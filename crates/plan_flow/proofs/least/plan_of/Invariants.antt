@@ -1,5 +1,3 @@
-use Rattle.std.proofs.Common.{[]}
-use Rattle.plan_flow.specs.Inner.Blocks.{AreReachingBy}
 use Rattle.plan_flow.proofs.LeastStarts.{IsPlanning}
 use Rattle.plan_flow.proofs.least.plan_of.Given as goal
 

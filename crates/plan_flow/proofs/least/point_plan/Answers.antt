@@ -1,6 +1,5 @@
-use Rattle.std.proofs.Common.{◌≡◌, ◌+◌, ◌<◌, ◌^◌, List, Option, inl, sym, ap, subst, ◌∙◌, arith, rules}
+use Rattle.std.proofs.Common.{◌+◌, List, inl, sym, ap, subst, ◌∙◌, arith}
 use Rattle.std.specs.Option.{option_copied}
-use Rattle.flow_code.specs.declared.point.Point.{Point}
 use Rattle.plan_flow.specs.Inner.Blocks.{AreEdgesAt, IsKnownTo, IsStateInside}
 use Rattle.plan_flow.specs.Inner.Reaching.{reached_in}
 use Rattle.plan_flow.specs.Inner.Sharing.{plans_of}
@@ -8,7 +7,6 @@ use Rattle.plan_flow.specs.declared.edge.Edge.{Edge}
 use Rattle.plan_flow.proofs.AllStates.{known_after, known_none, next_fits, plans_alike, targets_known}
 use Rattle.plan_flow.proofs.LeastStarts.{none_planned, point_planned}
 use Rattle.plan_flow.proofs.least.point_plan.Goals as goal
-use Rattle.virtual_state.specs.States.{State}
 
 pub returns-in_default-clause-known : goal.returns-in_default-clause-known
 returns-in_default-clause-known c =
