@@ -27,6 +27,7 @@ pub mod OwnCodes
 pub mod OwnFrames
 pub mod OwnOperations
 pub mod OwnTurns
+pub mod PendingOperations
 pub mod PlannedTurns
 pub mod SameBoth
 pub mod Settling
@@ -34,3 +35,4 @@ pub mod Simulation
 pub mod StandingMore
 pub mod StillThere
 pub mod Turned
+pub mod WaitingFrames
