@@ -33,5 +33,6 @@ pub mod StandingMore
 pub mod StillThere
 pub mod Turned
 pub mod TypedKept
+pub mod TypedEntries
 pub mod UpperSlots
 pub mod WrittenCodes
