@@ -49,7 +49,7 @@ use Rattle.virtual_state.specs.declared.slot.Slot.TheVariants.{Virt}
 use Rattle.written_runs.specs.Laws.Halfway.{CanMake, GoesOn, Halfway, goes_then, jumps_on, makes_on}
 use Rattle.written_runs.specs.Laws.KnownClasses.{classes_in, halfway_knowing, met_here, met_left}
 use Rattle.written_runs.specs.Laws.MadeItems.{AreOwn, HasSome, behind_made, length_made, made_at, made_in_form, made_some, make_code_some, own_make_code}
-use Rattle.written_runs.specs.Laws.TypedKept.{HasPlaces, TypesEntries, can_be_kept, places_of}
+use Rattle.written_runs.specs.Laws.TypedKept.{HasPlaces, TypesEntries, can_be_kept, entry_there, places_of}
 use Rattle.written_runs.specs.Inner.MadeObjects.{CanBeSaved, MakesObjects, StandAt}
 use Rattle.written_runs.specs.Inner.PlannedFrames.{AtBlock, InPlanned, IsBlock, IsMet, IsOfSite, IsReached, IsInstructionOf, IsTold, Keeps, Known, MakesOn, Moment, arrives, blocks_in, of_first, of_handler, of_jump, of_next, of_own, scope_in, stays, waits}
 use Rattle.written_runs.specs.Inner.Setup.{IsSetup, Setup, first, second}
@@ -68,7 +68,7 @@ pub record SettleLaws (u : Setup) : Type 0 where
       → u.written at ≡ Some w
       → scope_at u.classes at ≡ Some host
       → code_at (second u) at ≡ Some (written_code (scope_in u w) host u.constructor w.form (blocks_in u w))
-  -- what is typed can be saved, and each stack entry that a state has is there
+  -- what is typed can be saved
   pub savable : (one : World) (f : MethodState) (rest : List RunFrame) (w : WrittenMethod) (point : Point) (state : State) (made : List ℕ)
       → TypedWorld (first u) u.typings one
       → one.frames ≡ Method f ∷ rest
@@ -83,13 +83,6 @@ pub record SettleLaws (u : Setup) : Type 0 where
       → IsReached w at point route
       → edge_by route edges.Next ≡ Some edge
       → edge.to ≡ suc at
-  pub full : (one : World) (f : MethodState) (rest : List RunFrame) (w : WrittenMethod) (point : Point) (route : Route) (place site : ℕ)
-      → TypedWorld (first u) u.typings one
-      → one.frames ≡ Method f ∷ rest
-      → u.written f.at ≡ Some w
-      → IsReached w f.place point route
-      → slice_get (stack_slots point route.state) place ≡ Some (Virt site)
-      → (value : Value) × (slice_get (reverse f.stack) place ≡ Some value)
 
 -- ---- lists
 
@@ -225,36 +218,6 @@ module _ (u : Setup) (laws : SettleLaws u) where
         places_of u w f.place point there.route.state is_point
         (ap (λ (state : State). map is_unusable state.slots) there.is.state ∙ planned_there.is_planned.state.places)
 
-  -- where it is known of which classes objects are, a frame has objects of these classes
-  meets_of : (one : Run) (f : MethodState) (rest : List RunFrame) (w : WrittenMethod) (known : Known) (point : Point) (route : Route)
-      → AreKnown one.world.memory.heap known
-      → TypedWorld (first u) u.typings one.world
-      → one.world.frames ≡ Method f ∷ rest
-      → u.written f.at ≡ Some w
-      → IsReached w f.place point route
-      → IsMet u known w point route.state f
-      → MeetsState (first u) (scope_in u w) point route.state one.world.memory.heap f
-  meets_of one f rest w known point route are_known typed stands written reached met = record {
-    locals = λ unit site is. let found = met.locals unit site is in (found.0, found.1, of_site site found.0 found.2);
-    stack = λ entry site is.
-        let full = laws.full one.world f rest w point route entry site typed stands written reached is in
-        (full.0, full.1, of_site site full.0 (met.stack entry site full.0 is full.1));
-  } where
-    of_site : (site : ℕ) (value : Value) → IsOfSite u known w site value
-        → RefersToSite (first u) (scope_in u w) one.world.memory.heap site value
-    of_site site value is =
-        let there = are_known.each is.reference is.class is.is_known in record {
-          site = is.site;
-          is_site = is.is_site;
-          class = is.class;
-          of_folder = is.of_folder;
-          reference = is.reference;
-          refers = is.refers;
-          object = there.0;
-          there = there.1;
-          of_class = there.2;
-        }
-
   -- what is made before the instruction of a reached point can be made
   can_at : (f : MethodState) (w : WrittenMethod) (at : ℕ) (point : Point) (route : Route)
       → u.written f.at ≡ Some w
@@ -280,6 +243,37 @@ module _ (u : Setup) (laws : SettleLaws u) where
 
     here : IsValidAt (scope_in u w) ready.plan at there.point
     here = ready.valid.each at there.point there.reached
+
+  -- where it is known of which classes objects are, a frame has objects of these classes
+  meets_of : (one : Run) (f : MethodState) (rest : List RunFrame) (w : WrittenMethod) (known : Known) (point : Point) (route : Route)
+      → AreKnown one.world.memory.heap known
+      → TypedWorld (first u) u.typings one.world
+      → one.world.frames ≡ Method f ∷ rest
+      → u.written f.at ≡ Some w
+      → IsReached w f.place point route
+      → IsMet u known w point route.state f
+      → MeetsState (first u) (scope_in u w) point route.state one.world.memory.heap f
+  meets_of one f rest w known point route are_known typed stands written reached met = record {
+    locals = λ unit site is. let found = met.locals unit site is in (found.0, found.1, of_site site found.0 found.2);
+    stack = λ entry site is.
+        let full = entry_there point route.state f entry (Virt site) (can_at f w f.place point route written reached).places
+        (laws.types.stacks one.world f rest w point typed stands written reached.is_point) is in
+        (full.0, full.1, of_site site full.0 (met.stack entry site full.0 is full.1));
+  } where
+    of_site : (site : ℕ) (value : Value) → IsOfSite u known w site value
+        → RefersToSite (first u) (scope_in u w) one.world.memory.heap site value
+    of_site site value is =
+        let there = are_known.each is.reference is.class is.is_known in record {
+          site = is.site;
+          is_site = is.is_site;
+          class = is.class;
+          of_folder = is.of_folder;
+          reference = is.reference;
+          refers = is.refers;
+          object = there.0;
+          there = there.1;
+          of_class = there.2;
+        }
 
   module _ {one : Run} {f : MethodState} {rest : List RunFrame} {w : WrittenMethod} {known : Known} {point : Point} (measure : ℕ)
       (low : weight (first u) one.world.memory [] (length w.flat.points - f.place) ≤ measure) where

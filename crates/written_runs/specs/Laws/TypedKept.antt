@@ -1,8 +1,8 @@
 -- What typing of the first run tells make code of a frame at a point, by a state that has the places of the point.
-use Rattle.std.proofs.Common.{◌≡◌, ◌≢◌, ℕ, zero, suc, Bool, true, false, List, [], ◌∷◌, ◌++◌, drop, length, map, slice_get, take, Option, Some, None, option_map, IsTrue, refl, sym, ap, subst, ◌∙◌}
+use Rattle.std.proofs.Common.{◌≡◌, ◌≢◌, ℕ, zero, suc, Bool, true, false, List, [], ◌∷◌, ◌++◌, ◌<◌, drop, get_or, length, map, reverse, slice_get, take, Option, Some, None, option_map, IsTrue, refl, sym, ap, subst, ◌∙◌, arith}
 use Rattle.std.proofs.lemmas.Bool.{false≢true, true≢false}
-use Rattle.std.proofs.lemmas.List.{length-map}
-use Rattle.std.proofs.lemmas.Option.{none-some, same_Some, slice_get-map}
+use Rattle.std.proofs.lemmas.List.{length-map, length-reverse}
+use Rattle.std.proofs.lemmas.Option.{none-some, same_Some, slice_get-get_or, slice_get-map, slice_get_within}
 use Rattle.class_model.specs.Frames.{is_top}
 use Rattle.class_model.specs.Laws.Lists.{at_index}
 use Rattle.class_model.specs.declared.descriptor.FieldType.{FieldType}
@@ -20,6 +20,7 @@ use Rattle.machine_values.specs.declared.frame.RunFrame.TheVariants.{Method}
 use Rattle.machine_values.specs.declared.object.Object.{Object as RunObject}
 use Rattle.machine_values.specs.declared.object.Shape.TheVariants.{Folder}
 use Rattle.machine_values.specs.declared.value.Value.{Value}
+use Rattle.machine_values.specs.declared.value.Value.TheVariants.{Null as NullValue}
 use Rattle.member_link.specs.FieldConstructors.{field_types}
 use Rattle.member_link.specs.Machine.Programs.{folder_number}
 use Rattle.member_link.specs.Machine.Runs.{Run}
@@ -182,6 +183,23 @@ module _ {point : Point} {state : State} (places : HasPlaces point state) where
     by None none = absurd (none-some true (sym (ap (option_map is_unusable) none) ∙ told))
     by (Some slot) some =
         some ∙ ap Some (unusable_is slot (same_Some (is_unusable slot) true (sym (ap (option_map is_unusable) some) ∙ told)))
+
+-- a stack entry that a state has is there
+pub entry_there : (point : Point) (state : State) (f : MethodState) (place : ℕ) (slot : Slot)
+    → HasPlaces point state
+    → length f.stack ≡ length point.typed.stack
+    → slice_get (stack_slots point state) place ≡ Some slot
+    → (value : Value) × (slice_get (reverse f.stack) place ≡ Some value)
+entry_there point state f place slot places as_long is =
+    (get_or (reverse f.stack) place NullValue, slice_get-get_or (reverse f.stack) place NullValue (omega (arith, within, slots, as_long, back))) where
+      within : place < length (stack_slots point state)
+      within = slice_get_within (stack_slots point state) place slot is
+
+      slots : length (stack_slots point state) ≡ length point.typed.stack
+      slots = stack_length places
+
+      back : length (reverse f.stack) ≡ length f.stack
+      back = length-reverse f.stack
 
 -- ---- the whole
 
