@@ -34,5 +34,7 @@ pub mod StillThere
 pub mod Turned
 pub mod TypedKept
 pub mod TypedEntries
+pub mod Uncovered
+pub mod UncoveredPlans
 pub mod UpperSlots
 pub mod WrittenCodes
