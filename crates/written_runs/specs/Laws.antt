@@ -42,6 +42,8 @@ pub mod StillThere
 pub mod Turned
 pub mod TypedEntries
 pub mod TypedKept
+pub mod Uncovered
+pub mod UncoveredPlans
 pub mod UpperSlots
 pub mod WaitingFrames
 pub mod WrittenCodes

@@ -1,15 +1,13 @@
 -- The second run goes on quietly to where the instruction of the topmost planned frame is next in both: through make code before the instruction, or
 -- on the edge over which control comes, and over the goto at the end of a pad.
-use Rattle.std.proofs.Common.{◌≡◌, ◌≢◌, ◌≤◌, ◌<◌, ◌+◌, ◌-◌, ◌++◌, ℕ, zero, suc, Bool, true, false, List, [], ◌∷◌, drop, length, map, reverse, slice_get, Option, Some, None, option_map, IsTrue, refl, sym, ap, subst, ◌∙◌, arith, inl}
+use Rattle.std.proofs.Common.{◌≡◌, ◌≢◌, ◌≤◌, ◌+◌, ◌-◌, ◌++◌, ℕ, suc, Bool, true, false, List, [], ◌∷◌, drop, length, map, slice_get, Some, None, option_map, IsTrue, refl, sym, ap, subst, ◌∙◌, arith, inl}
 use Rattle.std.specs.List.{find}
 use Rattle.std.proofs.lemmas.Bool.{false≢true}
-use Rattle.std.proofs.lemmas.List.{length-append}
 use Rattle.std.proofs.lemmas.Option.{none-some, same_Some}
 use Rattle.class_model.specs.declared.class_file.MethodAt.{MethodAt}
 use Rattle.class_model.specs.declared.instr.Instr.TheVariants.{Goto}
 use Rattle.flow_code.specs.FlatCode.{FlatCode}
 use Rattle.flow_code.specs.declared.point.Point.{Point}
-use Rattle.flow_code.specs.declared.point.Site.{Site}
 use Rattle.machine_values.specs.Frames.{MethodState}
 use Rattle.machine_values.specs.declared.frame.RunFrame.{RunFrame}
 use Rattle.machine_values.specs.declared.frame.RunFrame.TheVariants.{Beginning, Method}
@@ -19,14 +17,13 @@ use Rattle.making_code.specs.MakeCode.{make_code}
 use Rattle.making_code.specs.MakeOrder.{IsMakeOrder}
 use Rattle.member_link.specs.Machine.Programs.{Code, code_at}
 use Rattle.member_link.specs.Machine.Runs.{Run}
-use Rattle.member_link.specs.Machine.Worlds.{World}
 use Rattle.member_link.specs.Scope.{Scope, scope_at}
 use Rattle.plan_flow.specs.Laws.RoutedPlans.{EdgeLeads, HasOneEffect, HasRoute, IsRouteOf, leads_of, route_at, route_of}
 use Rattle.plan_flow.specs.Laws.WrittenBlocks.{block_finished, first_block, first_item, first_of, next_first, next_starts, own_first, own_number, own_second, starts_at, blocks_left, first_begins, made_next, next_of, StandsNext, goes_on, makes_first}
 use Rattle.plan_flow.specs.Laws.WrittenPads.{StandsFirst, comes_nowhere, none_finished, pad_block}
 use Rattle.plan_flow.specs.MetPlans.{MeetsState, RefersToSite}
 use Rattle.plan_flow.specs.PlanScope.{PlanScope}
-use Rattle.plan_flow.specs.Plans.{IsMadeIn, IsValidAt, planned}
+use Rattle.plan_flow.specs.Plans.{IsMadeIn, IsValidAt, planned, state_left}
 use Rattle.plan_flow.specs.Written.Blocks.{Block, BlockOf, blocks_of, handler_pad, instruction_block, jump_pad, state_written}
 use Rattle.plan_flow.specs.Written.Finish.{End, Finished, begins_point, comes_to, end_items, end_of, finish, goto_end, is_empty, no_end}
 use Rattle.plan_flow.specs.Written.Routes.{IsRoute, Route, RouteEdge, edge_by, is_kind}
@@ -41,20 +38,23 @@ use Rattle.same_runs.specs.Simulations.{at_once}
 use Rattle.typed_runs.specs.TypedWorlds.{TypedWorld}
 use Rattle.virtual_state.specs.Laws.Fields.{unusable_made}
 use Rattle.virtual_state.specs.Laws.Objects.{found_present, found_site}
-use Rattle.virtual_state.specs.Laws.Removals.{without_none}
+use Rattle.virtual_state.specs.Laws.Removals.{without_is_state, without_none}
 use Rattle.virtual_state.specs.Sites.{has}
-use Rattle.virtual_state.specs.States.{IsState, State, is_present, is_unusable, object_of}
+use Rattle.virtual_state.specs.States.{IsState, State, is_present, is_unusable}
 use Rattle.virtual_state.specs.Without.{without}
 use Rattle.virtual_state.specs.declared.slot.Slot.TheVariants.{Virt}
-use Rattle.written_runs.specs.Laws.Halfway.{CanMake, GoesOn, Halfway, goes_then, jumps_on, makes_on}
-use Rattle.written_runs.specs.Laws.KnownClasses.{classes_in, halfway_knowing, met_here, met_left}
+use Rattle.written_runs.specs.Laws.Halfway.{GoesOn, Halfway, goes_then, jumps_on, makes_on}
+use Rattle.written_runs.specs.Laws.KnownClasses.{halfway_knowing, met_here, met_left}
 use Rattle.written_runs.specs.Laws.MadeItems.{AreOwn, HasSome, behind_made, length_made, made_at, made_in_form, made_some, make_code_some, own_make_code}
+use Rattle.written_runs.specs.Laws.Uncovered.{IsUncovered, can_be_saved}
+use Rattle.written_runs.specs.Laws.UncoveredPlans.{GivesOnTop, uncovered_along, uncovered_at}
+use Rattle.written_runs.specs.Laws.NextEdges.{next_follows}
 use Rattle.written_runs.specs.Laws.TypedKept.{HasPlaces, TypesEntries, can_be_kept, entry_there, places_of}
-use Rattle.written_runs.specs.Inner.MadeObjects.{CanBeSaved, MakesObjects, StandAt}
+use Rattle.written_runs.specs.Inner.MadeObjects.{MakesObjects}
 use Rattle.written_runs.specs.Inner.PlannedFrames.{AtBlock, InPlanned, IsBlock, IsMet, IsOfSite, IsReached, IsInstructionOf, IsTold, Keeps, Known, MakesOn, Moment, arrives, blocks_in, of_first, of_handler, of_jump, of_next, of_own, scope_in, stays, waits}
 use Rattle.written_runs.specs.Inner.Setup.{IsSetup, Setup, first, second}
 use Rattle.written_runs.specs.Inner.Standing.{Stands, apart, comparison, is_awaited, beginnings_stand, libraries_stand, none_stand, own_stand, planned_stand}
-use Rattle.written_runs.specs.Inner.Together.{Along, AreKnown, AreOwned, IsSettled, Related, Together, TopIsSettled, points_left, weight}
+use Rattle.written_runs.specs.Inner.Together.{Along, AreKnown, AreOwned, Related, Together, points_left, weight}
 use Rattle.written_runs.specs.VirtualObjects.{Tells, stack_slots}
 use Rattle.written_runs.specs.WrittenRuns.{IsReadyMethod}
 
@@ -63,26 +63,15 @@ pub record SettleLaws (u : Setup) : Type 0 where
   pub is_setup : IsSetup u
   pub making : MakesObjects u
   pub one_effect : (w : WrittenMethod) → HasOneEffect (scope_in u w)
+  -- a new object comes to lie on top of the stack
+  pub on_top : (at : MethodAt) (w : WrittenMethod) → u.written at ≡ Some w → GivesOnTop (scope_in u w)
   -- the second program runs written code
   pub code : (at : MethodAt) (w : WrittenMethod) (host : Scope)
       → u.written at ≡ Some w
       → scope_at u.classes at ≡ Some host
       → code_at (second u) at ≡ Some (written_code (scope_in u w) host u.constructor w.form (blocks_in u w))
-  -- what is typed can be saved
-  pub savable : (one : World) (f : MethodState) (rest : List RunFrame) (w : WrittenMethod) (point : Point) (state : State) (made : List ℕ)
-      → TypedWorld (first u) u.typings one
-      → one.frames ≡ Method f ∷ rest
-      → u.written f.at ≡ Some w
-      → slice_get w.flat.points f.place ≡ Some point
-      → IsMadeIn state made
-      → CanBeSaved w f.place point state made f
   -- what typing tells make code of entries, local units and values
   pub types : TypesEntries u
-  -- a next edge leads to the point behind
-  pub next_follows : (w : WrittenMethod) (at : ℕ) (point : Point) (route : Route) (edge : RouteEdge)
-      → IsReached w at point route
-      → edge_by route edges.Next ≡ Some edge
-      → edge.to ≡ suc at
 
 -- ---- lists
 
@@ -132,6 +121,7 @@ pub record CanBeMade (point : Point) (state : State) (made order : List ℕ) : T
   pub is_state : IsState state
   pub is_made : IsMadeIn state made
   pub is_order : IsMakeOrder state.objects made order
+  pub uncovered : IsUncovered point.typed.stack (stack_slots point state) made
 
 -- the target of an edge is the point at which the first frame stands: its route, and the state that is left
 pub record Onwards (w : WrittenMethod) (place : ℕ) (point : Point) (edge : RouteEdge) : Type 0 where
@@ -163,6 +153,9 @@ module _ (u : Setup) (laws : SettleLaws u) where
       is_order =
           subst (λ (state : State). IsMakeOrder state.objects there.route.made there.route.order) (sym there.is.state)
           (subst (λ (made : List ℕ). IsMakeOrder lead.target.state.objects made there.route.order) (sym there.is.made) there.is.order);
+      uncovered =
+          subst (λ (state : State). IsUncovered point.typed.stack (stack_slots point state) there.route.made) (sym there.is.state)
+          (uncovered_at (scope_in u w) f.place point lead.target.state there.route.made is_point planned_there.is_planned.beneath);
     };
     can_edge = record {
       places = record {
@@ -173,6 +166,9 @@ module _ (u : Setup) (laws : SettleLaws u) where
       is_state = lead.is_state;
       is_made = lead.is_made;
       is_order = lead.is_order;
+      uncovered =
+          uncovered_along (scope_in u w) of_method.plan at before from.point route number.0 edge point edge.made (laws.on_top f.at w written)
+          from_state planned_from from.is reached.is_point number.1 (ap (slice_get w.flat.points) to ∙ is_point);
     };
     left = sym lead.left ∙ sym there.is.state;
   } where
@@ -192,6 +188,18 @@ module _ (u : Setup) (laws : SettleLaws u) where
 
     planned_there : IsValidAt (scope_in u w) of_method.plan f.place lead.target
     planned_there = of_method.valid.each f.place lead.target target_at
+
+    from : IsRouteOf (scope_in u w) of_method.plan at at route
+    from =
+        let all = route_of (scope_in u w) 0 of_method.plan w.routes at route of_method.routed reached.is_route in
+        record { point = all.point; reached = all.reached; is = subst (λ (n : ℕ). IsRoute (scope_in u w) n all.point route) (omega arith) all.is }
+
+    planned_from : IsValidAt (scope_in u w) of_method.plan at from.point
+    planned_from = of_method.valid.each at from.point from.reached
+
+    from_state : IsState (state_left from.point)
+    from_state =
+        without_is_state from.point.state (has from.point.made) planned_from.is_planned.state.is_state planned_from.is_planned.made.closed
 
     there : HasRoute (scope_in u w) w.routes f.place f.place lead.target
     there =
@@ -223,6 +231,9 @@ module _ (u : Setup) (laws : SettleLaws u) where
     is_order =
         subst (λ (state : State). IsMakeOrder state.objects route.made route.order) (sym there.is.state)
         (subst (λ (made : List ℕ). IsMakeOrder there.point.state.objects made route.order) (sym there.is.made) there.is.order);
+    uncovered =
+        subst (λ (state : State). IsUncovered point.typed.stack (stack_slots point state) route.made) (sym there.is.state)
+        (uncovered_at (scope_in u w) at point there.point.state route.made reached.is_point here.is_planned.beneath);
   } where
     ready : IsReadyMethod u.classes u.links f.at w
     ready = laws.is_setup.ready f.at w written
@@ -351,7 +362,10 @@ module _ (u : Setup) (laws : SettleLaws u) where
             each = λ more within.
                 made_at w.form (blocks_in u w) number finished (make_code w.flat f.place state made order) tail more is_finished items within;
           };
-          savable = laws.savable one.world f rest w point state made h.typed h.stands (ap u.written h.at ∙ h.is_written) is_point can.is_made;
+          savable =
+              can_be_saved w f.place point state made f is_point can.uncovered
+              (laws.types.stacks one.world f rest w point h.typed h.stands (ap u.written h.at ∙ h.is_written) is_point)
+              (laws.types.kinds one.world f rest w point h.typed h.stands (ap u.written h.at ∙ h.is_written) is_point);
         }) (can_be_kept laws.is_setup laws.types h is_point can.places)
 
     -- there is an instruction, where an object is made
@@ -513,8 +527,12 @@ module _ (u : Setup) (laws : SettleLaws u) where
           code : List WInstr
           code = make_code w.flat f.place edge.state edge.made edge.order
 
+          ready : IsReadyMethod u.classes u.links f.at w
+          ready = laws.is_setup.ready f.at w written
+
           follows : suc at ≡ f.place
-          follows = sym (laws.next_follows w at before route edge reached makes.found) ∙ to
+          follows =
+              sym (next_follows s ready.plan w.routes at before route edge ready.routed reached.is_point reached.is_route makes.found) ∙ to
 
           code_is : code ≡ make_code w.flat edge.to edge.state (site ∷ sites) edge.order
           code_is =

@@ -9,6 +9,7 @@ use Rattle.class_model.specs.Frames.{is_wide}
 use Rattle.class_model.specs.declared.class_file.MethodAt.{MethodAt}
 use Rattle.class_model.specs.declared.descriptor.FieldType.{FieldType}
 use Rattle.class_model.specs.declared.descriptor.FieldType.TheVariants as descs
+use Rattle.class_model.specs.declared.descriptor.Kind.{Kind}
 use Rattle.class_model.specs.declared.descriptor.Kind.TheVariants as kinds
 use Rattle.class_model.specs.declared.frame.Frame.{Frame}
 use Rattle.class_model.specs.declared.frame.VType.{VType}
@@ -29,6 +30,7 @@ use Rattle.machine_values.specs.declared.object.Object.{Object as RunObject}
 use Rattle.machine_values.specs.declared.object.Shape.{Shape}
 use Rattle.machine_values.specs.declared.object.Shape.TheVariants.{Folder}
 use Rattle.machine_values.specs.declared.value.Value.{Value}
+use Rattle.making_code.specs.MakeCode.{kind_of_type}
 use Rattle.member_link.specs.FieldConstructors.{field_types}
 use Rattle.member_link.specs.Laws.ProgramHeaders.{folder_headers}
 use Rattle.member_link.specs.Machine.Classes.{program_of}
@@ -131,6 +133,20 @@ read_wide flat (Uninit at) is = by (class_of_site flat.sites at) refl where
   by None none = sym (rw (none) refl) ∙ is
   by (Some class) some = let none : false ≡ true = sym (rw (some) refl) ∙ is in absurd (false≢true none)
 
+read_kind : (flat : FlatCode) (type : VType) → kind_of_type (read_type flat type) ≡ kind_of_type type
+read_kind flat Top = refl
+read_kind flat Int = refl
+read_kind flat Float = refl
+read_kind flat Long = refl
+read_kind flat Double = refl
+read_kind flat Null = refl
+read_kind flat UninitThis = refl
+read_kind flat (Object name) = refl
+read_kind flat (Uninit at) = by (class_of_site flat.sites at) refl where
+  by : (found : Option (List ℕ)) → class_of_site flat.sites at ≡ found → kind_of_type (read_type flat (Uninit at)) ≡ kinds.Ref
+  by None none = rw (none) refl
+  by (Some class) some = rw (some) refl
+
 -- ---- values by types
 
 module _ {P : Program} {s : RowScope} {heap : Heap} where
@@ -145,6 +161,18 @@ module _ {P : Program} {s : RowScope} {heap : Heap} where
   wide_type (an_object shape is) differs wide = absurd (false≢true wide)
   wide_type (of_new news shape is) differs wide = absurd (false≢true wide)
   wide_type (of_this shape below) differs wide = absurd (false≢true wide)
+
+  kind_by_type : {type : VType} {value : Value} → Conforms P s heap type value → type ≢ Top → IsTrue (has_kind (kind_of_type type) value)
+  kind_by_type (to_top is) differs = absurd (differs refl)
+  kind_by_type an_int differs = refl
+  kind_by_type a_long differs = refl
+  kind_by_type a_float differs = refl
+  kind_by_type a_double differs = refl
+  kind_by_type only_null differs = refl
+  kind_by_type null_object differs = refl
+  kind_by_type (an_object shape is) differs = refl
+  kind_by_type (of_new news shape is) differs = refl
+  kind_by_type (of_this shape below) differs = refl
 
   pub as_many : {types : List VType} {values : List Value} → AllConform P s heap types values → length values ≡ length types
   as_many no_values = refl
@@ -258,6 +286,26 @@ module _ (u : Setup) (setup : IsSetup u) (hierarchy : IsHierarchy (headers_of u.
       ∙ as_many (typed_frame u setup has one f rest w point typed stands written is_point).stack
       ∙ length-map point.typed.stack (read_type w.flat)
 
+  kinds_of : (one : World) (f : MethodState) (rest : List RunFrame) (w : WrittenMethod) (point : Point)
+      → TypedWorld (first u) u.typings one
+      → one.frames ≡ Method f ∷ rest
+      → u.written f.at ≡ Some w
+      → slice_get w.flat.points f.place ≡ Some point
+      → (place : ℕ) (type : VType) (value : Value)
+      → slice_get point.typed.stack place ≡ Some type
+      → type ≢ Top
+      → slice_get (reverse f.stack) place ≡ Some value
+      → IsTrue (has_kind (kind_of_type type) value)
+  kinds_of one f rest w point typed stands written is_point place type value is_type differs is_value =
+      subst (λ (kind : Kind). IsTrue (has_kind kind value)) (read_kind w.flat type)
+      (kind_by_type (subst (Conforms (first u) (u.typings f.at).scope one.memory.heap (read_type w.flat type))
+      (same_Some found.0 value (sym found.1 ∙ is_value)) found.2) (λ top. differs (read_top w.flat type top))) where
+        found : (it : Value) × (slice_get (reverse f.stack) place ≡ Some it)
+            × Conforms (first u) (u.typings f.at).scope one.memory.heap (read_type w.flat type) it
+        found =
+            value_at (typed_frame u setup has one f rest w point typed stands written is_point).stack place (read_type w.flat type)
+            (slice_get-map (read_type w.flat) point.typed.stack place ∙ ap (option_map (read_type w.flat)) is_type)
+
   wide : (one : World) (f : MethodState) (rest : List RunFrame) (w : WrittenMethod) (point : Point)
       → TypedWorld (first u) u.typings one
       → one.frames ≡ Method f ∷ rest
@@ -327,4 +375,4 @@ module _ (u : Setup) (setup : IsSetup u) (hierarchy : IsHierarchy (headers_of u.
             ∙ types_through (headers_of u.classes) (reverse (superclasses (headers_of u.classes) name))
 
   pub types_entries : TypesEntries u
-  types_entries = record { stacks = stacks; wide = wide; values = values }
+  types_entries = record { stacks = stacks; kinds = kinds_of; wide = wide; values = values }

@@ -14,13 +14,14 @@ use Rattle.flow_code.specs.declared.point.Point.{Point}
 use Rattle.flow_code.specs.declared.point.Site.{Site}
 use Rattle.machine_values.specs.Frames.{MethodState}
 use Rattle.machine_values.specs.Heaps.{object_at}
-use Rattle.machine_values.specs.Values.{have_kinds, is_wide_value}
+use Rattle.machine_values.specs.Values.{has_kind, have_kinds, is_wide_value}
 use Rattle.machine_values.specs.declared.frame.RunFrame.{RunFrame}
 use Rattle.machine_values.specs.declared.frame.RunFrame.TheVariants.{Method}
 use Rattle.machine_values.specs.declared.object.Object.{Object as RunObject}
 use Rattle.machine_values.specs.declared.object.Shape.TheVariants.{Folder}
 use Rattle.machine_values.specs.declared.value.Value.{Value}
 use Rattle.machine_values.specs.declared.value.Value.TheVariants.{Null as NullValue}
+use Rattle.making_code.specs.MakeCode.{kind_of_type}
 use Rattle.member_link.specs.FieldConstructors.{field_types}
 use Rattle.member_link.specs.Machine.Programs.{folder_number}
 use Rattle.member_link.specs.Machine.Runs.{Run}
@@ -53,6 +54,17 @@ pub record TypesEntries (u : Setup) : Type 0 where
       → u.written f.at ≡ Some w
       → slice_get w.flat.points f.place ≡ Some point
       → length f.stack ≡ length point.typed.stack
+  -- an entry has a value of the kind of its type, if that is not Top
+  pub kinds : (one : World) (f : MethodState) (rest : List RunFrame) (w : WrittenMethod) (point : Point)
+      → TypedWorld (first u) u.typings one
+      → one.frames ≡ Method f ∷ rest
+      → u.written f.at ≡ Some w
+      → slice_get w.flat.points f.place ≡ Some point
+      → (place : ℕ) (type : VType) (value : Value)
+      → slice_get point.typed.stack place ≡ Some type
+      → type ≢ Top
+      → slice_get (reverse f.stack) place ≡ Some value
+      → IsTrue (has_kind (kind_of_type type) value)
   -- behind a long or double that is typed so there is Top
   pub wide : (one : World) (f : MethodState) (rest : List RunFrame) (w : WrittenMethod) (point : Point)
       → TypedWorld (first u) u.typings one
