@@ -108,7 +108,7 @@ method_there P at place point is = by (run_method P at) refl where
   by None none = absurd (none-some point (sym (rw (none) refl) ∙ is))
   by (Some method) some = (method, some)
 
-catches_are : (P : Program) (f : MethodState) (point : Point) → point_at P f.at f.place ≡ Some point → catches_at P f ≡ point.catches
+pub catches_are : (P : Program) (f : MethodState) (point : Point) → point_at P f.at f.place ≡ Some point → catches_at P f ≡ point.catches
 catches_are P f point is = rw (is) refl
 
 -- ---- frames one by one
