@@ -10,4 +10,6 @@ pub mod PlannedEdges
 pub mod Points
 pub mod Slots
 pub mod Standing
+pub mod Turns
 pub mod Waiting
+pub mod Works

@@ -180,13 +180,13 @@ called_awaited : (u : Setup) (at : MethodAt) (method : RunMethod)
     → is_awaited u at ≡ true
 called_awaited u at method is named = rw (is, named) refl
 
-above_awaited : (u : Setup) (f : MethodState) (method : RunMethod)
+pub above_awaited : (u : Setup) (f : MethodState) (method : RunMethod)
     → run_method (first u) f.at ≡ Some method
     → is_initialiser method ≡ false
     → IsAwaited (above_of (first u) (Method f))
 above_awaited u f method is named = rw (is, named) tt
 
-typed_below : (u : Setup) {heap : Heap} {above : Above} {f : MethodState} {ones : List RunFrame}
+pub typed_below : (u : Setup) {heap : Heap} {above : Above} {f : MethodState} {ones : List RunFrame}
     → FramesConform (first u) u.typings heap above (Method f ∷ ones)
     → FramesConform (first u) u.typings heap (above_of (first u) (Method f)) ones
 typed_below u (upon conforms rest) = rest
@@ -224,11 +224,11 @@ module _ (u : Setup) (laws : FrameLaws u) (virtuals : Virtuals) (known : Known) 
         same = ap (λ (member : Member). bytes_eq member.name clinit) found.2.member;
       }
 
-  ends_there : (f g : MethodState) (point : Point) → point_at P f.at f.place ≡ Some point → g.at ≡ f.at → EndSame P Q f g
+  pub ends_there : (f g : MethodState) (point : Point) → point_at P f.at f.place ≡ Some point → g.at ≡ f.at → EndSame P Q f g
   ends_there f g point is at = let method = method_there P f.at f.place point is in ends_same f g method.0 method.1 at
 
   -- below a method that is no class initialiser frames wait
-  waits_below : (f g : MethodState) (method : RunMethod)
+  pub waits_below : (f g : MethodState) (method : RunMethod)
       → run_method P f.at ≡ Some method
       → g.at ≡ f.at
       → is_initialiser method ≡ false
@@ -236,7 +236,7 @@ module _ (u : Setup) (laws : FrameLaws u) (virtuals : Virtuals) (known : Known) 
   waits_below f g method is at plain = ap (is_awaited u) at ∙ called_awaited u f.at method is plain
 
   -- frames that stood below go together by themselves
-  goes_below : {waiting : Bool} {names : Names} {rest rest_also : List RunFrame}
+  pub goes_below : {waiting : Bool} {names : Names} {rest rest_also : List RunFrame}
       → OwnedBelow u virtuals rest
       → Stands u virtuals known waiting names rest rest_also
       → Together names rest rest_also

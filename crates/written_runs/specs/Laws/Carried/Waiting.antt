@@ -81,6 +81,43 @@ at_waiting {u = u} {virtuals = virtuals} {known = known} {names = names} {frame 
             (sym in_planned.is_point ∙ ap (slice_get in_planned.one.flat.points) (ap (λ (b : Block). b.at) of_instruction.is)
             ∙ of_instruction.reached.is_point)
 
+-- ---- where they stand as planned frames
+
+module _ {u : Setup} {virtuals : Virtuals} {known : Known} {names : Names} {frame : ℕ} {f g : MethodState}
+    (c : AtCarried u virtuals known names frame f g) where
+  same_state : c.block.state ≡ state_written c.route
+  same_state = ap (λ (b : Block). b.state) c.of_instruction.is
+
+  planned_with : Moment u known c.w f g c.block → InPlanned u virtuals known names frame f g
+  planned_with moment = record {
+    one = c.w;
+    is_written = c.is_written;
+    at = c.at;
+    held = c.held;
+    block = c.block;
+    moment = moment;
+    point = c.point;
+    is_point = ap (slice_get c.w.flat.points) (ap (λ (b : Block). b.at) c.of_instruction.is) ∙ c.of_instruction.reached.is_point;
+    tells = subst (λ (state : State). Tells (first u) (scope_in u c.w) virtuals frame c.point state f) (sym same_state) c.tells;
+    keeps = subst (λ (state : State). Keeps c.w.flat names virtuals frame [] c.point state f g) (sym same_state) c.keeps;
+    own = λ number virtual is of_frame.
+        subst (λ (state : State). IsTrue (is_present state.objects virtual.site)) (sym same_state) (c.own number virtual is of_frame);
+  }
+
+  -- at the instruction
+  pub stays_with : InPlanned u virtuals known names frame f g
+  stays_with = planned_with (stays c.point c.route c.here c.of_instruction c.met)
+
+  -- without its operands
+  pub waits_with : InPlanned u virtuals known names frame f g
+  waits_with = planned_with (waits c.point c.route c.here c.of_instruction c.met c.carried)
+
+  pub waits_there : IsWaiting waits_with.moment
+  unfolding waits_with planned_with
+  waits_there = tt
+
+-- ---- less operands
+
 module _ {u : Setup} {virtuals : Virtuals} {known : Known} {names more : Names} {frame : ℕ} {f g : MethodState}
     (c : AtCarried u virtuals known names frame f g) (taken : ℕ) (enough : taken ≤ length f.stack) (grows : NamesMore names more)
     (operands : HaveOperands more (stack_slots c.point (state_written c.route)) taken f.stack g.stack) where
@@ -92,42 +129,35 @@ module _ {u : Setup} {virtuals : Virtuals} {known : Known} {names more : Names} 
       got_before (length f.stack - taken) (reverse f.stack) place value
       (ap (λ (values : List Value). slice_get values place) (sym (lowest_left taken f.stack enough)) ∙ is)
 
-  -- without its operands the frame waits
-  pub waits_less : InPlanned u virtuals known more frame (less taken f) (less taken g)
-  waits_less = record {
-    one = c.w;
+  in_unit : (unit : ℕ) (value : Value) → KeptIn names g unit value → KeptIn more (less taken g) unit value
+  in_unit unit value kept = record { also = kept.also; is = kept.is; same = value_more grows kept.same }
+
+  abbrev pub carried_less : AtCarried u virtuals known more frame (less taken f) (less taken g)
+  carried_less = record {
+    w = c.w;
     is_written = c.is_written;
     at = c.at;
     held = held_more grows c.held;
-    block = c.block;
-    moment =
-        waits c.point c.route (record { number = c.here.number; is_block = c.here.is_block; place = c.here.place; place_also = c.here.place_also })
-        (record { reached = c.of_instruction.reached; is = c.of_instruction.is })
-        (record { locals = c.met.locals; stack = λ place site value is here. c.met.stack place site value is (left_entry place value here) })
-        (record { class = c.carried.class; instr = c.carried.instr; is_instr = c.carried.is_instr; items = c.carried.items });
     point = c.point;
-    is_point = ap (slice_get c.w.flat.points) (ap (λ (b : Block). b.at) c.of_instruction.is) ∙ c.of_instruction.reached.is_point;
-    tells =
-        subst (λ (state : State). Tells (first u) (scope_in u c.w) virtuals frame c.point state (less taken f)) (sym same_state) (record {
-          locals = c.tells.locals;
-          stack = λ place site value is here. c.tells.stack place site value is (left_entry place value here);
-          uninit_locals = c.tells.uninit_locals;
-          uninit_stack = λ place type value is here site. c.tells.uninit_stack place type value is (left_entry place value here) site;
-          objects = c.tells.objects;
-        });
-    keeps =
-        subst (λ (state : State). Keeps c.w.flat more virtuals frame [] c.point state (less taken f) (less taken g)) (sym same_state) (record {
-          locals = λ unit value is here. in_unit unit value (c.keeps.locals unit value is here);
-          stack = operands.waiting;
-          fields = λ site number told virtual value is there plain here. in_unit _ value (c.keeps.fields site number told virtual value is there plain here);
-          made = λ site done. absurd (false≢true done);
-          room = c.keeps.room;
-        });
-    own = λ number virtual is of_frame.
-        subst (λ (state : State). IsTrue (is_present state.objects virtual.site)) (sym same_state) (c.own number virtual is of_frame);
-  } where
-    same_state : c.block.state ≡ state_written c.route
-    same_state = ap (λ (b : Block). b.state) c.of_instruction.is
-
-    in_unit : (unit : ℕ) (value : Value) → KeptIn names g unit value → KeptIn more (less taken g) unit value
-    in_unit unit value kept = record { also = kept.also; is = kept.is; same = value_more grows kept.same }
+    route = c.route;
+    block = c.block;
+    here = record { number = c.here.number; is_block = c.here.is_block; place = c.here.place; place_also = c.here.place_also };
+    of_instruction = record { reached = c.of_instruction.reached; is = c.of_instruction.is };
+    met = record { locals = c.met.locals; stack = λ place site value is here. c.met.stack place site value is (left_entry place value here) };
+    carried = record { class = c.carried.class; instr = c.carried.instr; is_instr = c.carried.is_instr; items = c.carried.items };
+    tells = record {
+      locals = c.tells.locals;
+      stack = λ place site value is here. c.tells.stack place site value is (left_entry place value here);
+      uninit_locals = c.tells.uninit_locals;
+      uninit_stack = λ place type value is here site. c.tells.uninit_stack place type value is (left_entry place value here) site;
+      objects = c.tells.objects;
+    };
+    keeps = record {
+      locals = λ unit value is here. in_unit unit value (c.keeps.locals unit value is here);
+      stack = operands.waiting;
+      fields = λ site number told virtual value is there plain here. in_unit _ value (c.keeps.fields site number told virtual value is there plain here);
+      made = λ site done. absurd (false≢true done);
+      room = c.keeps.room;
+    };
+    own = c.own;
+  }
