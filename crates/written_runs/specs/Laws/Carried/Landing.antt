@@ -123,7 +123,7 @@ module _ (u : Setup) (laws : CarriedLaws u) {virtuals : Virtuals} {known : Known
   own_there = at_own u settle c.w f g c.point c.route c.block c.is_written c.here c.of_instruction
 
   -- what stands behind an edge goes together
-  goes_along : {more : Names} {row : RowEdge} (edge : EdgeThere s f.place c.point c.route row) (taken : ℕ) (given : List Source)
+  pub goes_along : {more : Names} {row : RowEdge} (edge : EdgeThere s f.place c.point c.route row) (taken : ℕ) (given : List Source)
       (leaves : LeavesLocals s f.place c.point before row taken given) (then also : MethodState)
       (moves : MovesAlong s f.place c.point edge.target before row more taken given f g then also)
       → then.at ≡ f.at
@@ -158,7 +158,7 @@ module _ (u : Setup) (laws : CarriedLaws u) {virtuals : Virtuals} {known : Known
         }
 
   -- a unit that is usable behind was usable before
-  usable_along : {row : RowEdge} (edge : EdgeThere s f.place c.point c.route row)
+  pub usable_along : {row : RowEdge} (edge : EdgeThere s f.place c.point c.route row)
       → edge_locals (row_of_point s f.place c.point) local_count row.by ≡ held_from 0 local_count
       → (unit : ℕ) (type : VType)
       → slice_get edge.target.typed.locals unit ≡ Some type

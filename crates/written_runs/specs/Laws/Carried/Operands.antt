@@ -142,3 +142,25 @@ have_operands names slots count stack also many enough real keep = record {
   lower_also =
       sym (reverse-reverse parts.first)
       ∙ ap reverse (sym (drop_at (reverse parts.second) (reverse parts.first) count back_long) ∙ ap (drop count) (sym stack_also))
+
+-- slots above all entries say nothing
+pub keep_fewer : (names : Names) (count : ℕ) (slots : List Slot) (values others : List Value)
+    → length values ≤ count
+    → KeepStack names slots values others
+    → KeepStack names (take count slots) values others
+keep_fewer names zero slots [] others few keep = none slots keep where
+  none : (all : List Slot) → KeepStack names all [] others → SameValues names [] others
+  none [] kept = kept
+  none (Plain ∷ all) kept = subst (SameValues names []) (sym kept) no_values
+  none (Virt site ∷ all) kept = subst (SameValues names []) (sym kept) no_values
+  none (Unusable ∷ all) kept = subst (SameValues names []) (sym kept) no_values
+keep_fewer names zero slots (value ∷ values) others few keep = absurd (omega (arith, few))
+keep_fewer names (suc count) [] values others few keep = keep
+keep_fewer names (suc count) (slot ∷ slots) [] others few keep = keep
+keep_fewer names (suc count) (Virt site ∷ slots) (value ∷ values) others few keep = keep_fewer names count slots values others (omega (arith, few)) keep
+keep_fewer names (suc count) (Plain ∷ slots) (value ∷ values) [] few keep = absurd keep
+keep_fewer names (suc count) (Plain ∷ slots) (value ∷ values) (other ∷ others) few keep =
+    (keep.0, keep_fewer names count slots values others (omega (arith, few)) keep.1)
+keep_fewer names (suc count) (Unusable ∷ slots) (value ∷ values) [] few keep = absurd keep
+keep_fewer names (suc count) (Unusable ∷ slots) (value ∷ values) (other ∷ others) few keep =
+    (keep.0, keep_fewer names count slots values others (omega (arith, few)) keep.1)

@@ -122,14 +122,14 @@ module _ {u : Setup} {virtuals : Virtuals} {known : Known} {names more : Names} 
     (c : AtCarried u virtuals known names frame f g) (taken : ℕ) (enough : taken ≤ length f.stack) (grows : NamesMore names more)
     (operands : HaveOperands more (stack_slots c.point (state_written c.route)) taken f.stack g.stack) where
   -- an entry that is left was there
-  left_entry : (place : ℕ) (value : Value)
+  pub left_entry : (place : ℕ) (value : Value)
       → slice_get (reverse (drop taken f.stack)) place ≡ Some value
       → slice_get (reverse f.stack) place ≡ Some value
   left_entry place value is =
       got_before (length f.stack - taken) (reverse f.stack) place value
       (ap (λ (values : List Value). slice_get values place) (sym (lowest_left taken f.stack enough)) ∙ is)
 
-  in_unit : (unit : ℕ) (value : Value) → KeptIn names g unit value → KeptIn more (less taken g) unit value
+  pub in_unit : (unit : ℕ) (value : Value) → KeptIn names g unit value → KeptIn more (less taken g) unit value
   in_unit unit value kept = record { also = kept.also; is = kept.is; same = value_more grows kept.same }
 
   abbrev pub carried_less : AtCarried u virtuals known more frame (less taken f) (less taken g)

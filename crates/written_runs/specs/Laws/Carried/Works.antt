@@ -122,18 +122,18 @@ module _ (u : Setup) (laws : CarriedLaws u) (measure : ℕ) {one other : Run} {f
   abbrev before : State
   before = state_written c.route
 
-  owned : AllOwned u h.virtuals (Method f ∷ rest)
+  pub owned : AllOwned u h.virtuals (Method f ∷ rest)
   owned = all_owned u laws.turns measure h
 
-  own : AtOwn u c.w f.place c.point c.route h.g
+  pub own : AtOwn u c.w f.place c.point c.route h.g
   own = own_there u laws c owned h.below
 
   -- ---- the operation
 
-  abbrev at_first : RunPoint
+  abbrev pub at_first : RunPoint
   at_first = run_point u.links (number_at (flat_points u.classes own.host c.w.flat)) (flat_point u.classes own.host c.w.flat (0 + f.place) c.point)
 
-  abbrev op : Op
+  abbrev pub op : Op
   op = at_first.op
 
   pub at_first_is : point_at P f.at f.place ≡ Some at_first
@@ -174,7 +174,7 @@ module _ (u : Setup) (laws : CarriedLaws u) (measure : ℕ) {one other : Run} {f
       (keeps_more {virtuals = h.virtuals} {others = h.virtuals} {frame = length rest}
       (record { forth = λ site virtual there. there; back = λ site virtual there. there }) c.w.flat c.point before f h.g grows c.keeps).stack
 
-  has_operands : WorksOnOperands op → nat_le (arity op) (length f.stack) ≡ true
+  pub has_operands : WorksOnOperands op → nat_le (arity op) (length f.stack) ≡ true
   has_operands works = by (nat_le (arity op) (length f.stack)) refl where
     by : (b : Bool) → nat_le (arity op) (length f.stack) ≡ b → nat_le (arity op) (length f.stack) ≡ true
     by true e = e
@@ -183,7 +183,7 @@ module _ (u : Setup) (laws : CarriedLaws u) (measure : ℕ) {one other : Run} {f
         absurd (not_stuck_here u laws.turns measure h (op_step P (counted one) f rest op) (turned_here u laws.turns measure h at_first at_first_is)
         (ap (λ (world : World). world.halt) (step_works P f rest op works (counted one) ∙ lacks)))
 
-  abbrev taken : ℕ
+  abbrev pub taken : ℕ
   taken = arity op
 
   module _ (works : WorksOnOperands op)
