@@ -10,6 +10,8 @@ pub mod Operands
 pub mod Planned
 pub mod PlannedEdges
 pub mod Points
+pub mod Rows
+pub mod SimpleFits
 pub mod Slots
 pub mod Standing
 pub mod Turns

@@ -37,7 +37,7 @@ use Rattle.written_runs.specs.Laws.Carried.PlannedEdges.{EdgeThere, next_there}
 use Rattle.written_runs.specs.Laws.Carried.Points.{IsNoJump, next_place}
 use Rattle.written_runs.specs.Laws.Carried.Slots.{LeavesLocals}
 use Rattle.written_runs.specs.Laws.Carried.Standing.{AtOwn}
-use Rattle.written_runs.specs.Laws.Carried.Waiting.{AtCarried, at_waiting}
+use Rattle.written_runs.specs.Laws.Carried.Waiting.{AtCarried, at_waiting, instruction_of}
 use Rattle.written_runs.specs.Laws.FewerVirtuals.{AllOwned, AreFewer, GoesFewer, same_under, under, under_owned}
 use Rattle.written_runs.specs.Laws.OwnFrames.{WaitsPlanned}
 use Rattle.written_runs.specs.Laws.Settling.{SettleLaws}
@@ -165,11 +165,11 @@ module _ (u : Setup) (laws : CarriedLaws u) {virtuals : Virtuals} {known : Known
       → GoesFewer u virtuals known names (Method (resumed f values) ∷ ones) (Method (resumed g also) ∷ others)
   planned_resumes values also are so no_jump =
       goes_with_more (record { keeps = λ virtual. nat_le (suc virtual.frame) height; is = refl })
-      (goes_along u laws c kept_owned kept_below edge so.taken so.given so.leaves (resumed f values) (resumed g also) moves refl refl refl refl refl block.0
+      (goes_along u laws (instruction_of c) kept_owned kept_below edge so.taken so.given so.leaves (resumed f values) (resumed g also) moves refl refl refl refl refl block.0
       (ap (λ (n : ℕ). n + 1) own.place ∙ sym (next_place u c.w f.place c.point c.route c.of_instruction.reached c.carried no_jump) ∙ block.1)
       (names_themselves names) lower) where
         own : AtOwn u c.w f.place c.point c.route g
-        own = own_there u laws c kept_owned kept_below
+        own = own_there u laws (instruction_of c) kept_owned kept_below
 
         edge : EdgeThere s f.place c.point c.route (record { by = edges.Next; to = f.place + 1; guard = (row_of_point s f.place c.point).next })
         edge = next_there u settle c.w g.at c.is_written (laws.rows_fit g.at c.w c.is_written) c.of_instruction.reached so.falls so.opens
@@ -201,7 +201,7 @@ module _ (u : Setup) (laws : CarriedLaws u) {virtuals : Virtuals} {known : Known
           stack_also =
               reverse-append (reverse also) g.stack
               ∙ ap (λ (xs : List Value). reverse g.stack ++ xs) (reverse-reverse also);
-          usable = usable_along u laws c kept_owned kept_below edge so.leaves.locals;
+          usable = usable_along u laws (instruction_of c) kept_owned kept_below edge so.leaves.locals;
           uninit = edge.keeps;
           uninit_given = λ number type source value is kept_type site got. absurd (so.none_given number type source is kept_type);
         }

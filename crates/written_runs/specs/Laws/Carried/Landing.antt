@@ -29,7 +29,7 @@ use Rattle.plan_flow.specs.PlanTable.{held_from}
 use Rattle.plan_flow.specs.ReadyForPlans.{KeepsType, place_types}
 use Rattle.plan_flow.specs.Written.Blocks.{state_written}
 use Rattle.plan_flow.specs.Written.Routes.{Route, RouteEdge, edge_by}
-use Rattle.plan_flow.specs.Written.Templates.{catches_from, to_or_pad}
+use Rattle.plan_flow.specs.Written.Templates.{catches_at as written_catches, catches_from, to_or_pad}
 use Rattle.plan_flow.specs.Written.WrittenCode.{target_number, written_catch}
 use Rattle.plan_flow.specs.Written.WrittenPrograms.{WrittenMethod}
 use Rattle.plan_flow.specs.declared.edge.EdgeKind.TheVariants as edges
@@ -51,7 +51,7 @@ use Rattle.written_runs.specs.Laws.Carried.PlannedEdges.{EdgeThere, handler_ther
 use Rattle.written_runs.specs.Laws.Carried.Points.{IsNoJump, first_point_is, next_place, second_point_is}
 use Rattle.written_runs.specs.Laws.Carried.Slots.{LeadsAlong, LeavesLocals, got_left}
 use Rattle.written_runs.specs.Laws.Carried.Standing.{AtOwn, at_own}
-use Rattle.written_runs.specs.Laws.Carried.Waiting.{AtCarried}
+use Rattle.written_runs.specs.Laws.Carried.Waiting.{AtCarried, AtInstruction, instruction_of}
 use Rattle.written_runs.specs.Laws.FewerVirtuals.{AllOwned, GoesFewer}
 use Rattle.written_runs.specs.Laws.OwnFrames.{catches_are}
 use Rattle.written_runs.specs.Laws.Settling.{SettleLaws}
@@ -99,7 +99,7 @@ pub record ThrowsThere (s : PlanScope) (at : ℕ) (point : Point) (route : Route
   pub opens : is_open (state_written route) guard ≡ true
 
 module _ (u : Setup) (laws : CarriedLaws u) {virtuals : Virtuals} {known : Known} {names : Names} {f g : MethodState} {rest rest_also : List RunFrame}
-    (c : AtCarried u virtuals known names (length rest) f g) (owned : AllOwned u virtuals (Method f ∷ rest))
+    (c : AtInstruction u virtuals names (length rest) f g) (owned : AllOwned u virtuals (Method f ∷ rest))
     (below : Stands u virtuals known (is_awaited u g.at) names rest rest_also) where
   abbrev s : PlanScope
   s = scope_in u c.w
@@ -181,12 +181,9 @@ module _ (u : Setup) (laws : CarriedLaws u) {virtuals : Virtuals} {known : Known
 
   -- ---- handlers
 
-  module _ (throws : ThrowsThere s f.place c.point c.route) (no_jump : IsNoJump c.carried.instr) where
+  module _ (throws : ThrowsThere s f.place c.point c.route) (here : ℕ) where
     abbrev number : ℕ → ℕ
     number to = number_at (flat_points u.classes own_there.host c.w.flat) to
-
-    abbrev here : ℕ
-    here = 0 + g.place
 
     lands_at : (place : ℕ) (handler : FlatHandler) (edge : EdgeThere s f.place c.point c.route
         (record { by = edges.Handler place; to = handler.to; guard = throws.guard }))
@@ -252,7 +249,7 @@ module _ (u : Setup) (laws : CarriedLaws u) {virtuals : Virtuals} {known : Known
               handler_block_at u settle (caught f handler.to reference) (ap u.written c.at ∙ c.is_written) (edges.Handler place) reached edge.of_row.found
               edge.of_row.is.to edge.is_target place here refl edge.of_row.is.by
 
-    catches_all : (count : ℕ) (handlers : List FlatHandler)
+    pub catches_all : (count : ℕ) (handlers : List FlatHandler)
         → ((place : ℕ) (handler : FlatHandler) → slice_get handlers place ≡ Some handler → slice_get c.point.handlers (count + place) ≡ Some handler)
         → SameCatches (GoesFewer u virtuals known) names f g rest rest_also (map (renumbered number) (map flat_catch handlers))
         (map (written_catch c.w.form (blocks_in u c.w) here) (catches_from f.place c.route count handlers))
@@ -285,15 +282,42 @@ module _ (u : Setup) (laws : CarriedLaws u) {virtuals : Virtuals} {known : Known
               } ∷ catches_from f.place c.route (suc count) handlers
           found = rw (edge.of_row.found) refl
 
-    -- handlers one by one
-    pub carried_catches : SameCatches (GoesFewer u virtuals known) names f g rest rest_also (catches_at (first u) f) (catches_at (second u) g)
-    carried_catches =
-        subst (λ (ones : List Catch). SameCatches (GoesFewer u virtuals known) names f g rest rest_also ones (catches_at (second u) g))
-        (sym (catches_are (first u) f _
+    -- what stands in the first code, and in the second, of handlers
+    pub all_catches : SameCatches (GoesFewer u virtuals known) names f g rest rest_also (map (renumbered number) (map flat_catch c.point.handlers))
+        (map (written_catch c.w.form (blocks_in u c.w) here) (written_catches f.place c.point c.route))
+    all_catches =
+        catches_all 0 c.point.handlers (λ place handler is.
+        let zeroth : 0 + place ≡ place = omega arith in ap (slice_get c.point.handlers) zeroth ∙ is)
+
+    pub first_catches : catches_at (first u) f ≡ map (renumbered number) (map flat_catch c.point.handlers)
+    first_catches =
+        catches_are (first u) f _
         (first_point_is u c.w own_there.host f c.point
         (laws.flat_code f.at c.w own_there.host (ap u.written c.at ∙ c.is_written) (ap (scope_at u.classes) c.at ∙ own_there.is_host))
-        reached.is_point)))
-        (subst (SameCatches (GoesFewer u virtuals known) names f g rest rest_also (map (renumbered number) (map flat_catch c.point.handlers)))
-        (sym (catches_are (second u) g _ (second_point_is u c.w f.place c.point c.route reached c.carried no_jump own_there)))
-        (catches_all 0 c.point.handlers (λ place handler is.
-        let zeroth : 0 + place ≡ place = omega arith in ap (slice_get c.point.handlers) zeroth ∙ is)))
+        reached.is_point)
+
+-- handlers one by one, around an instruction that is written as it is
+pub carried_catches : (u : Setup) (laws : CarriedLaws u) {virtuals : Virtuals} {known : Known} {names : Names} {f g : MethodState}
+    {rest rest_also : List RunFrame} (c : AtCarried u virtuals known names (length rest) f g)
+    → AllOwned u virtuals (Method f ∷ rest)
+    → Stands u virtuals known (is_awaited u g.at) names rest rest_also
+    → ThrowsThere (scope_in u c.w) f.place c.point c.route
+    → IsNoJump c.carried.instr
+    → SameCatches (GoesFewer u virtuals known) names f g rest rest_also (catches_at (first u) f) (catches_at (second u) g)
+carried_catches u laws {virtuals = virtuals} {known = known} {names = names} {f = f} {g = g} {rest = rest} {rest_also = rest_also} c owned below throws no_jump =
+    subst (λ (ones : List Catch). SameCatches (GoesFewer u virtuals known) names f g rest rest_also ones (catches_at (second u) g))
+    (sym (first_catches u laws (instruction_of c) owned below throws (0 + g.place)))
+    (subst (SameCatches (GoesFewer u virtuals known) names f g rest rest_also _)
+    (sym (catches_are (second u) g _
+    (second_point_is u c.w f.place c.point c.route c.of_instruction.reached c.carried no_jump
+    (own_there u laws (instruction_of c) owned below))))
+    (all_catches u laws (instruction_of c) owned below throws (0 + g.place)))
+
+-- a frame of the second that has moved in its method is caught as before
+pub catches_moved : {u : Setup} {virtuals : Virtuals} {known : Known} {names : Names} {f g : MethodState} {rest rest_also : List RunFrame}
+    {catches also : List Catch} (place : ℕ) (stack : List Value)
+    → SameCatches (GoesFewer u virtuals known) names f g rest rest_also catches also
+    → SameCatches (GoesFewer u virtuals known) names f (record g { place = place; stack = stack }) rest rest_also catches also
+catches_moved place stack no_catches = no_catches
+catches_moved place stack (and_catch {class = class} {to = to} {to_also = to_also} lands rest) =
+    and_catch {class = class} {to = to} {to_also = to_also} lands (catches_moved place stack rest)

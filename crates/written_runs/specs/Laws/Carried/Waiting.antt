@@ -19,7 +19,21 @@ use Rattle.written_runs.specs.Laws.Carried.Operands.{HaveOperands}
 use Rattle.written_runs.specs.Laws.Carried.Slots.{got_before, lowest_left}
 use Rattle.written_runs.specs.VirtualObjects.{Tells, Virtual, Virtuals, stack_slots}
 
--- What is known there: the two frames stand at the block of the instruction, by the state in which it is written.
+-- Two frames that stand at the block of an instruction, by the state in which it is written.
+pub record AtInstruction (u : Setup) (virtuals : Virtuals) (names : Names) (frame : ℕ) (f g : MethodState) : Type 0 where
+  pub w : WrittenMethod
+  pub is_written : u.written g.at ≡ Some w
+  pub at : f.at ≡ g.at
+  pub held : SameHeld names f.held g.held
+  pub point : Point
+  pub route : Route
+  pub block : Block
+  pub here : AtBlock u w f g block
+  pub of_instruction : IsInstructionOf u w f.place point route block
+  pub tells : Tells (first u) (scope_in u w) virtuals frame point (state_written route) f
+  pub keeps : Keeps w.flat names virtuals frame [] point (state_written route) f g
+
+-- The same, where it is written as it is, and it is known of which classes virtual objects are.
 pub record AtCarried (u : Setup) (virtuals : Virtuals) (known : Known) (names : Names) (frame : ℕ) (f g : MethodState) : Type 0 where
   pub w : WrittenMethod
   pub is_written : u.written g.at ≡ Some w
@@ -38,6 +52,23 @@ pub record AtCarried (u : Setup) (virtuals : Virtuals) (known : Known) (names : 
       → slice_get virtuals number ≡ Some virtual
       → virtual.frame ≡ frame
       → IsTrue (is_present (state_written route).objects virtual.site)
+
+abbrev pub instruction_of : {u : Setup} {virtuals : Virtuals} {known : Known} {names : Names} {frame : ℕ} {f g : MethodState}
+    → AtCarried u virtuals known names frame f g
+    → AtInstruction u virtuals names frame f g
+instruction_of c = record {
+  w = c.w;
+  is_written = c.is_written;
+  at = c.at;
+  held = c.held;
+  point = c.point;
+  route = c.route;
+  block = c.block;
+  here = c.here;
+  of_instruction = c.of_instruction;
+  tells = c.tells;
+  keeps = c.keeps;
+}
 
 -- a frame that waits is one
 pub at_waiting : {u : Setup} {virtuals : Virtuals} {known : Known} {names : Names} {frame : ℕ} {f g : MethodState}

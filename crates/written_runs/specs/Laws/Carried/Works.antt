@@ -66,7 +66,7 @@ use Rattle.written_runs.specs.Laws.Carried.Points.{IsNoJump, carried_item, first
 use Rattle.written_runs.specs.Laws.Carried.Slots.{LeavesLocals, lowest_left}
 use Rattle.written_runs.specs.Laws.Carried.Standing.{AtOwn}
 use Rattle.written_runs.specs.Laws.Carried.Turns.{all_owned, compares_here, keeps_both, not_stuck_here, seen_here, top_owned, turned_here, typed_here}
-use Rattle.written_runs.specs.Laws.Carried.Waiting.{AtCarried, carried_less, stays_with, waits_there, waits_with}
+use Rattle.written_runs.specs.Laws.Carried.Waiting.{AtCarried, carried_less, instruction_of, stays_with, waits_there, waits_with}
 use Rattle.written_runs.specs.Laws.FewerVirtuals.{AllOwned, GoesFewer, OwnedBelow, goes_above, none_under, over_turn, owned_below, stands_under, under}
 use Rattle.written_runs.specs.Laws.Halfway.{Halfway}
 use Rattle.written_runs.specs.Laws.OwnFrames.{FrameLaws, above_awaited, ends_there, goes_below, names_grown, typed_below, waiting_unwind, waits_below}
@@ -126,7 +126,7 @@ module _ (u : Setup) (laws : CarriedLaws u) (measure : ℕ) {one other : Run} {f
   owned = all_owned u laws.turns measure h
 
   pub own : AtOwn u c.w f.place c.point c.route h.g
-  own = own_there u laws c owned h.below
+  own = own_there u laws (instruction_of c) owned h.below
 
   -- ---- the operation
 
@@ -203,7 +203,7 @@ module _ (u : Setup) (laws : CarriedLaws u) (measure : ℕ) {one other : Run} {f
         → SameValues more ones others
         → GoesFewer u h.virtuals known more (Method (resumed (less taken f) ones) ∷ rest) (Method (resumed (less taken h.g) others) ∷ h.rest_also)
     given more memory ones others is grows are =
-        goes_along u laws c owned h.below edge taken so.given so.leaves (resumed (less taken f) ones) (resumed (less taken h.g) others) moves refl refl refl
+        goes_along u laws (instruction_of c) owned h.below edge taken so.given so.leaves (resumed (less taken f) ones) (resumed (less taken h.g) others) moves refl refl refl
         refl refl block.0 (ap (λ (n : ℕ). n + 1) own.place ∙ sym (next_place u c.w f.place c.point c.route c.of_instruction.reached c.carried no_jump) ∙ block.1)
         grows
         (subst (λ (n : ℕ). KeepStack more (take (n - taken) (stack_slots c.point before)) (take (n - taken) (reverse f.stack)) (reverse (drop taken h.g.stack)))
@@ -236,7 +236,7 @@ module _ (u : Setup) (laws : CarriedLaws u) (measure : ℕ) {one other : Run} {f
             stack_also =
                 reverse-append (reverse others) (drop taken h.g.stack)
                 ∙ ap (λ (values : List Value). reverse (drop taken h.g.stack) ++ values) (reverse-reverse others);
-            usable = usable_along u laws c owned h.below edge so.leaves.locals;
+            usable = usable_along u laws (instruction_of c) owned h.below edge so.leaves.locals;
             uninit = edge.keeps;
             uninit_given = so.uninit_given;
           }
