@@ -5,7 +5,10 @@ pub mod Behind
 pub mod EdgeBlocks
 pub mod Knowing
 pub mod Landing
+pub mod MovesOn
+pub mod NullTests
 pub mod OpenEdges
+pub mod OperandFits
 pub mod Operands
 pub mod Planned
 pub mod PlannedEdges

@@ -86,48 +86,50 @@ owned_fewer fewer owned = record {
 
 module _ (u : Setup) (virtuals : Virtuals) (known : Known) where
   -- the topmost frames arrive there, with the virtual objects that the edge's state has
-  pub arrives_there : {names more : Names} {f then also : MethodState} {rest rest_also : List RunFrame} {w : WrittenMethod} {edge : RouteEdge}
-      {target : Point}
+  abbrev pub arrives_planned : {more : Names} {then also : MethodState} {frame : ℕ} {w : WrittenMethod} {edge : RouteEdge} {target : Point}
       (block : EdgeBlock u w then.place edge)
-      → then.at ≡ f.at
       → u.written also.at ≡ Some w
       → then.at ≡ also.at
       → SameHeld more then.held also.held
       → also.place ≡ first_item w.form (blocks_in u w) block.number
       → slice_get w.flat.points then.place ≡ Some target
+      → Tells (first u) (scope_in u w) (kept_of frame edge.state virtuals) frame target edge.state then
+      → Keeps w.flat more (kept_of frame edge.state virtuals) frame [] target edge.state then also
+      → InPlanned u (kept_of frame edge.state virtuals) known more frame then also
+  arrives_planned {more = more} {then = then} {also = also} {frame = frame} {w = w} {edge = edge} {target = target} block written at held place is_target
+      tells keeps = record {
+        one = w;
+        is_written = written;
+        at = at;
+        held = held;
+        block = block.block;
+        moment =
+            arrives (record { number = block.number; is_block = block.is_block; place = sym block.at; place_also = place }) block.told;
+        point = target;
+        is_point = ap (slice_get w.flat.points) block.at ∙ is_target;
+        tells =
+            subst (λ (state : State). Tells (first u) (scope_in u w) (kept_of frame edge.state virtuals) frame target state then) (sym block.state)
+            tells;
+        keeps =
+            subst (λ (state : State). Keeps w.flat more (kept_of frame edge.state virtuals) frame [] target state then also) (sym block.state) keeps;
+        own = λ number virtual is of_frame.
+            ap (λ (state : State). is_present state.objects virtual.site) block.state
+            ∙ kept_is_present frame number edge.state virtuals virtual is of_frame;
+      }
+
+  -- so they go together, above those below
+  pub goes_planned : {names more : Names} {f then also : MethodState} {rest rest_also : List RunFrame} (state : State)
+      → InPlanned u (kept_of (length rest) state virtuals) known more (length rest) then also
+      → then.at ≡ f.at
       → NamesMore names more
-      → Tells (first u) (scope_in u w) (kept_of (length rest) edge.state virtuals) (length rest) target edge.state then
-      → Keeps w.flat more (kept_of (length rest) edge.state virtuals) (length rest) [] target edge.state then also
       → AllOwned u virtuals (Method f ∷ rest)
       → Stands u virtuals known (is_awaited u also.at) names rest rest_also
       → GoesFewer u virtuals known more (Method then ∷ rest) (Method also ∷ rest_also)
-  arrives_there {names = names} {more = more} {f = f} {then = then} {also = also} {rest = rest} {rest_also = rest_also} {w = w} {edge = edge}
-      {target = target} block same_method written at held place is_target grows tells keeps owned below = record {
-        left = kept_of (length rest) edge.state virtuals;
-        fewer = kept_are_fewer (length rest) edge.state virtuals;
-        top =
-            stands (planned_stand in_planned (λ waiting. absurd (false≢true waiting))
-            (stands_more (same_below_kept (length rest) edge.state virtuals) (record { keeps = λ reference class is. is }) grows below));
-        owned = owned_with same_method (owned_fewer (kept_are_fewer (length rest) edge.state virtuals) owned);
-      } where
-        in_planned : InPlanned u (kept_of (length rest) edge.state virtuals) known more (length rest) then also
-        in_planned = record {
-          one = w;
-          is_written = written;
-          at = at;
-          held = held;
-          block = block.block;
-          moment =
-              arrives (record { number = block.number; is_block = block.is_block; place = sym block.at; place_also = place }) block.told;
-          point = target;
-          is_point = ap (slice_get w.flat.points) block.at ∙ is_target;
-          tells =
-              subst (λ (state : State). Tells (first u) (scope_in u w) (kept_of (length rest) edge.state virtuals) (length rest) target state then)
-              (sym block.state) tells;
-          keeps =
-              subst (λ (state : State). Keeps w.flat more (kept_of (length rest) edge.state virtuals) (length rest) [] target state then also)
-              (sym block.state) keeps;
-          own = λ number virtual is of_frame.
-              ap (λ (state : State). is_present state.objects virtual.site) block.state
-              ∙ kept_is_present (length rest) number edge.state virtuals virtual is of_frame;
-        }
+  goes_planned {rest = rest} state in_planned same_method grows owned below = record {
+    left = kept_of (length rest) state virtuals;
+    fewer = kept_are_fewer (length rest) state virtuals;
+    top =
+        stands (planned_stand in_planned (λ waiting. absurd (false≢true waiting))
+        (stands_more (same_below_kept (length rest) state virtuals) (record { keeps = λ reference class is. is }) grows below));
+    owned = owned_with same_method (owned_fewer (kept_are_fewer (length rest) state virtuals) owned);
+  }

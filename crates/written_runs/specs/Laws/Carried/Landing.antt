@@ -40,11 +40,11 @@ use Rattle.same_runs.specs.SameFrames.{SameCatches, and_catch, catches_at, caugh
 use Rattle.virtual_state.specs.States.{State}
 use Rattle.virtual_state.specs.declared.slot.Slot.{Slot}
 use Rattle.virtual_state.specs.declared.slot.Slot.TheVariants.{Unusable}
-use Rattle.written_runs.specs.Inner.PlannedFrames.{IsReached, KeepStack, Known, blocks_in, scope_in}
+use Rattle.written_runs.specs.Inner.PlannedFrames.{InPlanned, IsReached, KeepStack, Known, blocks_in, scope_in}
 use Rattle.written_runs.specs.Inner.Setup.{Setup, first, second}
 use Rattle.written_runs.specs.Inner.Standing.{Stands, is_awaited}
-use Rattle.written_runs.specs.Laws.Carried.Arriving.{arrives_there}
-use Rattle.written_runs.specs.Laws.Carried.Behind.{MovesAlong, keeps_behind, tells_behind}
+use Rattle.written_runs.specs.Laws.Carried.Arriving.{arrives_planned, goes_planned}
+use Rattle.written_runs.specs.Laws.Carried.Behind.{MovesAlong, kept_of, keeps_behind, tells_behind}
 use Rattle.written_runs.specs.Laws.Carried.EdgeBlocks.{EdgeBlock, handler_block_at, next_block_at}
 use Rattle.written_runs.specs.Laws.Carried.Knowing.{CarriedLaws}
 use Rattle.written_runs.specs.Laws.Carried.PlannedEdges.{EdgeThere, handler_there, next_there, slots_long, unusable_is_top}
@@ -122,7 +122,45 @@ module _ (u : Setup) (laws : CarriedLaws u) {virtuals : Virtuals} {known : Known
   pub own_there : AtOwn u c.w f.place c.point c.route g
   own_there = at_own u settle c.w f g c.point c.route c.block c.is_written c.here c.of_instruction
 
-  -- what stands behind an edge goes together
+  -- the target of an edge on which the locals stay
+  pub leads_along : {row : RowEdge} (edge : EdgeThere s f.place c.point c.route row) (taken : ℕ) (given : List Source)
+      → LeavesLocals s f.place c.point before row taken given
+      → LeadsAlong s c.point edge.target before row taken given
+  leads_along {row = row} edge taken given leaves = record {
+    is_target = edge.is_target;
+    slots = slots_long u settle c.w g.at c.is_written (laws.rows_fit g.at c.w c.is_written) reached;
+    as_many_locals = edge.as_many_locals;
+    as_many =
+        let of_types : length (stack_types s.flat row.to) ≡ length edge.target.typed.stack = rw (edge.is_target) refl in
+        let entries = edge.fits.entries in
+        let of_row = ap length leaves.stack in
+        let both = length-append (held_from local_count (entry_count - taken)) given in
+        let held_many = held_length local_count (entry_count - taken) in
+        omega (arith, of_types, entries, of_row, both, held_many);
+  }
+
+  -- behind an edge the topmost frames stand as planned frames
+  abbrev pub planned_along : {more : Names} {row : RowEdge} (edge : EdgeThere s f.place c.point c.route row) (taken : ℕ) (given : List Source)
+      (leaves : LeavesLocals s f.place c.point before row taken given) (then also : MethodState)
+      (moves : MovesAlong s f.place c.point edge.target before row more taken given f g then also)
+      → then.at ≡ f.at
+      → then.held ≡ f.held
+      → also.at ≡ g.at
+      → also.held ≡ g.held
+      → then.place ≡ row.to
+      → (block : EdgeBlock u c.w then.place edge.of_row.edge)
+      → also.place ≡ first_item c.w.form (blocks_in u c.w) block.number
+      → NamesMore names more
+      → KeepStack more (take (entry_count - taken) (stack_slots c.point before)) (take (entry_count - taken) (reverse f.stack)) moves.lower
+      → InPlanned u (kept_of (length rest) edge.of_row.edge.state virtuals) known more (length rest) then also
+  planned_along {more = more} {row = row} edge taken given leaves then also moves at held at_also held_also place block place_also grows lower =
+      arrives_planned u virtuals known block (ap u.written at_also ∙ c.is_written) (at ∙ c.at ∙ sym at_also)
+      (subst (λ (h : Option ℕ). SameHeld more h also.held) (sym held) (subst (SameHeld more f.held) (sym held_also) (held_more grows c.held)))
+      place_also (ap (slice_get c.w.flat.points) place ∙ edge.is_target)
+      (tells_behind leaves (leads_along edge taken given leaves) edge.of_row.is.state moves c.tells)
+      (keeps_behind leaves (leads_along edge taken given leaves) edge.of_row.is.state moves c.tells grows lower c.keeps)
+
+  -- and all frames go together
   pub goes_along : {more : Names} {row : RowEdge} (edge : EdgeThere s f.place c.point c.route row) (taken : ℕ) (given : List Source)
       (leaves : LeavesLocals s f.place c.point before row taken given) (then also : MethodState)
       (moves : MovesAlong s f.place c.point edge.target before row more taken given f g then also)
@@ -136,26 +174,9 @@ module _ (u : Setup) (laws : CarriedLaws u) {virtuals : Virtuals} {known : Known
       → NamesMore names more
       → KeepStack more (take (entry_count - taken) (stack_slots c.point before)) (take (entry_count - taken) (reverse f.stack)) moves.lower
       → GoesFewer u virtuals known more (Method then ∷ rest) (Method also ∷ rest_also)
-  goes_along {more = more} {row = row} edge taken given leaves then also moves at held at_also held_also place block place_also grows lower =
-      arrives_there u virtuals known block at (ap u.written at_also ∙ c.is_written) (at ∙ c.at ∙ sym at_also)
-      (subst (λ (h : Option ℕ). SameHeld more h also.held) (sym held) (subst (SameHeld more f.held) (sym held_also) (held_more grows c.held)))
-      place_also (ap (slice_get c.w.flat.points) place ∙ edge.is_target) grows
-      (tells_behind leaves leads edge.of_row.is.state moves c.tells)
-      (keeps_behind leaves leads edge.of_row.is.state moves c.tells grows lower c.keeps) owned
-      (subst (λ (m : MethodAt). Stands u virtuals known (is_awaited u m) names rest rest_also) (sym at_also) below) where
-        leads : LeadsAlong s c.point edge.target before row taken given
-        leads = record {
-          is_target = edge.is_target;
-          slots = slots_long u settle c.w g.at c.is_written (laws.rows_fit g.at c.w c.is_written) reached;
-          as_many_locals = edge.as_many_locals;
-          as_many =
-              let of_types : length (stack_types s.flat row.to) ≡ length edge.target.typed.stack = rw (edge.is_target) refl in
-              let entries = edge.fits.entries in
-              let of_row = ap length leaves.stack in
-              let both = length-append (held_from local_count (entry_count - taken)) given in
-              let held_many = held_length local_count (entry_count - taken) in
-              omega (arith, of_types, entries, of_row, both, held_many);
-        }
+  goes_along edge taken given leaves then also moves at held at_also held_also place block place_also grows lower =
+      goes_planned u virtuals known edge.of_row.edge.state (planned_along edge taken given leaves then also moves at held at_also held_also place block place_also grows lower) at
+      grows owned (subst (λ (m : MethodAt). Stands u virtuals known (is_awaited u m) names rest rest_also) (sym at_also) below)
 
   -- a unit that is usable behind was usable before
   pub usable_along : {row : RowEdge} (edge : EdgeThere s f.place c.point c.route row)

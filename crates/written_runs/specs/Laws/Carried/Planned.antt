@@ -26,7 +26,7 @@ use Rattle.written_runs.specs.Inner.Setup.{Setup, first}
 use Rattle.written_runs.specs.Inner.Standing.{apart, comparison}
 use Rattle.written_runs.specs.Inner.Together.{AreOwned}
 use Rattle.written_runs.specs.Laws.Carried.Standing.{AtOwn, at_own}
-use Rattle.written_runs.specs.Laws.Carried.Waiting.{AtCarried}
+use Rattle.written_runs.specs.Laws.Carried.Waiting.{AtCarried, AtInstruction}
 use Rattle.written_runs.specs.Laws.Halfway.{Halfway}
 use Rattle.written_runs.specs.Laws.KnownClasses.{classes_in, halfway_knowing, knows, met_here}
 use Rattle.written_runs.specs.Laws.PlannedTurns.{AtPlanned, written_at}
@@ -39,8 +39,33 @@ use Rattle.written_runs.specs.WrittenRuns.{IsReadyMethod}
 abbrev pub own_start : (u : Setup) → WrittenMethod → ℕ → Route → ℕ
 own_start u w at route = first_item w.form (blocks_in u w) (own_number (scope_in u w) w.routes at route)
 
+-- the two frames there
+abbrev pub instruction_halfway : {u : Setup} {one other : Run} {f : MethodState} {rest : List RunFrame} {w : WrittenMethod} {known : Known} {point : Point}
+    {route : Route}
+    (h : Halfway u one other f rest w known point (state_written route) (own_start u w f.place route))
+    → IsReached w f.place point route
+    → AtInstruction u h.virtuals h.names (length rest) f h.g
+instruction_halfway {u = u} {f = f} {w = w} {point = point} {route = route} h reached = record {
+  w = w;
+  is_written = h.is_written;
+  at = h.at;
+  held = h.held;
+  point = point;
+  route = route;
+  block = instruction_block (scope_in u w) f.place point route;
+  here = record {
+    number = own_number (scope_in u w) w.routes f.place route;
+    is_block = of_own f.place point route reached;
+    place = refl;
+    place_also = h.place_also;
+  };
+  of_instruction = record { reached = reached; is = refl };
+  tells = h.tells;
+  keeps = h.keeps;
+}
+
 -- where it is known there of which classes the objects are, and the instruction is written as it is
-pub carried_halfway : {u : Setup} {one other : Run} {f : MethodState} {rest : List RunFrame} {w : WrittenMethod} {known : Known} {point : Point}
+abbrev pub carried_halfway : {u : Setup} {one other : Run} {f : MethodState} {rest : List RunFrame} {w : WrittenMethod} {known : Known} {point : Point}
     {route : Route}
     (h : Halfway u one other f rest w known point (state_written route) (own_start u w f.place route))
     → IsReached w f.place point route

@@ -45,7 +45,7 @@ use Rattle.written_runs.specs.VirtualObjects.{stack_slots}
 
 -- ---- places
 
-virtual_there : (slot : Option Slot) (site : ℕ) → readable slot ≡ Virt site → slot ≡ Some (Virt site)
+pub virtual_there : (slot : Option Slot) (site : ℕ) → readable slot ≡ Virt site → slot ≡ Some (Virt site)
 virtual_there (Some (Virt one)) site is = ap Some is
 virtual_there (Some Plain) site is = absurd cc
 virtual_there (Some Unusable) site is = absurd cc

@@ -140,10 +140,10 @@ module _ {P : Program} {s : PlanScope} {at : ℕ} {point : Point} {route : Route
   abbrev Fits : Op → Type 0
   Fits op = OpFits P s at point route memory stack op
 
-  row_is : row_of_point s at point ≡ instr_row s at point.typed class instr
+  pub row_is : row_of_point s at point ≡ instr_row s at point.typed class instr
   row_is = ap (row_at s at point.typed) here.is_instr
 
-  falls_is : falls_on point.instr ≡ falls_through instr
+  pub falls_is : falls_on point.instr ≡ falls_through instr
   falls_is = ap falls_on here.is_instr
 
   -- a row that takes and giving
@@ -193,7 +193,7 @@ module _ {P : Program} {s : PlanScope} {at : ℕ} {point : Point} {route : Route
       (ap (λ (row : PlanRow). slice_get (positions row) asked.0) (row_is ∙ is)
       ∙ ap (λ (all : List Position). slice_get all asked.0) (append-nil (operands_asked point.typed takes)) ∙ asked.1) virtual
 
-  throws_each : (takes : ℕ) (giving : List Source) (asks : List Position)
+  pub throws_each : (takes : ℕ) (giving : List Source) (asks : List Position)
       → instr_row s at point.typed class instr ≡ record (throwing point.typed takes giving) { asks = asks }
       → ThrowsThere s at point route
   throws_each takes giving asks is =
@@ -214,7 +214,7 @@ module _ {P : Program} {s : PlanScope} {at : ℕ} {point : Point} {route : Route
       (λ number site low virtual. absurd (omega (arith, low, none)))
       (none_plain at (place_types point.typed)) (λ throwing. absurd (never throwing))
 
-  none_meant : Fits meaningless
+  pub none_meant : Fits meaningless
   none_meant works enough not_stuck = absurd works
 
   fits_text : (text : Option (List ℕ)) (f : List ℕ → Constant)
@@ -259,7 +259,7 @@ module _ {P : Program} {s : PlanScope} {at : ℕ} {point : Point} {route : Route
   reference_is : (index : ℕ) → reference_of scope.pool (constant_at scope.pool index) ≡ member_of s class index
   reference_is index = ap (λ (pool : Constants). reference_of pool (constant_at pool index)) here.pool
 
-  fits_reference : (index : ℕ) (f : Reference → Op)
+  pub fits_reference : (index : ℕ) (f : Reference → Op)
       → ((r : Reference) → member_of s class index ≡ Some r → Fits (f r))
       → Fits (referring scope index f)
   fits_reference index f each = by (reference_of scope.pool (constant_at scope.pool index)) refl where

@@ -17,6 +17,7 @@ use Rattle.written_runs.specs.Inner.Setup.{Setup, first}
 use Rattle.written_runs.specs.Inner.Standing.{IsWaiting}
 use Rattle.written_runs.specs.Laws.Carried.Operands.{HaveOperands}
 use Rattle.written_runs.specs.Laws.Carried.Slots.{got_before, lowest_left}
+use Rattle.written_runs.specs.Laws.StandingMore.{keeps_more}
 use Rattle.written_runs.specs.VirtualObjects.{Tells, Virtual, Virtuals, stack_slots}
 
 -- Two frames that stand at the block of an instruction, by the state in which it is written.
@@ -68,6 +69,27 @@ instruction_of c = record {
   of_instruction = c.of_instruction;
   tells = c.tells;
   keeps = c.keeps;
+}
+
+-- under more names
+abbrev pub instruction_more : {u : Setup} {virtuals : Virtuals} {names more : Names} {frame : ℕ} {f g : MethodState}
+    → NamesMore names more
+    → AtInstruction u virtuals names frame f g
+    → AtInstruction u virtuals more frame f g
+instruction_more {f = f} {g = g} grows c = record {
+  w = c.w;
+  is_written = c.is_written;
+  at = c.at;
+  held = held_more grows c.held;
+  point = c.point;
+  route = c.route;
+  block = c.block;
+  here = c.here;
+  of_instruction = c.of_instruction;
+  tells = c.tells;
+  keeps =
+      keeps_more (record { forth = λ site virtual there. there; back = λ site virtual there. there }) c.w.flat c.point (state_written c.route) f g grows
+      c.keeps;
 }
 
 -- a frame that waits is one

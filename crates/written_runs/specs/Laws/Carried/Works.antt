@@ -96,7 +96,7 @@ pub record OperationFits (s : PlanScope) (at : ℕ) (point : Point) (route : Rou
   pub given : (ones : List Value) (memory : Memory) → w ≡ gives memory ones → GivesThere s at point (state_written route) (arity op) ones
   pub throws : IsThrowing w → ThrowsThere s at point route
 
-values_conform : {P : Program} {s : RowScope} {heap : Heap} {types : List VType} {values : List Value} → AllConform P s heap types values
+pub values_conform : {P : Program} {s : RowScope} {heap : Heap} {types : List VType} {values : List Value} → AllConform P s heap types values
     → length values ≡ length types
 values_conform no_values = refl
 values_conform (and_value here rest) = ap suc (values_conform rest)
