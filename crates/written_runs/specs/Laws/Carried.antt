@@ -19,4 +19,5 @@ pub mod Slots
 pub mod Standing
 pub mod Turns
 pub mod Waiting
+pub mod Whole
 pub mod Works

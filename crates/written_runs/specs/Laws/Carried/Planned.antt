@@ -94,7 +94,7 @@ carried_halfway {u = u} {f = f} {w = w} {point = point} {route = route} h reache
   own = h.own;
 }
 
-items_carried : (s : PlanScope) (at : ℕ) (point : Point) (state : State) (route : Route) (class : ℕ) (instr : Instr)
+pub items_carried : (s : PlanScope) (at : ℕ) (point : Point) (state : State) (route : Route) (class : ℕ) (instr : Instr)
     → point.instr ≡ Of class instr
     → template s at point.typed state route class instr ≡ None
     → items_at s at point state route ≡ as_it_is at point route class instr
@@ -140,7 +140,7 @@ module _ (u : Setup) (settle : SettleLaws u) {measure : ℕ} {one other : Run} (
   abbrev point : Point
   point = a.settled.point
 
-  reached : IsReached w a.f.place point route
+  pub reached : IsReached w a.f.place point route
   reached = a.settled.of_instruction.reached
 
   same_state : a.in_planned.block.state ≡ state_written route
@@ -231,9 +231,9 @@ module _ (u : Setup) (settle : SettleLaws u) {measure : ℕ} {one other : Run} (
     by (waits p r here of_instruction met carried) = of_route p r of_instruction.reached met
 
   -- an instruction of which no template is written is written as it is
-  pub is_carried : (class : ℕ) (instr : Instr) → point.instr ≡ Of class instr → written_at a class instr ≡ None → IsCarried u w a.f.place point route
+  abbrev pub is_carried : (class : ℕ) (instr : Instr) → point.instr ≡ Of class instr → written_at a class instr ≡ None → IsCarried u w a.f.place point route
   is_carried class instr is none = record { class = class; instr = instr; is_instr = is; items = items_carried s a.f.place point (state_written route) route class instr is none }
 
-  pub carried_here : (class : ℕ) (instr : Instr) → point.instr ≡ Of class instr → written_at a class instr ≡ None
+  abbrev pub carried_here : (class : ℕ) (instr : Instr) → point.instr ≡ Of class instr → written_at a class instr ≡ None
       → AtCarried u knowing_here.virtuals known_here knowing_here.names (length a.ones) a.f knowing_here.g
   carried_here class instr is none = carried_halfway knowing_here reached met_there (is_carried class instr is none)

@@ -51,7 +51,7 @@ virtual_there (Some Plain) site is = absurd cc
 virtual_there (Some Unusable) site is = absurd cc
 virtual_there None site is = absurd cc
 
-reverse_get : {A : Type 0} (items : List A) (number : ℕ) (item : A)
+pub reverse_get : {A : Type 0} (items : List A) (number : ℕ) (item : A)
     → slice_get items number ≡ Some item
     → slice_get (reverse items) (length items - (number + 1)) ≡ Some item
 reverse_get {A = A} [] number item is = absurd (none-some item is)

@@ -1,5 +1,5 @@
 -- Operations without operands, and those for whose operands their row asks: what the row says of them.
-use Rattle.std.proofs.Common.{◌≡◌, ◌⊎◌, ◌≤◌, ◌<◌, ◌+◌, ◌-◌, ◌++◌, ◌==◌, ◌&&◌, ℕ, zero, suc, Bool, true, false, List, [], ◌∷◌, length, map, reverse, slice_get, take, Option, Some, None, option_map, if◌then◌else◌, refl, sym, ap, subst, ◌∙◌, arith, inl, inr}
+use Rattle.std.proofs.Common.{◌≡◌, ◌⊎◌, ◌≤◌, ◌<◌, ◌+◌, ◌-◌, ◌++◌, ◌==◌, ◌&&◌, ℕ, zero, suc, Bool, true, false, List, [], ◌∷◌, length, map, reverse, slice_get, take, Option, Some, None, IsTrue, option_map, if◌then◌else◌, refl, sym, ap, subst, ◌∙◌, arith, inl, inr}
 use Rattle.std.proofs.lemmas.Bool.{cases_lt, eqb-true}
 use Rattle.std.proofs.lemmas.List.{append-nil}
 use Rattle.std.proofs.lemmas.Option.{none-some, same_Some}
@@ -16,6 +16,7 @@ use Rattle.class_model.specs.declared.opcodes.TheConstants.{INVOKEINTERFACE, INV
 use Rattle.class_model.specs.declared.pool.Const.{Const as PoolConst}
 use Rattle.class_model.specs.declared.pool.Const.TheVariants as consts
 use Rattle.class_tree.specs.Headers.{Name}
+use Rattle.flow_code.specs.ReadTypes.{is_site_object}
 use Rattle.flow_code.specs.declared.point.FlatInstr.{FlatInstr}
 use Rattle.flow_code.specs.declared.point.FlatInstr.TheVariants.{Of}
 use Rattle.flow_code.specs.declared.point.Point.{Point}
@@ -119,6 +120,12 @@ pub record FitsHere (P : Program) (s : PlanScope) (at : ℕ) (point : Point) (ro
       → slice_get stack number ≡ Some value
       → held (state_written route) (operand point.typed number) ≡ Virt site
       → IsFolderObject memory.heap value
+  pub links : P.links ≡ s.links
+  pub uninit : (number : ℕ) (type : VType) (value : Value)
+      → slice_get point.typed.stack (length point.typed.stack - (number + 1)) ≡ Some type
+      → slice_get stack number ≡ Some value
+      → IsTrue (is_site_object s.flat type)
+      → (reference : ℕ) × (value ≡ Ref reference)
 
 -- what an operation comes to there
 abbrev pub works_to : Program → Memory → List Value → Op → Completion
