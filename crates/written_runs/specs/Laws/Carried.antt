@@ -3,6 +3,7 @@ pub mod Arriving
 pub mod Awaited
 pub mod Behind
 pub mod EdgeBlocks
+pub mod FieldFits
 pub mod Knowing
 pub mod Landing
 pub mod MovesOn

@@ -47,32 +47,32 @@ use Rattle.written_runs.specs.Laws.Carried.SimpleFits.{FitsHere, OpFits, asking_
 use Rattle.written_runs.specs.Laws.Carried.Slots.{got_right}
 
 -- a place that holds no virtual object is read as a plain one
-plain_read : (slot : Option Slot) → ((site : ℕ) → readable slot ≡ Virt site → ⊥) → readable slot ≡ Plain
+pub plain_read : (slot : Option Slot) → ((site : ℕ) → readable slot ≡ Virt site → ⊥) → readable slot ≡ Plain
 plain_read None none = refl
 plain_read (Some Plain) none = refl
 plain_read (Some Unusable) none = refl
 plain_read (Some (Virt site)) none = absurd (none site refl)
 
 -- the number of an operand of one, of two, of three
-only_first : (number : ℕ) → number < 1 → number ≡ 0
+pub only_first : (number : ℕ) → number < 1 → number ≡ 0
 only_first zero low = refl
 only_first (suc number) low = absurd (omega (arith, low))
 
-data IsOfTwo : ℕ → Type 0 where
+pub data IsOfTwo : ℕ → Type 0 where
   is_first : IsOfTwo 0
   is_second : IsOfTwo 1
 
-of_two : (number : ℕ) → number < 2 → IsOfTwo number
+pub of_two : (number : ℕ) → number < 2 → IsOfTwo number
 of_two zero low = is_first
 of_two (suc zero) low = is_second
 of_two (suc (suc number)) low = absurd (omega (arith, low))
 
-data IsOfThree : ℕ → Type 0 where
+pub data IsOfThree : ℕ → Type 0 where
   is_first_of_three : IsOfThree 0
   is_second_of_three : IsOfThree 1
   is_third_of_three : IsOfThree 2
 
-of_three : (number : ℕ) → number < 3 → IsOfThree number
+pub of_three : (number : ℕ) → number < 3 → IsOfThree number
 of_three zero low = is_first_of_three
 of_three (suc zero) low = is_second_of_three
 of_three (suc (suc zero)) low = is_third_of_three
@@ -92,7 +92,7 @@ module _ {P : Program} {s : PlanScope} {at : ℕ} {point : Point} {route : Route
   Fits op = OpFits P s at point route memory stack op
 
   -- an operation whose row takes operands, gives plain values, changes nothing and throws where an operand is plain
-  guarded_row : (taken : ℕ) (given : List Source) (row : PlanRow)
+  pub guarded_row : (taken : ℕ) (given : List Source) (row : PlanRow)
       → instr_row s at point.typed class instr ≡ row
       → (falls_on point.instr ≡ true)
       → row.locals ≡ (moving point.typed taken given).locals
@@ -112,7 +112,7 @@ module _ {P : Program} {s : PlanScope} {at : ℕ} {point : Point} {route : Route
     falls = falls;
   }
 
-  throws_where_plain : (row : PlanRow) (place : ℕ)
+  pub throws_where_plain : (row : PlanRow) (place : ℕ)
       → instr_row s at point.typed class instr ≡ row
       → row.throws ≡ Some (where_plain place)
       → held before place ≡ Plain
@@ -121,20 +121,20 @@ module _ {P : Program} {s : PlanScope} {at : ℕ} {point : Point} {route : Route
       record { guard = where_plain place; throws = ap (λ (r : PlanRow). r.throws) (row_is here ∙ is) ∙ throws; opens = ap is_plain plain }
 
   -- the values on top of the stack
-  one_on_top : 1 ≤ length stack → (value : Value) × (below : List Value) × (stack ≡ value ∷ below)
+  pub one_on_top : 1 ≤ length stack → (value : Value) × (below : List Value) × (stack ≡ value ∷ below)
   one_on_top enough = by stack refl enough where
     by : (all : List Value) → stack ≡ all → 1 ≤ length all → (value : Value) × (below : List Value) × (stack ≡ value ∷ below)
     by [] is few = absurd (omega (arith, few))
     by (value ∷ below) is few = (value, below, is)
 
-  two_on_top : 2 ≤ length stack → (value other : Value) × (below : List Value) × (stack ≡ value ∷ other ∷ below)
+  pub two_on_top : 2 ≤ length stack → (value other : Value) × (below : List Value) × (stack ≡ value ∷ other ∷ below)
   two_on_top enough = by stack refl enough where
     by : (all : List Value) → stack ≡ all → 2 ≤ length all → (value other : Value) × (below : List Value) × (stack ≡ value ∷ other ∷ below)
     by [] is few = absurd (omega (arith, few))
     by (value ∷ []) is few = absurd (omega (arith, few))
     by (value ∷ other ∷ below) is few = (value, other, below, is)
 
-  three_on_top : 3 ≤ length stack → (value other third : Value) × (below : List Value) × (stack ≡ value ∷ other ∷ third ∷ below)
+  pub three_on_top : 3 ≤ length stack → (value other third : Value) × (below : List Value) × (stack ≡ value ∷ other ∷ third ∷ below)
   three_on_top enough = by stack refl enough where
     by : (all : List Value) → stack ≡ all → 3 ≤ length all
         → (value other third : Value) × (below : List Value) × (stack ≡ value ∷ other ∷ third ∷ below)
@@ -145,7 +145,7 @@ module _ {P : Program} {s : PlanScope} {at : ℕ} {point : Point} {route : Route
 
   -- ---- monitors
 
-  monitors : (op : Op) (change : Change)
+  pub monitors : (op : Op) (change : Change)
       → arity op ≡ 1
       → instr_row s at point.typed class instr ≡ monitor_row point.typed change
       → falls_on point.instr ≡ true
@@ -166,19 +166,19 @@ module _ {P : Program} {s : PlanScope} {at : ℕ} {point : Point} {route : Route
   -- ---- operands that a stuck operation cannot have
 
   -- an operand that is virtual is an object of the folder
-  folder_first : (value : Value) (below : List Value) (site : ℕ)
+  pub folder_first : (value : Value) (below : List Value) (site : ℕ)
       → stack ≡ value ∷ below
       → held before (operand point.typed 0) ≡ Virt site
       → IsFolderObject memory.heap value
   folder_first value below site is virtual = here.folder 0 site value (ap (λ (all : List Value). slice_get all 0) is) virtual
 
-  folder_second : (value other : Value) (below : List Value) (site : ℕ)
+  pub folder_second : (value other : Value) (below : List Value) (site : ℕ)
       → stack ≡ value ∷ other ∷ below
       → held before (operand point.typed 1) ≡ Virt site
       → IsFolderObject memory.heap other
   folder_second value other below site is virtual = here.folder 1 site other (ap (λ (all : List Value). slice_get all 1) is) virtual
 
-  folder_third : (value other third : Value) (below : List Value) (site : ℕ)
+  pub folder_third : (value other third : Value) (below : List Value) (site : ℕ)
       → stack ≡ value ∷ other ∷ third ∷ below
       → held before (operand point.typed 2) ≡ Virt site
       → IsFolderObject memory.heap third
