@@ -18,6 +18,7 @@ pub mod Rows
 pub mod SimpleFits
 pub mod Slots
 pub mod Standing
+pub mod StuckFits
 pub mod Turns
 pub mod Waiting
 pub mod Whole
