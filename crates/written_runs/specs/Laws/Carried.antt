@@ -8,6 +8,7 @@ pub mod Knowing
 pub mod Landing
 pub mod MovesOn
 pub mod NullTests
+pub mod NumberFits
 pub mod OpenEdges
 pub mod OperandFits
 pub mod Operands
