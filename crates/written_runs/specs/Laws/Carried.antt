@@ -2,6 +2,7 @@
 pub mod Arriving
 pub mod Awaited
 pub mod Behind
+pub mod CastFits
 pub mod EdgeBlocks
 pub mod FieldFits
 pub mod Knowing
@@ -24,3 +25,4 @@ pub mod Turns
 pub mod Waiting
 pub mod Whole
 pub mod Works
+pub mod Worth

@@ -78,7 +78,7 @@ of_three (suc zero) low = is_second_of_three
 of_three (suc (suc zero)) low = is_third_of_three
 of_three (suc (suc (suc number))) low = absurd (omega (arith, low))
 
-nothing_plain : (slot : Slot) (site : ℕ) → nothing_of slot ≡ None → slot ≡ Virt site → ⊥
+pub nothing_plain : (slot : Slot) (site : ℕ) → nothing_of slot ≡ None → slot ≡ Virt site → ⊥
 nothing_plain slot site none virtual = none-some [] (sym (ap nothing_of (sym virtual) ∙ none))
 
 -- ---- at an instruction

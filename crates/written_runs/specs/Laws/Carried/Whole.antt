@@ -55,186 +55,16 @@ use Rattle.written_runs.specs.Laws.Carried.SimpleFits.{FitsHere, OpFits, fits_co
 use Rattle.written_runs.specs.Laws.Carried.Turns.{not_stuck_here, turned_here}
 use Rattle.written_runs.specs.Laws.Carried.Waiting.{AtCarried}
 use Rattle.written_runs.specs.Laws.Carried.Works.{at_first, at_first_is, has_operands, many_stack, op, own, works_turn}
+use Rattle.written_runs.specs.Laws.Carried.CastFits.{fits_cast}
+use Rattle.written_runs.specs.Laws.Carried.FieldFits.{fits_get_field, fits_put_field}
+use Rattle.written_runs.specs.Laws.Carried.NumberFits.{fits_divide, fits_float_ask, fits_pure}
+use Rattle.written_runs.specs.Laws.Carried.StuckFits.{fits_array_load, fits_array_store, fits_new_multi}
+use Rattle.written_runs.specs.Laws.Carried.Worth.{IsJump, IsOperation, IsWorth, means_nothing, straight_on, works_so, worth}
 use Rattle.written_runs.specs.Laws.Halfway.{Halfway}
 use Rattle.written_runs.specs.Laws.PlannedTurns.{AtPlanned, PlannedParts, written_at}
 use Rattle.written_runs.specs.Laws.Settling.{SettleLaws}
 use Rattle.written_runs.specs.Laws.Simulation.{KeepsTurn}
 use Rattle.written_runs.specs.Laws.Turned.{BehindMoves}
-
--- ---- instructions by what they do
-
--- an operation on operands
-abbrev pub IsOperation : Instr → Type 0
-IsOperation Nop = ⊥
-IsOperation (Load kind local) = ⊥
-IsOperation (Store kind local) = ⊥
-IsOperation (Iinc local by) = ⊥
-IsOperation (Shuffle opcode) = ⊥
-IsOperation (If opcode to) = ⊥
-IsOperation (If2 opcode to) = ⊥
-IsOperation (IfSame opcode to) = ⊥
-IsOperation (IfNull opcode to) = ⊥
-IsOperation (Goto to) = ⊥
-IsOperation (Table low other to) = ⊥
-IsOperation (Lookup other pairs) = ⊥
-IsOperation (Return kind) = ⊥
-IsOperation instr = Unit {0}
-
--- a jump on operands
-abbrev pub IsJump : Instr → Type 0
-IsJump (If opcode to) = Unit {0}
-IsJump (If2 opcode to) = Unit {0}
-IsJump (IfSame opcode to) = Unit {0}
-IsJump (IfNull opcode to) = Unit {0}
-IsJump (Table low other to) = Unit {0}
-IsJump (Lookup other pairs) = Unit {0}
-IsJump instr = ⊥
-
--- its code is an operation on operands, or means nothing
-pub data IsWorth (op : Op) : Type 0 where
-  works_so : WorksOnOperands op → IsWorth op
-  means_nothing : op ≡ meaningless → IsWorth op
-
-worth_found : {A : Type 0} (found : Option A) (f : A → Op) → ((one : A) → WorksOnOperands (f one)) → IsWorth (or_meaningless (option_map f found))
-worth_found None f each = means_nothing refl
-worth_found (Some one) f each = works_so (each one)
-
-worth_between : (is : Bool) (one : Op) → WorksOnOperands one → IsWorth (if is then one else meaningless)
-worth_between true one works = works_so works
-worth_between false one works = means_nothing refl
-
-worth_constant : (pool : Constants) (constant : Option PoolConst) → IsWorth (constant_op pool constant)
-worth_constant pool None = means_nothing refl
-worth_constant pool (Some (consts.Integer number)) = works_so tt
-worth_constant pool (Some (consts.Long number)) = works_so tt
-worth_constant pool (Some (consts.Float bits)) = works_so tt
-worth_constant pool (Some (consts.Double bits)) = works_so tt
-worth_constant pool (Some (consts.String text)) = worth_found (utf8_at pool text) _ (λ one. tt)
-worth_constant pool (Some (consts.Class name)) = worth_found (utf8_at pool name) _ (λ one. tt)
-worth_constant pool (Some (consts.MethodType desc)) = worth_found (utf8_at pool desc) _ (λ one. tt)
-worth_constant pool (Some (consts.MethodHandle kind reference)) = worth_found (handle_of pool kind reference) _ (λ one. tt)
-worth_constant pool (Some (consts.Utf8 text)) = means_nothing refl
-worth_constant pool (Some (consts.Fieldref owner member)) = means_nothing refl
-worth_constant pool (Some (consts.Methodref owner member)) = means_nothing refl
-worth_constant pool (Some (consts.InterfaceMethodref owner member)) = means_nothing refl
-worth_constant pool (Some (consts.NameAndType name desc)) = means_nothing refl
-worth_constant pool (Some (consts.InvokeDynamic bootstrap member)) = means_nothing refl
-
-worth_call : (links : Links) (scope : RowScope) (opcode : ℕ) (found : Option Reference) → IsWorth (or_meaningless (option_map (call_op links scope opcode) found))
-worth_call links scope opcode None = means_nothing refl
-worth_call links scope opcode (Some r) =
-    by (opcode == INVOKEVIRTUAL) refl (opcode == INVOKESPECIAL) refl (opcode == INVOKESTATIC) refl (opcode == INVOKEINTERFACE) refl where
-      by : (v : Bool) → (opcode == INVOKEVIRTUAL) ≡ v
-          → (p : Bool) → (opcode == INVOKESPECIAL) ≡ p
-          → (t : Bool) → (opcode == INVOKESTATIC) ≡ t
-          → (i : Bool) → (opcode == INVOKEINTERFACE) ≡ i
-          → IsWorth (call_op links scope opcode r)
-      by true is_v p is_p t is_t i is_i = rw (is_v) (works_so tt)
-      by false is_v true is_p t is_t i is_i = rw (is_v, is_p) (works_so tt)
-      by false is_v false is_p true is_t i is_i = rw (is_v, is_p, is_t) (works_so tt)
-      by false is_v false is_p false is_t true is_i = rw (is_v, is_p, is_t, is_i) (works_so tt)
-      by false is_v false is_p false is_t false is_i = rw (is_v, is_p, is_t, is_i) (means_nothing refl)
-
-worth_dynamic : (scope : RowScope) (constant : Option PoolConst) → IsWorth (dynamic_op scope constant)
-worth_dynamic scope None = means_nothing refl
-worth_dynamic scope (Some (consts.InvokeDynamic bootstrap member)) = by (name_at scope.pool member) refl (descriptor_at scope.pool member) refl where
-  by : (name : Option (List ℕ)) → name_at scope.pool member ≡ name
-      → (desc : Option (List ℕ)) → descriptor_at scope.pool member ≡ desc
-      → IsWorth (dynamic_op scope (Some (consts.InvokeDynamic bootstrap member)))
-  by None is_name desc is_desc = rw (is_name) (means_nothing refl)
-  by (Some name) is_name None is_desc = rw (is_name, is_desc) (means_nothing refl)
-  by (Some name) is_name (Some desc) is_desc = rw (is_name, is_desc) (works_so tt)
-worth_dynamic scope (Some (consts.Integer number)) = means_nothing refl
-worth_dynamic scope (Some (consts.Long number)) = means_nothing refl
-worth_dynamic scope (Some (consts.Float bits)) = means_nothing refl
-worth_dynamic scope (Some (consts.Double bits)) = means_nothing refl
-worth_dynamic scope (Some (consts.String text)) = means_nothing refl
-worth_dynamic scope (Some (consts.Class name)) = means_nothing refl
-worth_dynamic scope (Some (consts.MethodType desc)) = means_nothing refl
-worth_dynamic scope (Some (consts.MethodHandle kind reference)) = means_nothing refl
-worth_dynamic scope (Some (consts.Utf8 text)) = means_nothing refl
-worth_dynamic scope (Some (consts.Fieldref owner member)) = means_nothing refl
-worth_dynamic scope (Some (consts.Methodref owner member)) = means_nothing refl
-worth_dynamic scope (Some (consts.InterfaceMethodref owner member)) = means_nothing refl
-worth_dynamic scope (Some (consts.NameAndType name desc)) = means_nothing refl
-
-worth : (links : Links) (number : ℕ → ℕ) (scope : RowScope) (instr : Instr) → IsOperation instr → IsWorth (instr_op links number scope instr)
-worth links number scope Nop is = absurd is
-worth links number scope (Load kind local) is = absurd is
-worth links number scope (Store kind local) is = absurd is
-worth links number scope (Iinc local by) is = absurd is
-worth links number scope (Shuffle opcode) is = absurd is
-worth links number scope (If opcode to) is = absurd is
-worth links number scope (If2 opcode to) is = absurd is
-worth links number scope (IfSame opcode to) is = absurd is
-worth links number scope (IfNull opcode to) is = absurd is
-worth links number scope (Goto to) is = absurd is
-worth links number scope (Table low other to) is = absurd is
-worth links number scope (Lookup other pairs) is = absurd is
-worth links number scope (Return kind) is = absurd is
-worth links number scope (Const imm) is = works_so tt
-worth links number scope (Ldc index) is = worth_constant scope.pool (constant_at scope.pool index)
-worth links number scope (Ldc2 index) is = worth_constant scope.pool (constant_at scope.pool index)
-worth links number scope (ArrayLoad opcode) is = worth_between (nat_le IALOAD opcode && nat_le opcode SALOAD) _ tt
-worth links number scope (ArrayStore opcode) is = worth_between (nat_le IASTORE opcode && nat_le opcode SASTORE) _ tt
-worth links number scope (Pure opcode) is = works_so tt
-worth links number scope (Divide opcode) is = works_so tt
-worth links number scope (FloatAsk opcode) is = works_so tt
-worth links number scope (GetStatic index) is = worth_found (reference_of scope.pool (constant_at scope.pool index)) _ (λ r. tt)
-worth links number scope (PutStatic index) is = worth_found (reference_of scope.pool (constant_at scope.pool index)) _ (λ r. tt)
-worth links number scope (GetField index) is = worth_found (reference_of scope.pool (constant_at scope.pool index)) _ (λ r. tt)
-worth links number scope (PutField index) is = worth_found (reference_of scope.pool (constant_at scope.pool index)) _ (λ r. tt)
-worth links number scope (Invoke opcode index count) is = worth_call links scope opcode (reference_of scope.pool (constant_at scope.pool index))
-worth links number scope (Dynamic index) is = worth_dynamic scope (constant_at scope.pool index)
-worth links number scope (New index) is = worth_found (class_at scope.pool index) _ (λ name. tt)
-worth links number scope (NewArray code) is = worth_found (primitive_array code) _ (λ name. tt)
-worth links number scope (NewRefArray index) is = worth_found (array_of (class_at scope.pool index)) _ (λ name. tt)
-worth links number scope (NewMulti index dimensions) is = worth_found (class_at scope.pool index) _ (λ name. tt)
-worth links number scope Length is = works_so tt
-worth links number scope Throw is = works_so tt
-worth links number scope (Cast index) is = worth_found (class_at scope.pool index) _ (λ name. tt)
-worth links number scope (InstanceOf index) is = worth_found (class_at scope.pool index) _ (λ name. tt)
-worth links number scope Enter is = works_so tt
-worth links number scope Leave is = works_so tt
-
-straight_on : (instr : Instr) → IsOperation instr → IsNoJump instr
-straight_on Nop is = absurd is
-straight_on (Load kind local) is = absurd is
-straight_on (Store kind local) is = absurd is
-straight_on (Iinc local by) is = absurd is
-straight_on (Shuffle opcode) is = absurd is
-straight_on (If opcode to) is = absurd is
-straight_on (If2 opcode to) is = absurd is
-straight_on (IfSame opcode to) is = absurd is
-straight_on (IfNull opcode to) is = absurd is
-straight_on (Goto to) is = absurd is
-straight_on (Table low other to) is = absurd is
-straight_on (Lookup other pairs) is = absurd is
-straight_on (Return kind) is = absurd is
-straight_on (Const imm) is = tt
-straight_on (Ldc index) is = tt
-straight_on (Ldc2 index) is = tt
-straight_on (ArrayLoad opcode) is = tt
-straight_on (ArrayStore opcode) is = tt
-straight_on (Pure opcode) is = tt
-straight_on (Divide opcode) is = tt
-straight_on (FloatAsk opcode) is = tt
-straight_on (GetStatic index) is = tt
-straight_on (PutStatic index) is = tt
-straight_on (GetField index) is = tt
-straight_on (PutField index) is = tt
-straight_on (Invoke opcode index count) is = tt
-straight_on (Dynamic index) is = tt
-straight_on (New index) is = tt
-straight_on (NewArray code) is = tt
-straight_on (NewRefArray index) is = tt
-straight_on (NewMulti index dimensions) is = tt
-straight_on Length is = tt
-straight_on Throw is = tt
-straight_on (Cast index) is = tt
-straight_on (InstanceOf index) is = tt
-straight_on Enter is = tt
-straight_on Leave is = tt
 
 -- ---- what rows say of operations
 
@@ -245,18 +75,8 @@ FitsOf P s instr =
     → FitsHere P s at point route class instr scope memory stack
     → OpFits P s at point route memory stack (instr_op P.links number scope instr)
 
--- What is left to show of rows.
+-- What is left to show of rows: of java/lang/Object's constructor, which is called of an object that is not virtual.
 pub record OpenRows (P : Program) (s : PlanScope) : Type 0 where
-  pub array_load : (opcode : ℕ) → FitsOf P s (ArrayLoad opcode)
-  pub array_store : (opcode : ℕ) → FitsOf P s (ArrayStore opcode)
-  pub pure : (opcode : ℕ) → FitsOf P s (Pure opcode)
-  pub divide : (opcode : ℕ) → FitsOf P s (Divide opcode)
-  pub float_ask : (opcode : ℕ) → FitsOf P s (FloatAsk opcode)
-  pub get_field : (index : ℕ) → FitsOf P s (GetField index)
-  pub put_field : (index : ℕ) → FitsOf P s (PutField index)
-  pub new_multi : (index dimensions : ℕ) → FitsOf P s (NewMulti index dimensions)
-  pub cast : (index : ℕ) → FitsOf P s (Cast index)
-  -- java/lang/Object's constructor, which is called of an object that is not virtual
   pub object_init : (opcode index count class : ℕ) (r : Reference)
       → member_of s class index ≡ Some r
       → is_object_init r ≡ true
@@ -284,17 +104,24 @@ fits_of {P = P} {s = s} rows (Ldc index) is =
     λ at point route class scope memory stack number. fits_ldc P s at point route class scope memory stack number index
 fits_of {P = P} {s = s} rows (Ldc2 index) is =
     λ at point route class scope memory stack number. fits_ldc2 P s at point route class scope memory stack number index
-fits_of rows (ArrayLoad opcode) is = rows.array_load opcode
-fits_of rows (ArrayStore opcode) is = rows.array_store opcode
-fits_of rows (Pure opcode) is = rows.pure opcode
-fits_of rows (Divide opcode) is = rows.divide opcode
-fits_of rows (FloatAsk opcode) is = rows.float_ask opcode
+fits_of {P = P} {s = s} rows (ArrayLoad opcode) is =
+    λ at point route class scope memory stack number. fits_array_load P s at point route class scope memory stack number opcode
+fits_of {P = P} {s = s} rows (ArrayStore opcode) is =
+    λ at point route class scope memory stack number. fits_array_store P s at point route class scope memory stack number opcode
+fits_of {P = P} {s = s} rows (Pure opcode) is =
+    λ at point route class scope memory stack number. fits_pure P s at point route class scope memory stack number opcode
+fits_of {P = P} {s = s} rows (Divide opcode) is =
+    λ at point route class scope memory stack number. fits_divide P s at point route class scope memory stack number opcode
+fits_of {P = P} {s = s} rows (FloatAsk opcode) is =
+    λ at point route class scope memory stack number. fits_float_ask P s at point route class scope memory stack number opcode
 fits_of {P = P} {s = s} rows (GetStatic index) is =
     λ at point route class scope memory stack number. fits_get_static P s at point route class scope memory stack number index
 fits_of {P = P} {s = s} rows (PutStatic index) is =
     λ at point route class scope memory stack number. fits_put_static P s at point route class scope memory stack number index
-fits_of rows (GetField index) is = rows.get_field index
-fits_of rows (PutField index) is = rows.put_field index
+fits_of {P = P} {s = s} rows (GetField index) is =
+    λ at point route class scope memory stack number. fits_get_field P s at point route class scope memory stack number index
+fits_of {P = P} {s = s} rows (PutField index) is =
+    λ at point route class scope memory stack number. fits_put_field P s at point route class scope memory stack number index
 fits_of {P = P} {s = s} rows (Invoke opcode index count) is =
     λ at point route class scope memory stack number here. by_member class (member_of s class index) refl at point route scope memory stack number here where
       of_init : (class : ℕ) (r : Reference) → member_of s class index ≡ Some r → (init : Bool) → is_object_init r ≡ init
@@ -326,12 +153,14 @@ fits_of {P = P} {s = s} rows (NewArray code) is =
     λ at point route class scope memory stack number. fits_new_array P s at point route class scope memory stack number code
 fits_of {P = P} {s = s} rows (NewRefArray index) is =
     λ at point route class scope memory stack number. fits_new_ref_array P s at point route class scope memory stack number index
-fits_of rows (NewMulti index dimensions) is = rows.new_multi index dimensions
+fits_of {P = P} {s = s} rows (NewMulti index dimensions) is =
+    λ at point route class scope memory stack number. fits_new_multi P s at point route class scope memory stack number index dimensions
 fits_of {P = P} {s = s} rows Length is =
     λ at point route class scope memory stack number. fits_length P s at point route class scope memory stack number
 fits_of {P = P} {s = s} rows Throw is =
     λ at point route class scope memory stack number. fits_throw P s at point route class scope memory stack number
-fits_of rows (Cast index) is = rows.cast index
+fits_of {P = P} {s = s} rows (Cast index) is =
+    λ at point route class scope memory stack number. fits_cast P s at point route class scope memory stack number index
 fits_of {P = P} {s = s} rows (InstanceOf index) is =
     λ at point route class scope memory stack number. fits_instance_of P s at point route class scope memory stack number index
 fits_of {P = P} {s = s} rows Enter is =
