@@ -7,6 +7,7 @@ pub mod EdgeBlocks
 pub mod FieldFits
 pub mod Knowing
 pub mod Landing
+pub mod MoveTurns
 pub mod MovesOn
 pub mod NullTests
 pub mod NumberFits

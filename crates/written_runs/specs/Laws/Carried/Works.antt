@@ -141,7 +141,7 @@ module _ (u : Setup) (laws : CarriedLaws u) (measure : ℕ) {one other : Run} {f
       first_point_is u c.w own.host f c.point
       (laws.flat_code f.at c.w own.host (ap u.written c.at ∙ c.is_written) (ap (scope_at u.classes) c.at ∙ own.is_host)) c.of_instruction.reached.is_point
 
-  abbrev at_second : RunPoint
+  abbrev pub at_second : RunPoint
   at_second = record {
     op = op;
     catches = (written_point s own.host u.constructor c.w.form (blocks_in u c.w) (0 + h.g.place)
@@ -162,7 +162,7 @@ module _ (u : Setup) (laws : CarriedLaws u) (measure : ℕ) {one other : Run} {f
       let conforms = laws.conforms one.world f rest c.w c.point h.typed h.stands (ap u.written c.at ∙ c.is_written) c.of_instruction.reached.is_point in
       sym (length-reverse f.stack) ∙ values_conform conforms.stack ∙ length-map c.point.typed.stack (read_type c.w.flat)
 
-  many_slots : length (stack_slots c.point before) ≡ length f.stack
+  pub many_slots : length (stack_slots c.point before) ≡ length f.stack
   many_slots =
       let all = slots_long u settle c.w h.g.at c.is_written (laws.rows_fit h.g.at c.w c.is_written) c.of_instruction.reached in
       let cut = length-drop (length c.point.typed.locals) before.slots in
