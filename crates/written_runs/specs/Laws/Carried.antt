@@ -2,13 +2,16 @@
 pub mod Arriving
 pub mod Awaited
 pub mod Behind
+pub mod CarriedOps
 pub mod CastFits
 pub mod EdgeBlocks
 pub mod FieldFits
 pub mod Knowing
 pub mod Landing
+pub mod LoadTurns
 pub mod MoveTurns
 pub mod MovesOn
+pub mod NopTurns
 pub mod NullTests
 pub mod NumberFits
 pub mod OpenEdges

@@ -112,7 +112,7 @@ use Rattle.written_runs.specs.WrittenRuns.{IsReadyMethod}
 
 -- ---- the local that is tested
 
-no_top : (flat : FlatCode) (locals : List VType) (local : ℕ) (type : VType)
+pub no_top : (flat : FlatCode) (locals : List VType) (local : ℕ) (type : VType)
     → slice_get (map (read_type flat) locals) local ≡ Some type
     → is_top type ≡ false
     → (before : VType) × (slice_get locals local ≡ Some before) × (is_top before ≡ false)
@@ -135,7 +135,7 @@ no_top flat locals local type is usable = by (slice_get locals local) refl where
   by None none = absurd (none-some type (sym (ap (option_map (read_type flat)) none) ∙ read))
   by (Some before) there = (before, there, of_type before there (same_Some (read_type flat before) type (sym (ap (option_map (read_type flat)) there) ∙ read)))
 
-is_not_top : (type : VType) → IsReference type → is_top type ≡ false
+pub is_not_top : (type : VType) → IsReference type → is_top type ≡ false
 is_not_top types.Null told = refl
 is_not_top (types.Object name) told = refl
 is_not_top types.UninitThis told = refl
