@@ -20,6 +20,7 @@ pub mod Operands
 pub mod Planned
 pub mod PlannedEdges
 pub mod Points
+pub mod ReturnTurns
 pub mod Rows
 pub mod SimpleFits
 pub mod Slots

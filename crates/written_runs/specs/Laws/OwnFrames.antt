@@ -348,6 +348,25 @@ module _ (u : Setup) (laws : FrameLaws u) (virtuals : Virtuals) (known : Known) 
 
   -- ---- a method on top that runs its own code
 
+  -- a result goes to the frame below
+  pub below_same : {names : Names} {heap : Heap} {waiting : Bool} {above : Above} {ones others : List RunFrame}
+      → Stands u virtuals known waiting names ones others
+      → waiting ≡ true
+      → OwnedBelow u virtuals ones
+      → IsAwaited above
+      → FramesConform P u.typings heap above ones
+      → SameBelow P Q (over_turn u virtuals known) names ones others
+  below_same none_stand told there awaited conforms = none_below
+  below_same (libraries_stand held lower) told there awaited conforms = library_below held (library_goes (owned_below there) lower)
+  below_same (beginnings_stand lower) told there awaited conforms = beginnings_below
+  below_same {names = names} (own_stand own_there lower) told there awaited conforms =
+      methods_below (λ values also are.
+      own_goes_on (owned_below there) (names_themselves names) (own_resumed values also (names_themselves names) own_there are) lower)
+  below_same {names = names} {heap = heap} (planned_stand {f = one} {g = other} {ones = ones} {others = others} in_planned waits lower) told there awaited conforms =
+      methods_below (λ values also are.
+      laws.returns.resumes virtuals known names heap one other ones others values also
+      (waits_planned in_planned (waits told) lower there awaited conforms) are)
+
   module _ {names : Names} {heap : Heap} {f g : MethodState} {rest rest_also : List RunFrame} (own : InOwn u names f g)
       (below : Stands u virtuals known (is_awaited u g.at) names rest rest_also) (owned : OwnedBelow u virtuals rest)
       (typed : FramesConform P u.typings heap nothing_awaited (Method f ∷ rest)) where
@@ -399,25 +418,6 @@ module _ (u : Setup) (laws : FrameLaws u) (virtuals : Virtuals) (known : Known) 
           (own_changed place place ones others units units_also (names_themselves names) own refl are shifted) below;
       unwinds = λ more grows. throws grows (own_more grows own) refl refl refl;
     }
-
-    -- a result goes to the frame below
-    below_same : {waiting : Bool} {above : Above} {ones others : List RunFrame}
-        → Stands u virtuals known waiting names ones others
-        → waiting ≡ true
-        → OwnedBelow u virtuals ones
-        → IsAwaited above
-        → FramesConform P u.typings heap above ones
-        → SameBelow P Q (over_turn u virtuals known) names ones others
-    below_same none_stand told there awaited conforms = none_below
-    below_same (libraries_stand held lower) told there awaited conforms = library_below held (library_goes (owned_below there) lower)
-    below_same (beginnings_stand lower) told there awaited conforms = beginnings_below
-    below_same (own_stand own_there lower) told there awaited conforms =
-        methods_below (λ values also are.
-        own_goes_on (owned_below there) (names_themselves names) (own_resumed values also (names_themselves names) own_there are) lower)
-    below_same (planned_stand {f = one} {g = other} {ones = ones} {others = others} in_planned waits lower) told there awaited conforms =
-        methods_below (λ values also are.
-        laws.returns.resumes virtuals known names heap one other ones others values also
-        (waits_planned in_planned (waits told) lower there awaited conforms) are)
 
     -- behind the method's end
     pub own_returns : Returns P Q (over_turn u virtuals known) names f g rest rest_also

@@ -45,6 +45,9 @@ use Rattle.member_link.specs.Machine.CallSteps.{is_object_init}
 use Rattle.written_runs.specs.Inner.PlannedFrames.{scope_in}
 use Rattle.written_runs.specs.Inner.Setup.{Setup, first}
 use Rattle.written_runs.specs.Laws.Carried.Knowing.{CarriedLaws}
+use Rattle.written_runs.specs.Laws.Carried.LoadTurns.{load_turn}
+use Rattle.written_runs.specs.Laws.Carried.NopTurns.{nop_turn}
+use Rattle.written_runs.specs.Laws.Carried.ReturnTurns.{return_turn}
 use Rattle.written_runs.specs.Laws.Carried.NullTests.{null_test_turn}
 use Rattle.written_runs.specs.Laws.Carried.OperandFits.{fits_enter, fits_instance_of, fits_leave, fits_length, fits_new_array, fits_new_ref_array}
 use Rattle.written_runs.specs.Laws.Carried.Planned.{carried_here, known_here, knowing_here, met_there, own_start}
@@ -260,16 +263,9 @@ module _ (u : Setup) (laws : CarriedLaws u) {measure : ℕ} {one other : Run} (a
 
 -- ---- all
 
--- What is left to show of instructions that are written as they are: what some rows say, a return, and what moves and jumps on plain operands.
+-- What is left to show of instructions that are written as they are: a constructor's row, stores into locals, and jumps on plain operands.
 pub record OpenCarried (u : Setup) : Type 0 where
   pub rows : (w : WrittenMethod) → OpenRows (first u) (scope_in u w)
-  pub nothing : (measure : ℕ) (one other : Run) (a : AtPlanned u measure one other) (class : ℕ)
-      → a.settled.point.instr ≡ Of class Nop
-      → KeepsTurn u measure one other
-  pub load : (measure : ℕ) (one other : Run) (a : AtPlanned u measure one other) (class : ℕ) (kind : Kind) (local : ℕ)
-      → a.settled.point.instr ≡ Of class (Load kind local)
-      → written_at a class (Load kind local) ≡ None
-      → KeepsTurn u measure one other
   pub store : (measure : ℕ) (one other : Run) (a : AtPlanned u measure one other) (class : ℕ) (kind : Kind) (local : ℕ)
       → a.settled.point.instr ≡ Of class (Store kind local)
       → written_at a class (Store kind local) ≡ None
@@ -282,9 +278,6 @@ pub record OpenCarried (u : Setup) : Type 0 where
       → written_at a class instr ≡ None
       → IsJump instr
       → KeepsTurn u measure one other
-  pub returning : (measure : ℕ) (one other : Run) (a : AtPlanned u measure one other) (class : ℕ) (kind : Option Kind)
-      → a.settled.point.instr ≡ Of class (Return kind)
-      → KeepsTurn u measure one other
 
 module _ (u : Setup) (laws : CarriedLaws u) (parts : OpenCarried u) where
   -- An instruction that is written as it is.
@@ -292,8 +285,8 @@ module _ (u : Setup) (laws : CarriedLaws u) (parts : OpenCarried u) where
       → a.settled.point.instr ≡ Of class instr
       → written_at a class instr ≡ None
       → KeepsTurn u measure one other
-  as_it_is_turn measure one other a class Nop is none = parts.nothing measure one other a class is
-  as_it_is_turn measure one other a class (Load kind local) is none = parts.load measure one other a class kind local is none
+  as_it_is_turn measure one other a class Nop is none = nop_turn u laws a class is
+  as_it_is_turn measure one other a class (Load kind local) is none = load_turn u laws a class kind local is none
   as_it_is_turn measure one other a class (Store kind local) is none = parts.store measure one other a class kind local is none
   as_it_is_turn measure one other a class (Iinc local by) is none = parts.increment measure one other a class local by is
   as_it_is_turn measure one other a class (Shuffle opcode) is none = absurd (none-some _ (sym none))
@@ -304,7 +297,7 @@ module _ (u : Setup) (laws : CarriedLaws u) (parts : OpenCarried u) where
   as_it_is_turn measure one other a class (IfNull opcode to) is none = parts.jumps measure one other a class (IfNull opcode to) is none tt
   as_it_is_turn measure one other a class (Table low default to) is none = parts.jumps measure one other a class (Table low default to) is none tt
   as_it_is_turn measure one other a class (Lookup default pairs) is none = parts.jumps measure one other a class (Lookup default pairs) is none tt
-  as_it_is_turn measure one other a class (Return kind) is none = parts.returning measure one other a class kind is
+  as_it_is_turn measure one other a class (Return kind) is none = return_turn u laws a class kind is
   as_it_is_turn measure one other a class (Const imm) is none = operation_turn u laws a class (Const imm) is none tt (parts.rows a.in_planned.one)
   as_it_is_turn measure one other a class (Ldc index) is none = operation_turn u laws a class (Ldc index) is none tt (parts.rows a.in_planned.one)
   as_it_is_turn measure one other a class (Ldc2 index) is none = operation_turn u laws a class (Ldc2 index) is none tt (parts.rows a.in_planned.one)
