@@ -6,6 +6,7 @@ pub mod CarriedOps
 pub mod CastFits
 pub mod EdgeBlocks
 pub mod FieldFits
+pub mod JumpFamilies
 pub mod Knowing
 pub mod Landing
 pub mod LoadTurns
