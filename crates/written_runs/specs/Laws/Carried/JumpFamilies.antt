@@ -172,3 +172,235 @@ int_jumps = record {
   alike = λ renaming opcode are. same_jump_of_int opcode are;
   opposes = int_opposes;
 }
+
+-- ---- two ints
+
+pub ints_splits : (opcode : ℕ) (stack : List Value)
+    → jump_of_ints opcode stack ≡ with_rest (drop 2 stack) (decided (jump_of_ints opcode (take 2 stack)))
+ints_splits opcode [] = refl
+ints_splits opcode (Int other ∷ []) = refl
+ints_splits opcode (Int other ∷ Int one ∷ rest) = with_rest_again rest (holds_for (opcode - IF_ICMPEQ) one other)
+ints_splits opcode (Int other ∷ Long n ∷ rest) = refl
+ints_splits opcode (Int other ∷ Float n ∷ rest) = refl
+ints_splits opcode (Int other ∷ Double n ∷ rest) = refl
+ints_splits opcode (Int other ∷ Null ∷ rest) = refl
+ints_splits opcode (Int other ∷ Ref n ∷ rest) = refl
+ints_splits opcode (Long n ∷ rest) = refl
+ints_splits opcode (Float n ∷ rest) = refl
+ints_splits opcode (Double n ∷ rest) = refl
+ints_splits opcode (Null ∷ rest) = refl
+ints_splits opcode (Ref n ∷ rest) = refl
+
+pub ints_enough : (opcode : ℕ) (stack : List Value) (jump : Bool × List Value) → jump_of_ints opcode stack ≡ Some jump → 2 ≤ length stack
+ints_enough opcode [] jump is = absurd (none-some jump is)
+ints_enough opcode (Int n ∷ []) jump is = absurd (none-some jump is)
+ints_enough opcode (Int n ∷ value ∷ rest) jump is = omega arith
+ints_enough opcode (Long n ∷ rest) jump is = absurd (none-some jump is)
+ints_enough opcode (Float n ∷ rest) jump is = absurd (none-some jump is)
+ints_enough opcode (Double n ∷ rest) jump is = absurd (none-some jump is)
+ints_enough opcode (Null ∷ rest) jump is = absurd (none-some jump is)
+ints_enough opcode (Ref n ∷ rest) jump is = absurd (none-some jump is)
+
+pub ints_opposes : (opcode : ℕ) (stack : List Value)
+    → IsBetween IF_ICMPEQ IF_ICMPLE opcode
+    → IsBetween IF_ICMPEQ IF_ICMPLE (opposite opcode) × (jump_of_ints (opposite opcode) stack ≡ negated (jump_of_ints opcode stack))
+ints_opposes opcode stack between = by stack where
+  counted : (opcode ≡ IF_ICMPEQ + (opcode - IF_ICMPEQ)) × (opcode - IF_ICMPEQ ≤ IF_ICMPLE - IF_ICMPEQ)
+  counted = counted_from IF_ICMPEQ IF_ICMPLE opcode between
+
+  low : opcode - IF_ICMPEQ ≤ 5
+  low = counted.1
+
+  other : (one also : ℤ) → (next : ℕ) × (opposite (IFEQ + (opcode - IF_ICMPEQ)) ≡ IFEQ + next)
+      × (opposite (IF_ICMPEQ + (opcode - IF_ICMPEQ)) ≡ IF_ICMPEQ + next) × (next ≤ 5)
+      × (holds_for next one also ≡ option_map not (holds_for (opcode - IF_ICMPEQ) one also))
+  other one also = holds_opposite (opcode - IF_ICMPEQ) one also low
+
+  is_opposite : (one also : ℤ) → opposite opcode ≡ IF_ICMPEQ + (other one also).0
+  is_opposite one also = ap opposite counted.0 ∙ (other one also).2
+
+  in_form : IsBetween IF_ICMPEQ IF_ICMPLE (opposite opcode)
+  in_form =
+      ap (λ (o : ℕ). nat_le IF_ICMPEQ o && nat_le o IF_ICMPLE) (is_opposite (pos 0) (pos 0))
+      ∙ few (other (pos 0) (pos 0)).0 (other (pos 0) (pos 0)).3 where
+        few : (next : ℕ) → next ≤ 5 → (nat_le IF_ICMPEQ (IF_ICMPEQ + next) && nat_le (IF_ICMPEQ + next) IF_ICMPLE) ≡ true
+        few zero least = refl
+        few (suc zero) least = refl
+        few (suc (suc zero)) least = refl
+        few (suc (suc (suc zero))) least = refl
+        few (suc (suc (suc (suc zero)))) least = refl
+        few (suc (suc (suc (suc (suc zero))))) least = refl
+        few (suc (suc (suc (suc (suc (suc place)))))) least = absurd (omega (arith, least))
+
+  by : (all : List Value) → IsBetween IF_ICMPEQ IF_ICMPLE (opposite opcode) × (jump_of_ints (opposite opcode) all ≡ negated (jump_of_ints opcode all))
+  by (Int also ∷ Int one ∷ rest) =
+      let next = (other one also).0 in
+      let back : IF_ICMPEQ + next - IF_ICMPEQ ≡ next = omega arith in
+      (in_form, ap (λ (o : ℕ). with_rest rest (holds_for (o - IF_ICMPEQ) one also)) (is_opposite one also)
+      ∙ ap (λ (o : ℕ). with_rest rest (holds_for o one also)) back
+      ∙ ap (with_rest rest) (other one also).4
+      ∙ with_rest_not rest (holds_for (opcode - IF_ICMPEQ) one also))
+  by [] = (in_form, refl)
+  by (Int n ∷ []) = (in_form, refl)
+  by (Int also ∷ Long n ∷ rest) = (in_form, refl)
+  by (Int also ∷ Float n ∷ rest) = (in_form, refl)
+  by (Int also ∷ Double n ∷ rest) = (in_form, refl)
+  by (Int also ∷ Null ∷ rest) = (in_form, refl)
+  by (Int also ∷ Ref n ∷ rest) = (in_form, refl)
+  by (Long n ∷ rest) = (in_form, refl)
+  by (Float n ∷ rest) = (in_form, refl)
+  by (Double n ∷ rest) = (in_form, refl)
+  by (Null ∷ rest) = (in_form, refl)
+  by (Ref n ∷ rest) = (in_form, refl)
+
+abbrev pub ints_jumps : JumpFamily
+ints_jumps = record {
+  low = IF_ICMPEQ;
+  high = IF_ICMPLE;
+  taken = 2;
+  jump_of = jump_of_ints;
+  make = jump_by_ints;
+  steps = λ P w f rest opcode to. refl;
+  moves = λ g opcode to. refl;
+  enough = ints_enough;
+  splits = ints_splits;
+  alike = λ renaming opcode are. same_jump_of_ints opcode are;
+  opposes = ints_opposes;
+}
+
+-- ---- of two opcodes
+
+-- one of two opcodes is the first or the second
+data IsOfPair (first : ℕ) (opcode : ℕ) : Type 0 where
+  is_one : opcode ≡ first → IsOfPair first opcode
+  is_next : opcode ≡ suc first → IsOfPair first opcode
+
+of_pair : (one opcode : ℕ) → IsBetween one (suc one) opcode → IsOfPair one opcode
+of_pair one opcode between = by (opcode - one) refl where
+  counted : (opcode ≡ one + (opcode - one)) × (opcode - one ≤ suc one - one)
+  counted = counted_from one (suc one) opcode between
+
+  by : (count : ℕ) → opcode - one ≡ count → IsOfPair one opcode
+  by zero is = let so = counted.0 in is_one (omega (arith, is, so))
+  by (suc zero) is = let so = counted.0 in is_next (omega (arith, is, so))
+  by (suc (suc count)) is = let most = counted.1 in absurd (omega (arith, is, most))
+
+-- ---- references
+
+pub references_splits : (opcode : ℕ) (stack : List Value)
+    → jump_of_references opcode stack ≡ with_rest (drop 2 stack) (decided (jump_of_references opcode (take 2 stack)))
+references_splits opcode [] = refl
+references_splits opcode (other ∷ []) = refl
+references_splits opcode (other ∷ one ∷ rest) =
+    with_rest_again rest (option_map (λ same. if opcode == IF_ACMPEQ then same else not same) (same_references one other))
+
+pub references_enough : (opcode : ℕ) (stack : List Value) (jump : Bool × List Value) → jump_of_references opcode stack ≡ Some jump → 2 ≤ length stack
+references_enough opcode [] jump is = absurd (none-some jump is)
+references_enough opcode (other ∷ []) jump is = absurd (none-some jump is)
+references_enough opcode (other ∷ one ∷ rest) jump is = omega arith
+
+same_not : (same : Option Bool) → option_map (λ s. not s) same ≡ option_map not (option_map (λ s. s) same)
+same_not None = refl
+same_not (Some b) = refl
+
+same_not_twice : (same : Option Bool) → option_map (λ s. s) same ≡ option_map not (option_map (λ s. not s) same)
+same_not_twice None = refl
+same_not_twice (Some b) = ap Some (not_twice b)
+
+pub references_opposes : (opcode : ℕ) (stack : List Value)
+    → IsBetween IF_ACMPEQ IF_ACMPNE opcode
+    → IsBetween IF_ACMPEQ IF_ACMPNE (opposite opcode) × (jump_of_references (opposite opcode) stack ≡ negated (jump_of_references opcode stack))
+references_opposes opcode stack between = of_opcode (of_pair IF_ACMPEQ opcode between) where
+  Opposes : ℕ → Type 0
+  Opposes o =
+      IsBetween IF_ACMPEQ IF_ACMPNE (opposite o) × (jump_of_references (opposite o) stack ≡ negated (jump_of_references o stack))
+
+  equal : (all : List Value) → jump_of_references IF_ACMPNE all ≡ negated (jump_of_references IF_ACMPEQ all)
+  equal [] = refl
+  equal (other ∷ []) = refl
+  equal (other ∷ one ∷ rest) =
+      ap (with_rest rest) (same_not (same_references one other)) ∙ with_rest_not rest (option_map (λ s. s) (same_references one other))
+
+  unequal : (all : List Value) → jump_of_references IF_ACMPEQ all ≡ negated (jump_of_references IF_ACMPNE all)
+  unequal [] = refl
+  unequal (other ∷ []) = refl
+  unequal (other ∷ one ∷ rest) =
+      ap (with_rest rest) (same_not_twice (same_references one other)) ∙ with_rest_not rest (option_map (λ s. not s) (same_references one other))
+
+  of_opcode : IsOfPair IF_ACMPEQ opcode → Opposes opcode
+  of_opcode (is_one is) = subst Opposes (sym is) (refl, equal stack)
+  of_opcode (is_next is) = subst Opposes (sym is) (refl, unequal stack)
+
+abbrev pub references_jumps : JumpFamily
+references_jumps = record {
+  low = IF_ACMPEQ;
+  high = IF_ACMPNE;
+  taken = 2;
+  jump_of = jump_of_references;
+  make = jump_by_references;
+  steps = λ P w f rest opcode to. refl;
+  moves = λ g opcode to. refl;
+  enough = references_enough;
+  splits = references_splits;
+  alike = λ renaming opcode are. same_jump_of_references renaming opcode are;
+  opposes = references_opposes;
+}
+
+-- ---- null
+
+pub null_splits : (opcode : ℕ) (stack : List Value) → jump_of_null opcode stack ≡ with_rest (drop 1 stack) (decided (jump_of_null opcode (take 1 stack)))
+null_splits opcode [] = refl
+null_splits opcode (Int n ∷ rest) = refl
+null_splits opcode (Long n ∷ rest) = refl
+null_splits opcode (Float n ∷ rest) = refl
+null_splits opcode (Double n ∷ rest) = refl
+null_splits opcode (Null ∷ rest) = refl
+null_splits opcode (Ref n ∷ rest) = refl
+
+pub null_enough : (opcode : ℕ) (stack : List Value) (jump : Bool × List Value) → jump_of_null opcode stack ≡ Some jump → 1 ≤ length stack
+null_enough opcode [] jump is = absurd (none-some jump is)
+null_enough opcode (value ∷ rest) jump is = omega arith
+
+pub null_opposes : (opcode : ℕ) (stack : List Value)
+    → IsBetween IFNULL IFNONNULL opcode
+    → IsBetween IFNULL IFNONNULL (opposite opcode) × (jump_of_null (opposite opcode) stack ≡ negated (jump_of_null opcode stack))
+null_opposes opcode stack between = of_opcode (of_pair IFNULL opcode between) where
+  Opposes : ℕ → Type 0
+  Opposes o = IsBetween IFNULL IFNONNULL (opposite o) × (jump_of_null (opposite o) stack ≡ negated (jump_of_null o stack))
+
+  on_null : (all : List Value) → jump_of_null IFNONNULL all ≡ negated (jump_of_null IFNULL all)
+  on_null [] = refl
+  on_null (Int n ∷ rest) = refl
+  on_null (Long n ∷ rest) = refl
+  on_null (Float n ∷ rest) = refl
+  on_null (Double n ∷ rest) = refl
+  on_null (Null ∷ rest) = refl
+  on_null (Ref n ∷ rest) = refl
+
+  on_not_null : (all : List Value) → jump_of_null IFNULL all ≡ negated (jump_of_null IFNONNULL all)
+  on_not_null [] = refl
+  on_not_null (Int n ∷ rest) = refl
+  on_not_null (Long n ∷ rest) = refl
+  on_not_null (Float n ∷ rest) = refl
+  on_not_null (Double n ∷ rest) = refl
+  on_not_null (Null ∷ rest) = refl
+  on_not_null (Ref n ∷ rest) = refl
+
+  of_opcode : IsOfPair IFNULL opcode → Opposes opcode
+  of_opcode (is_one is) = subst Opposes (sym is) (refl, on_null stack)
+  of_opcode (is_next is) = subst Opposes (sym is) (refl, on_not_null stack)
+
+abbrev pub null_jumps : JumpFamily
+null_jumps = record {
+  low = IFNULL;
+  high = IFNONNULL;
+  taken = 1;
+  jump_of = jump_of_null;
+  make = jump_by_null;
+  steps = λ P w f rest opcode to. refl;
+  moves = λ g opcode to. refl;
+  enough = null_enough;
+  splits = null_splits;
+  alike = λ renaming opcode are. same_jump_of_null opcode are;
+  opposes = null_opposes;
+}
