@@ -6,6 +6,7 @@ pub mod ApartFields
 pub mod BeginningTurns
 pub mod BegunFrames
 pub mod BothTurns
+pub mod Carried
 pub mod ConstructorRuns
 pub mod ConstructorSteps
 pub mod ConstructorTexts
@@ -39,6 +40,7 @@ pub mod Settling
 pub mod Simulation
 pub mod StandingMore
 pub mod StillThere
+pub mod Templates
 pub mod Turned
 pub mod TypedEntries
 pub mod TypedKept

@@ -76,7 +76,7 @@ pub record SettleLaws (u : Setup) : Type 0 where
 -- ---- lists
 
 -- an edge that is found is one of the route
-found_edge : (wanted : RouteEdge → Bool) (all : List RouteEdge) (edge : RouteEdge) → find wanted all ≡ Some edge
+pub found_edge : (wanted : RouteEdge → Bool) (all : List RouteEdge) (edge : RouteEdge) → find wanted all ≡ Some edge
     → (number : ℕ) × (slice_get all number ≡ Some edge)
 found_edge wanted [] edge is = absurd (none-some edge is)
 found_edge wanted (first ∷ all) edge is = by (wanted first) refl (found_edge wanted all edge) where
@@ -89,7 +89,7 @@ found_edge wanted (first ∷ all) edge is = by (wanted first) refl (found_edge w
 -- ---- how blocks of make code end
 
 -- one that goes on to the block behind it
-ends_plain : (flat : FlatCode) (block : Block) (behind : List Finished) → block.leaves ≡ None → is_empty block.items ≡ false
+pub ends_plain : (flat : FlatCode) (block : Block) (behind : List Finished) → block.leaves ≡ None → is_empty block.items ≡ false
     → end_of flat block behind ≡ no_end
 ends_plain flat block behind none some = rw (none, some) refl
 
