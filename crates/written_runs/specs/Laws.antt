@@ -4,6 +4,7 @@ pub mod AloneTurns
 pub mod BeginningTurns
 pub mod BegunFrames
 pub mod BothTurns
+pub mod Carried
 pub mod ConstructorRuns
 pub mod ConstructorSteps
 pub mod Constructs
@@ -25,4 +26,5 @@ pub mod Settling
 pub mod Simulation
 pub mod StandingMore
 pub mod StillThere
+pub mod Templates
 pub mod Turned

@@ -89,7 +89,7 @@ pub record SettleLaws (u : Setup) : Type 0 where
 
 -- ---- lists
 
-slice_numbered : {A B : Type 0} (change : ℕ → A → B) (number : ℕ) (items : List A) (k : ℕ) (one : A)
+pub slice_numbered : {A B : Type 0} (change : ℕ → A → B) (number : ℕ) (items : List A) (k : ℕ) (one : A)
     → slice_get items k ≡ Some one
     → slice_get (map_numbered change number items) k ≡ Some (change (number + k) one)
 slice_numbered change number [] k one is = absurd (none-some one is)
@@ -101,7 +101,7 @@ slice_numbered {A = A} {B = B} change number (first ∷ items) (suc k) one is =
     slice_numbered change (suc number) items k one is ∙ ap (λ (n : ℕ). Some (change n one)) here
 
 -- an edge that is found is one of the route
-found_edge : (wanted : RouteEdge → Bool) (all : List RouteEdge) (edge : RouteEdge) → find wanted all ≡ Some edge
+pub found_edge : (wanted : RouteEdge → Bool) (all : List RouteEdge) (edge : RouteEdge) → find wanted all ≡ Some edge
     → (number : ℕ) × (slice_get all number ≡ Some edge)
 found_edge wanted [] edge is = absurd (none-some edge is)
 found_edge wanted (first ∷ all) edge is = by (wanted first) refl (found_edge wanted all edge) where

@@ -1,0 +1,19 @@
+-- Instructions of which a template is written.
+pub mod Arriving
+pub mod Changed
+pub mod ChangedTurns
+pub mod Classes
+pub mod Dropped
+pub mod Edges
+pub mod Instrs
+pub mod Items
+pub mod Known
+pub mod Loads
+pub mod Monitors
+pub mod Moving
+pub mod Operands
+pub mod Slots
+pub mod Stacks
+pub mod Still
+pub mod Turns
+pub mod Working
