@@ -5,6 +5,8 @@ pub mod ChangedTurns
 pub mod Classes
 pub mod Dropped
 pub mod Edges
+pub mod Fields
+pub mod Gets
 pub mod Instrs
 pub mod Items
 pub mod Known
@@ -15,5 +17,6 @@ pub mod Operands
 pub mod Slots
 pub mod Stacks
 pub mod Still
+pub mod Stores
 pub mod Turns
 pub mod Working

@@ -45,7 +45,7 @@ use Rattle.written_runs.specs.Laws.PlannedTurns.{AtPlanned, written_at}
 use Rattle.written_runs.specs.Laws.Simulation.{KeepsTurn}
 use Rattle.written_runs.specs.Laws.Templates.Items.{IsStraight, all_moved, op_of}
 use Rattle.written_runs.specs.Laws.Templates.Known.{TemplateLaws, entries, first_op, flat_number, keeps, many_stack, many_both, not_stuck, reached, ready, tells}
-use Rattle.written_runs.specs.Laws.Templates.Moving.{MovesOver}
+use Rattle.written_runs.specs.Laws.Templates.Moving.{MovesOver, locals_stay}
 use Rattle.written_runs.specs.Laws.Templates.Turns.{FirstTurn, goes_next}
 use Rattle.written_runs.specs.VirtualObjects.{HasVirtual, RefersTo, TellsObject, Virtual}
 
@@ -202,8 +202,6 @@ module _ (u : Setup) (laws : TemplateLaws u) {measure : ℕ} {one other : Run} (
           subst (λ (change : Change). KeepStack a.t.along.names
           (slots_from (scope_in u a.in_planned.one) (state_written a.settled.route) change n.gives) n.given n.given_also) (sym change_is)
           n.keep_given;
-      row_locals = ap (λ (r : PlanRow). r.locals) row_is_here ∙ n.row_locals;
-      row_stays = ap (λ (r : PlanRow). r.locals) row_is_here ∙ n.row_locals;
       row_stack =
           ap (λ (r : PlanRow). r.stack) row_is_here ∙ n.row_stack
           ∙ ap (λ (count : ℕ). held_from (length a.settled.point.typed.locals) count ++ n.gives) (sym many_below);
@@ -217,8 +215,17 @@ module _ (u : Setup) (laws : TemplateLaws u) {measure : ℕ} {one other : Run} (
           n.objects site told (ap (λ (objects : List VObject). object_of objects site) (sym objects_are) ∙ is);
       fields = λ site number told virtual value is there plain here.
           n.fields site number told virtual value (ap (λ (objects : List VObject). object_of objects site) (sym objects_are) ∙ is) there plain here;
-      locals = ap (λ (m : MethodState). m.locals) n.later_is;
-      own_units = n.own_units;
+      locals =
+          locals_stay u laws a (record {
+            number = 0;
+            is_edge = next_edge_there (scope_in u a.in_planned.one) a.f.place a.settled.point (ap falls_on n.is ∙ n.falls);
+            is_next = is_next;
+            row_locals = ap (λ (r : PlanRow). r.locals) row_is_here ∙ n.row_locals;
+            row_stays = ap (λ (r : PlanRow). r.locals) row_is_here ∙ n.row_locals;
+            refers = n.refers;
+            locals = ap (λ (m : MethodState). m.locals) n.later_is;
+            own_units = n.own_units;
+          });
       room = n.room;
     }
 

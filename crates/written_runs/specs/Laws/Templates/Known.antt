@@ -19,9 +19,12 @@ use Rattle.machine_values.specs.Heaps.{Heap}
 use Rattle.machine_values.specs.declared.frame.RunFrame.{RunFrame}
 use Rattle.machine_values.specs.declared.frame.RunFrame.TheVariants.{Beginning, Method}
 use Rattle.machine_values.specs.declared.value.Value.{Value}
+use Rattle.class_tree.specs.Headers.{Name, headers_of}
+use Rattle.member_link.specs.Machine.Layouts.{slot_number, slot_number_in}
+use Rattle.member_link.specs.References.{Reference}
 use Rattle.member_link.specs.Machine.Codes.{CodePoint, instr_op, item_op, number_at, run_point}
 use Rattle.member_link.specs.Machine.Ops.{Op}
-use Rattle.member_link.specs.Machine.Programs.{Code, Point as RunPoint, Program, code_at, point_at}
+use Rattle.member_link.specs.Machine.Programs.{Code, Point as RunPoint, Program, code_at, folder_number, point_at}
 use Rattle.member_link.specs.Machine.Runs.{Run, turn}
 use Rattle.member_link.specs.Machine.Stepping.{frames_step, is_library_turn, op_step, point_step, step}
 use Rattle.member_link.specs.Machine.Worlds.{World, going, stuck}
@@ -30,7 +33,7 @@ use Rattle.member_link.specs.Scope.{Scope, scope_at}
 use Rattle.plan_flow.specs.Laws.WrittenBlocks.{item_behind}
 use Rattle.plan_flow.specs.Must.{row_of_point}
 use Rattle.plan_flow.specs.PlanRows.{RowEdge, from_place}
-use Rattle.plan_flow.specs.PlanScope.{PlanScope, local_types, stack_types}
+use Rattle.plan_flow.specs.PlanScope.{PlanScope, is_of_library, local_types, stack_types}
 use Rattle.plan_flow.specs.PlanSlots.{held, readable}
 use Rattle.plan_flow.specs.PlanTable.{edges_of, operand}
 use Rattle.plan_flow.specs.Laws.RoutedPlans.{IsRouteOf, route_of}
@@ -85,6 +88,12 @@ pub record TemplateLaws (u : Setup) : Type 0 where
       → slice_get (row_of_point (scope_in u w) place point).locals unit ≡ Some (from_place unit)
       → slice_get (local_types w.flat edge.to) unit ≡ Some type
       → type ≡ Top
+  -- clearing flags leaves the layout of objects as it is
+  pub slots : (class : Name) (field : Reference) → slot_number (first u) class field ≡ slot_number_in (headers_of u.classes) class field
+  -- a class that the folder has not is the library's
+  pub of_library : (w : WrittenMethod) (field : Reference)
+      → folder_number (first u) field.class ≡ None
+      → is_of_library (scope_in u w) field ≡ true
 
 -- ---- lengths
 

@@ -36,7 +36,43 @@ use Rattle.written_runs.specs.Laws.Templates.Stacks.{IsReadPlain, as_read, get_l
 use Rattle.written_runs.specs.VirtualObjects.{HasVirtual, RefersTo, TellsObject, Virtual, Virtuals}
 
 module _ (u : Setup) (laws : TemplateLaws u) {measure : ℕ} {one other : Run} (a : AtPlanned u measure one other) where
-  -- The instruction takes the topmost entries and gives others, and the local units of both are as they were.
+  -- what the frames have in local units behind an edge
+  pub record LocalsOver (edge : RowEdge) (next : Point) (virtuals : Virtuals) (later after : MethodState) : Type 0 where
+    pub many_locals : length (locals_from (s u laws a) (point u laws a) a.f.place (before u laws a) edge) ≡ length next.typed.locals
+    pub locals_refer : (unit site : ℕ)
+        → slice_get (locals_from (s u laws a) (point u laws a) a.f.place (before u laws a) edge) unit ≡ Some (Virt site)
+        → (value : Value)
+        × (slice_get later.locals unit ≡ Some (Some value))
+        × RefersTo virtuals (length a.ones) site value
+    pub locals_keep : (unit : ℕ) (type : VType) (value : Value)
+        → slice_get next.typed.locals unit ≡ Some type
+        → is_top type ≡ false
+        → slice_get (locals_from (s u laws a) (point u laws a) a.f.place (before u laws a) edge) unit ≡ Some Plain
+        → slice_get later.locals unit ≡ Some (Some value)
+        → KeptIn a.t.along.names after unit value
+    pub locals_uninit : (unit : ℕ) (type : VType)
+        → slice_get next.typed.locals unit ≡ Some type
+        → IsTrue (is_site_object (w u laws a).flat type)
+        → (reference : ℕ) × (slice_get later.locals unit ≡ Some (Some (Ref reference)))
+
+  -- local units of both that stay as they are
+  pub record LocalsStay (edge : RowEdge) (next : Point) (virtuals : Virtuals) (later after : MethodState) : Type 0 where
+    pub number : ℕ
+    pub is_edge : slice_get (edges_of a.f.place (point u laws a) (row_of_point (s u laws a) a.f.place (point u laws a))) number ≡ Some edge
+    pub is_next : point_at (w u laws a).flat edge.to ≡ Some next
+    pub row_locals : edge_locals (row_of_point (s u laws a) a.f.place (point u laws a)) (length (point u laws a).typed.locals) edge.by
+        ≡ held_locals (point u laws a).typed
+    pub row_stays : (row_of_point (s u laws a) a.f.place (point u laws a)).locals ≡ held_locals (point u laws a).typed
+    pub refers : (site : ℕ) (value : Value)
+        → RefersTo a.t.along.virtuals (length a.ones) site value
+        → RefersTo virtuals (length a.ones) site value
+    pub locals : later.locals ≡ a.f.locals
+    pub own_units : (unit : ℕ) (value : Option Value)
+        → unit < length (point u laws a).typed.locals
+        → slice_get a.g.locals unit ≡ Some value
+        → slice_get after.locals unit ≡ Some value
+
+  -- The instruction takes the topmost entries and gives others.
   pub record MovesOver (edge : RowEdge) (next : Point) (virtuals : Virtuals) (gives : List Source) (later after : MethodState) : Type 0 where
     pub number : ℕ
     pub is_edge : slice_get (edges_of a.f.place (point u laws a) (row_of_point (s u laws a) a.f.place (point u laws a))) number ≡ Some edge
@@ -57,9 +93,6 @@ module _ (u : Setup) (laws : TemplateLaws u) {measure : ℕ} {one other : Run} (
     pub keep_given : KeepStack a.t.along.names
         (slots_from (s u laws a) (before u laws a) (row_of_point (s u laws a) a.f.place (point u laws a)).change gives) given given_also
     -- the row
-    pub row_locals : edge_locals (row_of_point (s u laws a) a.f.place (point u laws a)) (length (point u laws a).typed.locals) edge.by
-        ≡ held_locals (point u laws a).typed
-    pub row_stays : (row_of_point (s u laws a) a.f.place (point u laws a)).locals ≡ held_locals (point u laws a).typed
     pub row_stack : edge_stack (row_of_point (s u laws a) a.f.place (point u laws a)) edge.by
         ≡ held_from (length (point u laws a).typed.locals) (length below) ++ gives
     -- virtual objects
@@ -87,53 +120,53 @@ module _ (u : Setup) (laws : TemplateLaws u) {measure : ℕ} {one other : Run} (
         → slice_get virtual.object.values number ≡ Some value
         → KeptIn a.t.along.names after (unit_number (w u laws a).flat (field_unit site number)) value
     -- local units
-    pub locals : later.locals ≡ a.f.locals
-    pub own_units : (unit : ℕ) (value : Option Value)
-        → unit < length (point u laws a).typed.locals
-        → slice_get a.g.locals unit ≡ Some value
-        → slice_get after.locals unit ≡ Some value
+    pub locals : LocalsOver edge next virtuals later after
     pub room : written_units (w u laws a).flat ≤ length after.locals
 
-  module _ {edge : RowEdge} {next : Point} {virtuals : Virtuals} {gives : List Source} {later after : MethodState}
-      (m : MovesOver edge next virtuals gives later after) where
-    abbrev wm : WrittenMethod
-    wm = a.in_planned.one
+  abbrev wm : WrittenMethod
+  wm = a.in_planned.one
 
-    abbrev sm : PlanScope
-    sm = scope_in u a.in_planned.one
+  abbrev sm : PlanScope
+  sm = scope_in u a.in_planned.one
 
-    abbrev here : Point
-    here = a.settled.point
+  abbrev here : Point
+  here = a.settled.point
 
-    abbrev now : State
-    now = before u laws a
+  abbrev now : State
+  now = before u laws a
 
-    abbrev row : PlanRow
-    row = row_of_point sm a.f.place here
+  abbrev row : PlanRow
+  row = row_of_point sm a.f.place here
 
-    -- ---- local units
+  -- ---- an edge of the row
 
-    locals_are : locals_from sm here a.f.place now edge ≡ map as_read (take (length here.typed.locals) now.slots)
-    locals_are =
-        ap (slots_from sm now row.change) m.row_locals
-        ∙ held_slots sm now row.change 0 (length here.typed.locals) (let all = many_slots u laws a in omega (arith, all))
+  module _ {edge : RowEdge} {next : Point} (number : ℕ)
+      (is_edge : slice_get (edges_of a.f.place (point u laws a) (row_of_point (s u laws a) a.f.place (point u laws a))) number ≡ Some edge)
+      (is_next : point_at (w u laws a).flat edge.to ≡ Some next) where
+    pub next_locals : local_types wm.flat edge.to ≡ next.typed.locals
+    next_locals = rw (is_next) refl
 
-    next_locals : local_types wm.flat edge.to ≡ next.typed.locals
-    next_locals = rw (m.is_next) refl
+    pub next_stack : stack_types wm.flat edge.to ≡ next.typed.stack
+    next_stack = rw (is_next) refl
 
-    next_stack : stack_types wm.flat edge.to ≡ next.typed.stack
-    next_stack = rw (m.is_next) refl
-
-    along : KeepsAlong sm a.f.place here edge
+    pub along : KeepsAlong sm a.f.place here edge
     along =
-        at_index (KeepsAlong sm a.f.place here) (edges_of a.f.place here row) m.number edge
-        ((ready u laws a).for_plans.uninit.along a.f.place here (reached u laws a).is_point) m.is_edge
+        at_index (KeepsAlong sm a.f.place here) (edges_of a.f.place here row) number edge
+        ((ready u laws a).for_plans.uninit.along a.f.place here (reached u laws a).is_point) is_edge
 
     widths : (at : ℕ) (p : Point) → slice_get wm.flat.points at ≡ Some p → length p.typed.locals ≡ wm.flat.locals
     widths at p is = at_index (λ (q : Point). length q.typed.locals ≡ wm.flat.locals) wm.flat.points at p (ready u laws a).for_plans.widths is
 
-    many_next : length here.typed.locals ≡ length next.typed.locals
-    many_next = widths a.f.place here (reached u laws a).is_point ∙ sym (widths edge.to next m.is_next)
+    pub many_next : length here.typed.locals ≡ length next.typed.locals
+    many_next = widths a.f.place here (reached u laws a).is_point ∙ sym (widths edge.to next is_next)
+
+  -- ---- local units that stay
+
+  module _ {edge : RowEdge} {next : Point} {virtuals : Virtuals} {later after : MethodState} (m : LocalsStay edge next virtuals later after) where
+    locals_are : locals_from sm here a.f.place now edge ≡ map as_read (take (length here.typed.locals) now.slots)
+    locals_are =
+        ap (slots_from sm now row.change) m.row_locals
+        ∙ held_slots sm now row.change 0 (length here.typed.locals) (let all = many_slots u laws a in omega (arith, all))
 
     -- a unit of the first frame, as it was
     unit_was : (unit : ℕ) (value : Option Value) → slice_get later.locals unit ≡ Some value → slice_get a.f.locals unit ≡ Some value
@@ -149,7 +182,7 @@ module _ (u : Setup) (laws : TemplateLaws u) {measure : ℕ} {one other : Run} (
         by (read_plain (take (length here.typed.locals) now.slots) unit
         (ap (λ (slots : List Slot). slice_get slots unit) (sym locals_are) ∙ is)) where
           low : unit < length here.typed.locals
-          low = let within = slice_get_within next.typed.locals unit type is_type in let many = many_next in omega (arith, within, many)
+          low = let within = slice_get_within next.typed.locals unit type is_type in let many = many_next m.number m.is_edge m.is_next in omega (arith, within, many)
 
           by : IsReadPlain (take (length here.typed.locals) now.slots) unit → KeptIn a.t.along.names after unit value
           by (is_plain_there plain) =
@@ -159,7 +192,7 @@ module _ (u : Setup) (laws : TemplateLaws u) {measure : ℕ} {one other : Run} (
               absurd (false≢true (sym not_top ∙ ap is_top
               (laws.stays_top a.f.at wm a.f.place here m.number edge unit type (written u laws a) (reached u laws a).is_point m.is_edge
               (top_unit u laws a unit unusable) (ap (λ (sources : List Source). slice_get sources unit) m.row_stays ∙ held)
-              (ap (λ (types : List VType). slice_get types unit) next_locals ∙ is_type)))) where
+              (ap (λ (types : List VType). slice_get types unit) (next_locals m.number m.is_edge m.is_next) ∙ is_type)))) where
                 held : slice_get (held_locals here.typed) unit ≡ Some (from_place unit)
                 held =
                     let number : 0 + unit ≡ unit = omega arith in
@@ -176,12 +209,12 @@ module _ (u : Setup) (laws : TemplateLaws u) {measure : ℕ} {one other : Run} (
         → (reference : ℕ) × (slice_get later.locals unit ≡ Some (Some (Ref reference)))
     locals_uninit unit type is uninit = by kept.0 kept.2 (sym kept.1 ∙ source) where
       low : unit < length here.typed.locals
-      low = let within = slice_get_within next.typed.locals unit type is in let many = many_next in omega (arith, within, many)
+      low = let within = slice_get_within next.typed.locals unit type is in let many = many_next m.number m.is_edge m.is_next in omega (arith, within, many)
 
       kept : (source : Source)
           × (slice_get (edge_locals row (length here.typed.locals) edge.by) unit ≡ Some source)
           × KeepsType a.f.place (place_types here.typed) type source
-      kept = along.locals unit type (ap (λ (types : List VType). slice_get types unit) next_locals ∙ is) uninit
+      kept = (along m.number m.is_edge m.is_next).locals unit type (ap (λ (types : List VType). slice_get types unit) (next_locals m.number m.is_edge m.is_next) ∙ is) uninit
 
       source : slice_get (edge_locals row (length here.typed.locals) edge.by) unit ≡ Some (from_place unit)
       source =
@@ -200,8 +233,29 @@ module _ (u : Setup) (laws : TemplateLaws u) {measure : ℕ} {one other : Run} (
           (was.0, ap (λ (units : List (Option Value)). slice_get units unit) m.locals ∙ was.1)
       by found (from_its_new of_new) same = absurd (cc (same_Some found (from_place unit) same))
 
-    -- ---- the stack
+    many_read : (slots : List Slot) → length (map as_read slots) ≡ length slots
+    many_read [] = refl
+    many_read (slot ∷ slots) = ap suc (many_read slots)
 
+    pub locals_stay : LocalsOver edge next virtuals later after
+    locals_stay = record {
+      many_locals =
+          ap length locals_are ∙ many_read (take (length here.typed.locals) now.slots)
+          ∙ length_taken (length here.typed.locals) now.slots (let all = many_slots u laws a in omega (arith, all))
+          ∙ many_next m.number m.is_edge m.is_next;
+      locals_refer = λ unit site is.
+          let found = (tells u laws a).locals unit site
+          (read_virtual (take (length here.typed.locals) now.slots) unit site
+          (ap (λ (slots : List Slot). slice_get slots unit) (sym locals_are) ∙ is)) in
+          (found.0, ap (λ (units : List (Option Value)). slice_get units unit) m.locals ∙ found.1, m.refers site found.0 found.2);
+      locals_keep = locals_keep;
+      locals_uninit = locals_uninit;
+    }
+
+  -- ---- the stack
+
+  module _ {edge : RowEdge} {next : Point} {virtuals : Virtuals} {gives : List Source} {later after : MethodState}
+      (m : MovesOver edge next virtuals gives later after) where
     turned : reverse later.stack ≡ reverse m.below ++ m.given
     turned =
         ap reverse m.then_stack ∙ reverse-append (reverse m.given) m.below
@@ -302,7 +356,7 @@ module _ (u : Setup) (laws : TemplateLaws u) {measure : ℕ} {one other : Run} (
       kept : (source : Source)
           × (slice_get (edge_stack row edge.by) place ≡ Some source)
           × KeepsType a.f.place (place_types here.typed) type source
-      kept = along.stack place type (ap (λ (types : List VType). slice_get types place) next_stack ∙ is) uninit
+      kept = (along m.number m.is_edge m.is_next).stack place type (ap (λ (types : List VType). slice_get types place) (next_stack m.number m.is_edge m.is_next) ∙ is) uninit
 
       source : slice_get (held_from (length here.typed.locals) (length m.below) ++ gives) place ≡ Some kept.0
       source = ap (λ (sources : List Source). slice_get sources place) (sym m.row_stack) ∙ kept.1
@@ -377,16 +431,10 @@ module _ (u : Setup) (laws : TemplateLaws u) {measure : ℕ} {one other : Run} (
 
     pub goes_over : GoesOver (first u) sm virtuals a.t.along.names (length a.ones) here a.f.place now edge next later after
     goes_over = record {
-      many_locals =
-          ap length locals_are ∙ many_read (take (length here.typed.locals) now.slots)
-          ∙ length_taken (length here.typed.locals) now.slots (let all = many_slots u laws a in omega (arith, all)) ∙ many_next;
-      locals_refer = λ unit site is.
-          let found = (tells u laws a).locals unit site
-          (read_virtual (take (length here.typed.locals) now.slots) unit site
-          (ap (λ (slots : List Slot). slice_get slots unit) (sym locals_are) ∙ is)) in
-          (found.0, ap (λ (units : List (Option Value)). slice_get units unit) m.locals ∙ found.1, m.refers site found.0 found.2);
-      locals_keep = locals_keep;
-      locals_uninit = locals_uninit;
+      many_locals = m.locals.many_locals;
+      locals_refer = m.locals.locals_refer;
+      locals_keep = m.locals.locals_keep;
+      locals_uninit = m.locals.locals_uninit;
       many_stack = many_stack_from;
       stack_refer = stack_refer;
       stack_keep = stack_keep;
@@ -394,7 +442,4 @@ module _ (u : Setup) (laws : TemplateLaws u) {measure : ℕ} {one other : Run} (
       objects = m.objects;
       fields = m.fields;
       room = m.room;
-    } where
-      many_read : (slots : List Slot) → length (map as_read slots) ≡ length slots
-      many_read [] = refl
-      many_read (slot ∷ slots) = ap suc (many_read slots)
+    }

@@ -43,7 +43,7 @@ use Rattle.written_runs.specs.Laws.Templates.Dropped.{names_there}
 use Rattle.written_runs.specs.Laws.Templates.Known.{TemplateLaws, entries, held_virtual, is_state, of_plan, one_slot, planned_here, reached, split_stack, tells}
 use Rattle.written_runs.specs.Laws.Templates.Stacks.{KeptParts, as_read}
 use Rattle.written_runs.specs.Laws.Templates.Turns.{memories_here}
-use Rattle.written_runs.specs.VirtualObjects.{HasVirtual, RefersTo, TellsObject, Virtual}
+use Rattle.written_runs.specs.VirtualObjects.{HasVirtual, RefersTo, TellFields, TellsObject, Virtual}
 
 -- the constants of a class of the folder
 pub pools_same : (s : PlanScope) (class : ℕ) → plan.pool_of s class ≡ pool_of s.classes class
@@ -168,3 +168,26 @@ module _ (u : Setup) (laws : TemplateLaws u) {measure : ℕ} {one other : Run} (
         one_owner a.t.along.virtuals (length a.ones) site tells_it.virtual refers.virtual a.t.along.are_apart
         (subst (λ (n : ℕ). HasVirtual a.t.along.virtuals (length a.ones) n tells_it.virtual)
         (found_site (state_written a.settled.route).objects site told.0 told.1) tells_it.has) refers.has
+
+  -- the fields of a virtual object
+  pub fields_of : (site : ℕ) (told : VObject) (value : Value)
+      → object_of (state_written a.settled.route).objects site ≡ Some told
+      → (refers : RefersTo a.t.along.virtuals (length a.ones) site value)
+      → (one_site : Site)
+      × (slice_get a.in_planned.one.flat.sites site ≡ Some one_site)
+      × TellFields a.t.along.virtuals (length a.ones) one_site.fields refers.virtual.object.values told.fields
+  fields_of site told value is_told refers = (
+    tells_it.site,
+    ap (slice_get a.in_planned.one.flat.sites) (sym site_is) ∙ tells_it.is_site,
+    subst (λ (v : Virtual). TellFields a.t.along.virtuals (length a.ones) tells_it.site.fields v.object.values told.fields) same tells_it.fields,
+  ) where
+    site_is : told.site ≡ site
+    site_is = found_site (state_written a.settled.route).objects site told is_told
+
+    tells_it : TellsObject (first u) (scope_in u a.in_planned.one) a.t.along.virtuals (length a.ones) told
+    tells_it = (tells u laws a).objects site told is_told
+
+    same : tells_it.virtual ≡ refers.virtual
+    same =
+        one_owner a.t.along.virtuals (length a.ones) site tells_it.virtual refers.virtual a.t.along.are_apart
+        (subst (λ (n : ℕ). HasVirtual a.t.along.virtuals (length a.ones) n tells_it.virtual) site_is tells_it.has) refers.has
