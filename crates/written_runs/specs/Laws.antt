@@ -1,4 +1,5 @@
 -- What follows of the relation. All of it is proved.
+pub mod AddedConstructors
 pub mod AddedMethods
 pub mod AloneTurns
 pub mod BeginningTurns
@@ -17,6 +18,7 @@ pub mod LessVirtual
 pub mod LibraryFrames
 pub mod LibraryTurns
 pub mod MadeItems
+pub mod Making
 pub mod NextEdges
 pub mod OverTurns
 pub mod OwnFrames
@@ -28,3 +30,4 @@ pub mod StandingMore
 pub mod StillThere
 pub mod Templates
 pub mod Turned
+pub mod TypedKept

@@ -39,15 +39,17 @@ use Rattle.same_runs.specs.Laws.QuietBeginnings.{quietly_then}
 use Rattle.same_runs.specs.SameMemories.{SameMemories}
 use Rattle.same_runs.specs.Simulations.{at_once}
 use Rattle.typed_runs.specs.TypedWorlds.{TypedWorld}
+use Rattle.virtual_state.specs.Laws.Fields.{unusable_made}
 use Rattle.virtual_state.specs.Laws.Objects.{found_present, found_site}
 use Rattle.virtual_state.specs.Laws.Removals.{without_none}
 use Rattle.virtual_state.specs.Sites.{has}
-use Rattle.virtual_state.specs.States.{IsState, State, is_present, object_of}
+use Rattle.virtual_state.specs.States.{IsState, State, is_present, is_unusable, object_of}
 use Rattle.virtual_state.specs.Without.{without}
 use Rattle.virtual_state.specs.declared.slot.Slot.TheVariants.{Virt}
 use Rattle.written_runs.specs.Laws.Halfway.{CanMake, GoesOn, Halfway, goes_then, jumps_on, makes_on}
 use Rattle.written_runs.specs.Laws.KnownClasses.{classes_in, halfway_knowing, met_here, met_left}
 use Rattle.written_runs.specs.Laws.MadeItems.{AreOwn, HasSome, behind_made, length_made, made_at, made_in_form, made_some, make_code_some, own_make_code}
+use Rattle.written_runs.specs.Laws.TypedKept.{HasPlaces, TypesEntries, can_be_kept, places_of}
 use Rattle.written_runs.specs.Inner.MadeObjects.{CanBeSaved, MakesObjects, StandAt}
 use Rattle.written_runs.specs.Inner.PlannedFrames.{AtBlock, InPlanned, IsBlock, IsMet, IsOfSite, IsReached, IsInstructionOf, IsTold, Keeps, Known, MakesOn, Moment, arrives, blocks_in, of_first, of_handler, of_jump, of_next, of_own, scope_in, stays, waits}
 use Rattle.written_runs.specs.Inner.Setup.{IsSetup, Setup, first, second}
@@ -74,6 +76,8 @@ pub record SettleLaws (u : Setup) : Type 0 where
       → slice_get w.flat.points f.place ≡ Some point
       → IsMadeIn state made
       → CanBeSaved w f.place point state made f
+  -- what typing tells make code of entries, local units and values
+  pub types : TypesEntries u
   -- a next edge leads to the point behind
   pub next_follows : (w : WrittenMethod) (at : ℕ) (point : Point) (route : Route) (edge : RouteEdge)
       → IsReached w at point route
@@ -140,8 +144,9 @@ made_block : (form : Form) (flat : FlatCode) (block : Block) (end : End) (instrs
 made_block form flat block end instrs items own same =
     ap (λ (found : List WItem). in_form form (found ++ end_items end)) items ∙ made_in_form form instrs (end_items end) own same
 
--- what make code asks of the state and the set
-pub record CanBeMade (state : State) (made order : List ℕ) : Type 0 where
+-- what make code asks of the state of a point and the set
+pub record CanBeMade (point : Point) (state : State) (made order : List ℕ) : Type 0 where
+  pub places : HasPlaces point state
   pub is_state : IsState state
   pub is_made : IsMadeIn state made
   pub is_order : IsMakeOrder state.objects made order
@@ -150,8 +155,8 @@ pub record CanBeMade (state : State) (made order : List ℕ) : Type 0 where
 pub record Onwards (w : WrittenMethod) (place : ℕ) (point : Point) (edge : RouteEdge) : Type 0 where
   pub route : Route
   pub reached : IsReached w place point route
-  pub can : CanBeMade route.state route.made route.order
-  pub can_edge : CanBeMade edge.state edge.made edge.order
+  pub can : CanBeMade point route.state route.made route.order
+  pub can_edge : CanBeMade point edge.state edge.made edge.order
   pub left : without edge.state (has edge.made) ≡ route.state
 
 module _ (u : Setup) (laws : SettleLaws u) where
@@ -168,6 +173,7 @@ module _ (u : Setup) (laws : SettleLaws u) where
     route = there.route;
     reached = record { is_point = is_point; is_route = there.is_route };
     can = record {
+      places = there_places;
       is_state = subst IsState (sym there.is.state) planned_there.is_planned.state.is_state;
       is_made =
           subst (IsMadeIn there.route.state) (sym there.is.made)
@@ -176,7 +182,16 @@ module _ (u : Setup) (laws : SettleLaws u) where
           subst (λ (state : State). IsMakeOrder state.objects there.route.made there.route.order) (sym there.is.state)
           (subst (λ (made : List ℕ). IsMakeOrder lead.target.state.objects made there.route.order) (sym there.is.made) there.is.order);
     };
-    can_edge = record { is_state = lead.is_state; is_made = lead.is_made; is_order = lead.is_order };
+    can_edge = record {
+      places = record {
+        are = sym (unusable_made (has edge.made) edge.state.slots)
+            ∙ ap (λ (state : State). map is_unusable state.slots) (sym lead.left ∙ sym there.is.state)
+            ∙ there_places.are;
+      };
+      is_state = lead.is_state;
+      is_made = lead.is_made;
+      is_order = lead.is_order;
+    };
     left = sym lead.left ∙ sym there.is.state;
   } where
     of_method : IsReadyMethod u.classes u.links f.at w
@@ -204,6 +219,11 @@ module _ (u : Setup) (laws : SettleLaws u) where
           is_route = found_route.is_route;
           is = subst (λ (n : ℕ). IsRoute (scope_in u w) n lead.target found_route.route) (omega arith) found_route.is;
         }
+
+    there_places : HasPlaces point there.route.state
+    there_places =
+        places_of u w f.place point there.route.state is_point
+        (ap (λ (state : State). map is_unusable state.slots) there.is.state ∙ planned_there.is_planned.state.places)
 
   -- where it is known of which classes objects are, a frame has objects of these classes
   meets_of : (one : Run) (f : MethodState) (rest : List RunFrame) (w : WrittenMethod) (known : Known) (point : Point) (route : Route)
@@ -239,8 +259,11 @@ module _ (u : Setup) (laws : SettleLaws u) where
   can_at : (f : MethodState) (w : WrittenMethod) (at : ℕ) (point : Point) (route : Route)
       → u.written f.at ≡ Some w
       → IsReached w at point route
-      → CanBeMade route.state route.made route.order
+      → CanBeMade point route.state route.made route.order
   can_at f w at point route written reached = record {
+    places =
+        places_of u w at point route.state reached.is_point
+        (ap (λ (state : State). map is_unusable state.slots) there.is.state ∙ here.is_planned.state.places);
     is_state = subst IsState (sym there.is.state) here.is_planned.state.is_state;
     is_made =
         subst (IsMadeIn route.state) (sym there.is.made)
@@ -330,7 +353,7 @@ module _ (u : Setup) (laws : SettleLaws u) where
     through : (r : Run) (state : State) (made order : List ℕ) (number : ℕ) (finished : Finished) (tail : List WItem)
         → Halfway u one r f rest w known point state (first_item w.form (blocks_in u w) number)
         → slice_get w.flat.points f.place ≡ Some point
-        → CanBeMade state made order
+        → CanBeMade point state made order
         → slice_get (blocks_in u w) number ≡ Some finished
         → block_items w.form finished ≡ map item (make_code w.flat f.place state made order) ++ tail
         → GoesOn u one r f rest w known point (without state (has made))
@@ -346,12 +369,12 @@ module _ (u : Setup) (laws : SettleLaws u) where
                 made_at w.form (blocks_in u w) number finished (make_code w.flat f.place state made order) tail more is_finished items within;
           };
           savable = laws.savable one.world f rest w point state made h.typed h.stands (ap u.written h.at ∙ h.is_written) is_point can.is_made;
-        })
+        }) (can_be_kept laws.is_setup laws.types h is_point can.places)
 
     -- there is an instruction, where an object is made
     some_code : (r : Run) (state : State) (site : ℕ) (sites order : List ℕ) (place : ℕ)
         → Halfway u one r f rest w known point state place
-        → CanBeMade state (site ∷ sites) order
+        → CanBeMade point state (site ∷ sites) order
         → HasSome (make_code w.flat f.place state (site ∷ sites) order)
     some_code r state site sites order place h can =
         make_code_some w.flat f.place state can.is_order (λ one_site among.
@@ -368,7 +391,7 @@ module _ (u : Setup) (laws : SettleLaws u) where
     pub from_first : (route : Route) (r : Run)
         → Halfway u one r f rest w known point route.state (first_item w.form (blocks_in u w) (length (blocks_left (scope_in u w) w.routes f.place)))
         → IsReached w f.place point route
-        → CanBeMade route.state route.made route.order
+        → CanBeMade point route.state route.made route.order
         → IsMet u known w point route.state f
         → Related u measure one r
     from_first route r h reached can met = by route.made refl where
@@ -399,8 +422,8 @@ module _ (u : Setup) (laws : SettleLaws u) where
         code : List WInstr
         code = make_code w.flat f.place route.state route.made route.order
 
-        can_here : CanBeMade route.state (site ∷ sites) route.order
-        can_here = subst (λ (made : List ℕ). CanBeMade route.state made route.order) some can
+        can_here : CanBeMade point route.state (site ∷ sites) route.order
+        can_here = subst (λ (made : List ℕ). CanBeMade point route.state made route.order) some can
 
         some_here : HasSome code
         some_here =
@@ -519,7 +542,7 @@ module _ (u : Setup) (laws : SettleLaws u) where
           some_here =
               subst (λ (made : List ℕ). HasSome (make_code w.flat f.place edge.state made edge.order)) (sym makes.made)
               (some_code r edge.state site sites edge.order (first_item w.form (blocks_in u w) number) h
-              (subst (λ (made : List ℕ). CanBeMade edge.state made edge.order) makes.made on_to.can_edge))
+              (subst (λ (made : List ℕ). CanBeMade point edge.state made edge.order) makes.made on_to.can_edge))
 
           block : Block
           block = made_next s at edge (site ∷ sites)
@@ -790,7 +813,7 @@ module _ (u : Setup) (laws : SettleLaws u) where
       settle_first at point route reached is_place is_point is_state place =
           from_first measure low route other (halfway_knowing h can.is_state)
           (subst (λ (n : ℕ). IsReached in_planned.one n point route) is_place reached) can (met_here h can.is_state) where
-            can : CanBeMade route.state route.made route.order
+            can : CanBeMade point route.state route.made route.order
             can = can_at f in_planned.one at point route written reached
 
             h : Halfway u one other f rest in_planned.one along.known point route.state
