@@ -47,7 +47,7 @@ use Rattle.written_runs.specs.Laws.Templates.Items.{IsStraight, all_moved, op_of
 use Rattle.written_runs.specs.Laws.Templates.Known.{TemplateLaws, entries, first_op, flat_number, keeps, many_stack, many_both, not_stuck, reached, ready, tells}
 use Rattle.written_runs.specs.Laws.Templates.Moving.{MovesOver, locals_stay}
 use Rattle.written_runs.specs.Laws.Templates.Turns.{FirstTurn, goes_next}
-use Rattle.written_runs.specs.VirtualObjects.{HasVirtual, RefersTo, TellsObject, Virtual}
+use Rattle.written_runs.specs.VirtualObjects.{HasVirtual, RefersTo, TellsObject, Virtual, local_slots}
 
 -- the edge to the next point is the first one
 pub next_edge_there : (s : PlanScope) (at : ℕ) (point : Point)
@@ -141,10 +141,10 @@ module _ (u : Setup) (laws : TemplateLaws u) {measure : ℕ} {one other : Run} (
     pub keep_below : KeepStack a.t.along.names (take (length below) (entries u laws a)) (reverse below) (reverse below_also)
     pub keep_given : KeepStack a.t.along.names
         (slots_from (scope_in u a.in_planned.one) (state_written a.settled.route) row_here.change gives) given given_also
-    pub own_units : (unit : ℕ) (value : Option Value)
-        → unit < length a.settled.point.typed.locals
-        → slice_get a.g.locals unit ≡ Some value
-        → slice_get middle.locals unit ≡ Some value
+    pub own_units : (unit : ℕ) (value : Value)
+        → slice_get (local_slots a.settled.point (state_written a.settled.route)) unit ≡ Some Plain
+        → slice_get a.f.locals unit ≡ Some (Some value)
+        → KeptIn a.t.along.names middle unit value
     pub fields : (site number : ℕ) (told : VObject) (virtual : Virtual) (value : Value)
         → object_of (changed (scope_in u a.in_planned.one) (state_written a.settled.route) row_here.change
         ++ (state_written a.settled.route).objects) site ≡ Some told

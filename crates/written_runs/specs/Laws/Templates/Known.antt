@@ -20,11 +20,18 @@ use Rattle.machine_values.specs.declared.frame.RunFrame.{RunFrame}
 use Rattle.machine_values.specs.declared.frame.RunFrame.TheVariants.{Beginning, Method}
 use Rattle.machine_values.specs.declared.value.Value.{Value}
 use Rattle.class_tree.specs.Headers.{Name, headers_of}
+use Rattle.class_tree.specs.Layouts.{instance_fields}
+use Rattle.class_model.specs.Descriptors.{kind_of}
+use Rattle.class_model.specs.declared.descriptor.FieldType.{FieldType}
+use Rattle.flow_code.specs.declared.point.Site.{Site}
+use Rattle.machine_values.specs.Values.{blank_of_kind, blank_values}
+use Rattle.member_link.specs.FieldConstructors.{field_types}
+use Rattle.same_runs.specs.SameMemories.{IsInert}
 use Rattle.member_link.specs.Machine.Layouts.{slot_number, slot_number_in}
 use Rattle.member_link.specs.References.{Reference}
 use Rattle.member_link.specs.Machine.Codes.{CodePoint, instr_op, item_op, number_at, run_point}
 use Rattle.member_link.specs.Machine.Ops.{Op}
-use Rattle.member_link.specs.Machine.Programs.{Code, Point as RunPoint, Program, code_at, folder_number, point_at}
+use Rattle.member_link.specs.Machine.Programs.{Code, Point as RunPoint, Program, code_at, folder_number, headers_in, point_at}
 use Rattle.member_link.specs.Machine.Runs.{Run, turn}
 use Rattle.member_link.specs.Machine.Stepping.{frames_step, is_library_turn, op_step, point_step, step}
 use Rattle.member_link.specs.Machine.Worlds.{World, going, stuck}
@@ -94,6 +101,15 @@ pub record TemplateLaws (u : Setup) : Type 0 where
   pub of_library : (w : WrittenMethod) (field : Reference)
       → folder_number (first u) field.class ≡ None
       → is_of_library (scope_in u w) field ≡ true
+  -- the class of a site is one of the folder, and where it begins nothing runs
+  pub site_class : (at : MethodAt) (w : WrittenMethod) (number : ℕ) (site : Site)
+      → u.written at ≡ Some w
+      → slice_get w.flat.sites number ≡ Some site
+      → (class : ℕ) × (folder_number (first u) site.class ≡ Some class) × IsInert (first u) class
+  -- an object begins with zero or null in each field of its class
+  pub blanks : (class : Name)
+      → blank_values (instance_fields (headers_in (first u)) class)
+      ≡ map (λ (type : FieldType). blank_of_kind (kind_of type)) (field_types (headers_of u.classes) class)
 
 -- ---- lengths
 

@@ -234,7 +234,7 @@ module _ (u : Setup) (laws : TemplateLaws u) {measure : ℕ} {one other : Run} (
         then_also = refl;
         keep_below = virtual_gone u laws a value below site stack virtual;
         keep_given = no_values;
-        own_units = λ unit now low unit_is. unit_is;
+        own_units = (keeps u laws a).locals;
         fields = fields;
         room = (keeps u laws a).room;
       }) where

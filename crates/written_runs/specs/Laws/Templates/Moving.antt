@@ -33,7 +33,7 @@ use Rattle.written_runs.specs.Laws.PlannedTurns.{AtPlanned}
 use Rattle.written_runs.specs.Laws.Templates.Edges.{GoesOver, locals_from, stack_from}
 use Rattle.written_runs.specs.Laws.Templates.Known.{TemplateLaws, before, entries, keeps, many_entries, many_locals, many_slots, many_stack, point, reached, ready, s, tells, top_unit, w, written}
 use Rattle.written_runs.specs.Laws.Templates.Stacks.{IsReadPlain, as_read, get_left, get_right, held_at, held_length, held_slots, is_plain_there, is_unusable_there, keep_join, keep_read, length_taken, read_plain, read_virtual, split_place, get_taken}
-use Rattle.written_runs.specs.VirtualObjects.{HasVirtual, RefersTo, TellsObject, Virtual, Virtuals}
+use Rattle.written_runs.specs.VirtualObjects.{HasVirtual, RefersTo, TellsObject, Virtual, Virtuals, local_slots}
 
 module _ (u : Setup) (laws : TemplateLaws u) {measure : ℕ} {one other : Run} (a : AtPlanned u measure one other) where
   -- what the frames have in local units behind an edge
@@ -67,10 +67,10 @@ module _ (u : Setup) (laws : TemplateLaws u) {measure : ℕ} {one other : Run} (
         → RefersTo a.t.along.virtuals (length a.ones) site value
         → RefersTo virtuals (length a.ones) site value
     pub locals : later.locals ≡ a.f.locals
-    pub own_units : (unit : ℕ) (value : Option Value)
-        → unit < length (point u laws a).typed.locals
-        → slice_get a.g.locals unit ≡ Some value
-        → slice_get after.locals unit ≡ Some value
+    pub own_units : (unit : ℕ) (value : Value)
+        → slice_get (local_slots (point u laws a) (before u laws a)) unit ≡ Some Plain
+        → slice_get a.f.locals unit ≡ Some (Some value)
+        → KeptIn a.t.along.names after unit value
 
   -- The instruction takes the topmost entries and gives others.
   pub record MovesOver (edge : RowEdge) (next : Point) (virtuals : Virtuals) (gives : List Source) (later after : MethodState) : Type 0 where
@@ -185,9 +185,7 @@ module _ (u : Setup) (laws : TemplateLaws u) {measure : ℕ} {one other : Run} (
           low = let within = slice_get_within next.typed.locals unit type is_type in let many = many_next m.number m.is_edge m.is_next in omega (arith, within, many)
 
           by : IsReadPlain (take (length here.typed.locals) now.slots) unit → KeptIn a.t.along.names after unit value
-          by (is_plain_there plain) =
-              let kept = (keeps u laws a).locals unit value plain (unit_was unit (Some value) there) in
-              record { also = kept.also; is = m.own_units unit (Some kept.also) low kept.is; same = kept.same }
+          by (is_plain_there plain) = m.own_units unit value plain (unit_was unit (Some value) there)
           by (is_unusable_there unusable) =
               absurd (false≢true (sym not_top ∙ ap is_top
               (laws.stays_top a.f.at wm a.f.place here m.number edge unit type (written u laws a) (reached u laws a).is_point m.is_edge

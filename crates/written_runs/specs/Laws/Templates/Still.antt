@@ -140,7 +140,9 @@ module _ (u : Setup) (laws : TemplateLaws u) {measure : ℕ} {one other : Run} (
             subst (λ (change : Change). KeepStack a.t.along.names
             (slots_from (scope_in u a.in_planned.one) (state_written a.settled.route) change n.gives) n.given n.given_also) (sym n.row_change)
             n.keep_given;
-        own_units = λ unit value low is. ap (λ (units : List (Option Value)). slice_get units unit) n.units ∙ is;
+        own_units = λ unit value plain is.
+            let kept = (keeps u laws a).locals unit value plain is in
+            record { also = kept.also; is = ap (λ (units : List (Option Value)). slice_get units unit) n.units ∙ kept.is; same = kept.same };
         fields = λ site number told virtual value is there plain here.
             let kept = (keeps u laws a).fields site number told virtual value
             (ap (λ (objects : List VObject). object_of objects site) (sym objects_are) ∙ is) there plain here in
