@@ -328,9 +328,11 @@ module _ (u : Setup) (setup : IsSetup u) (hierarchy : IsHierarchy (headers_of u.
     all_added number file class is_file same = elim (setup.replaces_also.added number file is_file) [
       | inl none ↦ subst (AllByRecursion (IsAdded (program_of u.classes u.links) class)) (sym none) tt
       | inr one ↦
-          subst (AllByRecursion (IsAdded (program_of u.classes u.links) class)) (sym one)
-          (subst (λ (c : RunClass). IsAdded (program_of u.classes u.links) c (constructor_method u.classes u.links u.constructor file)) same
-          (is_added number file is_file one), tt)
+          subst (AllByRecursion (IsAdded (program_of u.classes u.links) class)) (sym one) (
+            subst (λ (c : RunClass). IsAdded (program_of u.classes u.links) c (constructor_method u.classes u.links u.constructor file)) same
+                (is_added number file is_file one),
+            tt,
+          )
     ]
 
     none_added : (number : ℕ) (file : ClassFile) (class : RunClass) → slice_get u.classes.folder number ≡ Some file

@@ -7,14 +7,17 @@ pub mod Dropped
 pub mod Edges
 pub mod Fields
 pub mod Gets
+pub mod Gotos
 pub mod Holding
 pub mod Instrs
 pub mod Items
+pub mod Jumps
 pub mod Known
 pub mod Loads
 pub mod Monitors
 pub mod Moving
 pub mod News
+pub mod Onward
 pub mod Operands
 pub mod Slots
 pub mod Stacks

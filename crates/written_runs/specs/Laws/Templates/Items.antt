@@ -187,7 +187,7 @@ module _ {u : Setup} {w : WrittenMethod} {at : ℕ} {point : Point} {route : Rou
   abbrev pub op_of : WInstr → Op
   op_of instr = written_op (scope_in u w) there.host u.constructor [] instr
 
-  whole : block_items w.form (own_finished u w at point route) ≡ map item instrs ++ end_items end
+  pub whole : block_items w.form (own_finished u w at point route) ≡ map item instrs ++ end_items end
   whole =
       ap (λ (all : List WItem). in_form w.form (all ++ end_items end)) items
       ∙ made_in_form w.form instrs (end_items end) own (end_in_form w.form end)

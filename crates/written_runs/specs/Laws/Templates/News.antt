@@ -101,7 +101,7 @@ use Rattle.written_runs.specs.VirtualObjects.{AreApart, HasVirtual, IsOther, Ref
 
 own_clearing : (site number : ℕ) (types : List FieldType) → AreOwn (cleared_fields site number types)
 own_clearing site number [] = tt
-own_clearing site number (type ∷ types) = (tt, tt, own_clearing site (suc number) types)
+own_clearing site number (type ∷ types) = (tt, (tt, own_clearing site (suc number) types))
 
 clearing_is : (s : PlanScope) (host : Scope) (constructor : Name → List ℕ) (site number : ℕ) (types : List FieldType)
     → map (written_op s host constructor []) (cleared_fields site number types) ≡ clearing_ops s.flat site number types
@@ -122,8 +122,7 @@ clearing_straight : (flat : FlatCode) (site number : ℕ) (types : List FieldTyp
 clearing_straight flat site number [] = tt
 clearing_straight flat site number (type ∷ types) = (
   push_is_straight (blank_of_kind (kind_of type)),
-  store_is_straight (kind_of type) (unit_number flat (field_unit site number)),
-  clearing_straight flat site (suc number) types,
+  (store_is_straight (kind_of type) (unit_number flat (field_unit site number)), clearing_straight flat site (suc number) types),
 )
 
 -- ---- what a new object has

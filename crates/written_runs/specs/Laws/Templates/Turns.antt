@@ -29,10 +29,11 @@ use Rattle.plan_flow.specs.PlanRows.{RowEdge, Source}
 use Rattle.plan_flow.specs.PlanSlots.{is_open}
 use Rattle.plan_flow.specs.PlanTable.{falls_on}
 use Rattle.plan_flow.specs.Plans.{state_left}
-use Rattle.plan_flow.specs.Written.Blocks.{leaves_to, state_written}
+use Rattle.plan_flow.specs.Written.Blocks.{Block, leaves_to, state_written}
 use Rattle.plan_flow.specs.Written.Routes.{AreEdgeRoutes, RouteEdge, edge_by}
 use Rattle.plan_flow.specs.Written.Templates.{items_at}
 use Rattle.plan_flow.specs.Written.WrittenCode.{written_code}
+use Rattle.plan_flow.specs.Written.WrittenPrograms.{WrittenMethod}
 use Rattle.plan_flow.specs.declared.edge.EdgeKind.{EdgeKind}
 use Rattle.plan_flow.specs.declared.edge.EdgeKind.TheVariants as edges
 use Rattle.same_runs.specs.Laws.AloneTurn.{unbegun_in}
@@ -50,13 +51,14 @@ use Rattle.virtual_state.specs.Laws.Objects.{same_or_not}
 use Rattle.virtual_state.specs.Sites.{has}
 use Rattle.virtual_state.specs.States.{IsState, State, is_present}
 use Rattle.virtual_state.specs.Without.{without}
-use Rattle.written_runs.specs.Inner.PlannedFrames.{InPlanned, KeepStack, Keeps, Known, arrives, blocks_in, scope_in}
+use Rattle.written_runs.specs.Inner.PlannedFrames.{IsBlock, IsTold, KeepStack, Keeps, Known, arrives, blocks_in, scope_in}
 use Rattle.written_runs.specs.Inner.Setup.{Setup, first, second}
 use Rattle.written_runs.specs.Inner.Standing.{Stands, apart, comparison, is_awaited, planned_stand}
 use Rattle.written_runs.specs.Inner.Together.{Along, AreKnown, AreOwned, points_left, weight}
 use Rattle.written_runs.specs.Laws.Carried.OpenEdges.{IsOfRow, next_edge}
 use Rattle.written_runs.specs.Laws.Carried.Standing.{AtOwn, at_own}
 use Rattle.written_runs.specs.Laws.FewerVirtuals.{AreFewer, fewer_are_apart, memories_fewer}
+use Rattle.written_runs.specs.Laws.Halfway.{Halfway}
 use Rattle.written_runs.specs.Laws.LessVirtual.{was_in}
 use Rattle.written_runs.specs.Laws.MadeItems.{AreOwn}
 use Rattle.written_runs.specs.Laws.PlannedTurns.{AtPlanned}
@@ -115,7 +117,7 @@ owned_going_on u virtuals memory f later ones at owned = record {
     of_method,
   )
 
-knows_itself : (known : Known) → KnowsMore known known
+pub knows_itself : (known : Known) → KnowsMore known known
 knows_itself known = record { keeps = λ reference class is. is }
 
 -- a frame with the same units and stack keeps the same
@@ -136,6 +138,66 @@ keeps_alike {flat = flat} {names = names} {next = next} {state = state} {f = f} 
   made = λ site done. absurd (false≢true done);
   room = subst (λ (units : List (Option Value)). written_units flat ≤ length units) (sym locals) keeps.room;
 }
+
+-- ---- behind a turn
+
+-- Runs go along where the second is halfway, at the start of a block with the state there.
+abbrev pub along_there : {u : Setup} {one r : Run} {f : MethodState} {rest : List RunFrame} {w : WrittenMethod} {known : Known} {next : Point}
+    {state : State} {place : ℕ}
+    (h : Halfway u one r f rest w known next state place) (after : MethodState)
+    → after.at ≡ h.g.at
+    → after.held ≡ h.g.held
+    → after.locals ≡ h.g.locals
+    → after.stack ≡ h.g.stack
+    → (block : Block) (number : ℕ) (is_block : IsBlock u w number block)
+    → IsTold is_block
+    → block.state ≡ state
+    → f.place ≡ block.at
+    → after.place ≡ first_item w.form (blocks_in u w) number
+    → slice_get w.flat.points block.at ≡ Some next
+    → (steps : ℕ)
+    → Along u one (standing r (Method after ∷ h.rest_also) r.world.memory steps)
+along_there {u = u} {one = one} {r = r} {f = f} {rest = rest} {w = w} {known = known} {next = next} h after at held locals stack block number is_block
+    told state place begins is_point steps = record {
+      virtuals = h.virtuals;
+      are_apart = h.are_apart;
+      known = known;
+      are_known = h.are_known;
+      names = h.names;
+      now = [];
+      ones = Method f ∷ rest;
+      stands = h.stands;
+      others = Method after ∷ h.rest_also;
+      stands_also = refl;
+      frames =
+          planned_stand (record {
+            one = w;
+            is_written = ap u.written at ∙ h.is_written;
+            at = h.at ∙ sym at;
+            held = subst (SameHeld h.names f.held) (sym held) h.held;
+            block = block;
+            moment = arrives (record { number = number; is_block = is_block; place = place; place_also = begins }) told;
+            point = next;
+            is_point = is_point;
+            tells = subst (λ (s : State). Tells (first u) (scope_in u w) h.virtuals (length rest) next s f) (sym state) h.tells;
+            keeps =
+                subst (λ (s : State). Keeps w.flat h.names h.virtuals (length rest) [] next s f after) (sym state)
+                (keeps_alike h.g after locals stack h.keeps);
+            own = λ place_of virtual is of_frame.
+                subst (λ (s : State). IsTrue (is_present s.objects virtual.site)) (sym state) (h.own place_of virtual is of_frame);
+          }) (λ waiting. absurd (false≢true waiting))
+          (subst (λ (waiting : Bool). Stands u h.virtuals known waiting h.names rest h.rest_also) (ap (is_awaited u) (sym at)) h.below);
+      owned = h.owned;
+      alone = tt;
+      no_turn = tt;
+      memories = h.memories;
+      seen = record { known = h.seen.known; events = h.seen.events };
+      goes = h.goes;
+      goes_also = h.goes_also;
+      actions = h.actions;
+      used = h.used;
+      typed = h.typed;
+    }
 
 module _ (u : Setup) (laws : TemplateLaws u) {measure : ℕ} {one other : Run} (a : AtPlanned u measure one other) where
   -- ---- the first
@@ -188,6 +250,160 @@ module _ (u : Setup) (laws : TemplateLaws u) {measure : ℕ} {one other : Run} (
     memories = memories_here;
   }
 
+  -- ---- an edge
+
+  -- control goes on over an edge of the row that is open, and what the frames have behind it
+  pub record TakesEdge (t : FirstTurn) (row : RowEdge) (edge : RouteEdge) (middle : MethodState) : Type 0 where
+    pub found : edge_by a.settled.route row.by ≡ Some edge
+    pub of_row : IsOfRow (scope_in u a.in_planned.one) a.settled.point a.f.place (state_written a.settled.route) row edge
+    pub place : t.later.place ≡ row.to
+    pub gives : List Source
+    pub over : (next : Point)
+        → slice_get a.in_planned.one.flat.points row.to ≡ Some next
+        → length t.later.stack ≡ length next.typed.stack
+        → MovesOver u laws a row next t.virtuals gives t.later middle
+
+  same_left : state_left (of_plan u laws a).point ≡ state_written a.settled.route
+  same_left =
+      ap (λ (state : State). without state (has (of_plan u laws a).point.made)) (sym (of_plan u laws a).is.state)
+      ∙ ap (λ (made : List ℕ). without a.settled.route.state (has made)) (sym (of_plan u laws a).is.made)
+
+  -- the edges of the plan are those of the row
+  pub effect_here : IsEffectIn (scope_in u a.in_planned.one) a.f.place (Some a.settled.point) (state_written a.settled.route)
+      (of_plan u laws a).is.effect
+  effect_here =
+      subst (λ (state : State). IsEffectIn (scope_in u a.in_planned.one) a.f.place (Some a.settled.point) state (of_plan u laws a).is.effect) same_left
+      (subst (λ (found : Option Point). IsEffectIn (scope_in u a.in_planned.one) a.f.place found (state_left (of_plan u laws a).point)
+      (of_plan u laws a).is.effect) (reached u laws a).is_point
+      (subst (λ (n : ℕ). IsEffect (scope_in u a.in_planned.one) n (state_left (of_plan u laws a).point) (of_plan u laws a).is.effect) (omega arith)
+      (of_plan u laws a).is.is_effect))
+
+  module _ (t : FirstTurn) {row : RowEdge} {edge : RouteEdge} {middle : MethodState} (e : TakesEdge t row edge middle) where
+    abbrev then_run : Run
+    then_run = record one { world = record (counted one) { memory = t.memory; frames = Method t.later ∷ a.ones } }
+
+    pub turned : turn (first u) one ≡ then_run
+    turned = turn_is u laws a ∙ ap (λ (world : World). record one { world = world }) t.turned
+
+    pub typed : TypedWorld (first u) u.typings then_run.world
+    typed = subst (TypedWorld (first u) u.typings) t.turned (typed_then u laws a)
+
+    pub written_then : u.written t.later.at ≡ Some a.in_planned.one
+    written_then = ap u.written t.at ∙ written u laws a
+
+    pub target : (next : Point) × (slice_get a.in_planned.one.flat.points edge.to ≡ Some next) × IsState edge.state
+    target =
+        target_point u laws.settle a.f a.in_planned.one a.f.place a.settled.point a.settled.route row.by edge (written u laws a) (reached u laws a)
+        e.found
+
+    pub is_next : slice_get a.in_planned.one.flat.points row.to ≡ Some target.0
+    is_next = ap (slice_get a.in_planned.one.flat.points) (sym e.of_row.to) ∙ target.1
+
+    pub place_then : t.later.place ≡ edge.to
+    place_then = e.place ∙ sym e.of_row.to
+
+    pub many_then : length t.later.stack ≡ length target.0.typed.stack
+    many_then =
+        sym (length-reverse t.later.stack)
+        ∙ values_many (laws.conforms then_run.world t.later a.ones a.in_planned.one target.0 typed refl written_then
+        (ap (slice_get a.in_planned.one.flat.points) e.place ∙ is_next)).stack
+        ∙ many_mapped (read_type a.in_planned.one.flat) target.0.typed.stack
+
+    pub over : MovesOver u laws a row target.0 t.virtuals e.gives t.later middle
+    over = e.over target.0 is_next many_then
+
+    abbrev left : Virtuals
+    left = kept_in (length a.ones) edge.state t.virtuals
+
+    pub fewer : AreFewer t.virtuals left
+    fewer = record { keeps = is_kept (length a.ones) edge.state; is = refl }
+
+    pub below_left : SameBelow a.t.along.virtuals left (length a.ones)
+    below_left = λ frame low.
+        let one_step = t.below frame low in
+        let other_step = same_below_kept (length a.ones) edge.state t.virtuals frame low in
+        record {
+          forth = λ site virtual is. other_step.forth site virtual (one_step.forth site virtual is);
+          back = λ site virtual is. one_step.back site virtual (other_step.back site virtual is);
+        }
+
+    pub left_was : (number : ℕ) (virtual : Virtual) → slice_get left number ≡ Some virtual
+        → (place : ℕ) × (slice_get t.virtuals place ≡ Some virtual)
+    left_was number virtual is =
+        let was = was_in (is_kept (length a.ones) edge.state) t.virtuals number virtual is in (was.number, was.is_there)
+
+    -- the second frame behind its moves, by the state of the edge
+    abbrev pub halfway_behind : (after : MethodState)
+        → after.at ≡ a.g.at
+        → after.held ≡ a.g.held
+        → after.locals ≡ middle.locals
+        → after.stack ≡ middle.stack
+        → (steps : ℕ)
+        → Halfway u (turn (first u) one) (standing other (Method after ∷ a.others) other.world.memory steps) t.later a.ones a.in_planned.one
+        a.t.along.known target.0 edge.state after.place
+    halfway_behind after method held locals stack steps = record {
+      virtuals = left;
+      are_apart = fewer_are_apart fewer t.are_apart;
+      are_known =
+          subst (λ (r : Run). AreKnown r.world.memory.heap a.t.along.known) (sym turned) (known_still t.shapes a.t.along.are_known);
+      names = a.t.along.names;
+      g = after;
+      rest_also = a.others;
+      stands = ap (λ (r : Run). r.world.frames) turned;
+      stands_also = refl;
+      is_written = ap u.written method ∙ a.in_planned.is_written;
+      at = t.at ∙ a.in_planned.at ∙ sym method;
+      held =
+          subst (λ (h : Option ℕ). SameHeld a.t.along.names h after.held) (sym t.held)
+          (subst (SameHeld a.t.along.names a.f.held) (sym held) a.in_planned.held);
+      place_also = refl;
+      tells = tells_kept (length a.ones) edge.state t.virtuals target.2 (tells_over e.of_row.state is_next (goes_over u laws a over));
+      keeps =
+          keeps_kept (length a.ones) edge.state t.virtuals target.2
+          (keeps_alike middle after locals stack (keeps_over e.of_row.state is_next (goes_over u laws a over)));
+      own = λ number virtual is of_frame. own_kept (length a.ones) edge.state t.virtuals number virtual is of_frame;
+      below =
+          subst (λ (waiting : Bool). Stands u left a.t.along.known waiting a.t.along.names a.ones a.others) (ap (is_awaited u) (sym method))
+          (stands_more below_left (knows_itself a.t.along.known) (names_themselves a.t.along.names) a.below);
+      owned = subst (λ (r : Run). AreOwned u left r.world.memory (Method t.later ∷ a.ones)) (sym turned) (record {
+        owner = λ number virtual is. let was = left_was number virtual is in t.owned.owner was.0 virtual was.1;
+        begun = λ number class virtual is shape. let was = left_was number virtual is in t.owned.begun was.0 class virtual was.1 shape;
+      });
+      memories =
+          subst (λ (r : Run). SameMemories (first u) (comparison u left a.t.along.known).allocated (comparison u left a.t.along.known).entered
+          (apart left) a.t.along.names [] r.world.memory other.world.memory) (sym turned) (memories_fewer u a.t.along.known fewer t.memories);
+      seen =
+          subst (λ (r : Run). SameSeen (comparison u left a.t.along.known) a.t.along.names r.world
+          (standing other (Method after ∷ a.others) other.world.memory steps).world) (sym turned) (record {
+            known = a.t.along.seen.known;
+            events = (seen_as {c = comparison u a.t.along.virtuals a.t.along.known} {d = comparison u left a.t.along.known}
+                (record { allocated = λ n m less. less; entered = λ n m less. less }) a.t.along.seen).events;
+          });
+      goes = ap (λ (r : Run). r.world.halt) turned ∙ a.t.along.goes;
+      goes_also = a.t.along.goes_also;
+      actions = a.t.along.actions ∙ ap (λ (r : Run). r.actions) (sym turned);
+      used = a.t.along.used ∙ ap (λ (r : Run). r.used) (sym turned);
+      typed = subst (λ (r : Run). TypedWorld (first u) u.typings r.world) (sym turned) typed;
+    }
+
+    abbrev pub left_over : ℕ
+    left_over = weight (first u) (turn (first u) one).world.memory [] (length a.in_planned.one.flat.points - t.later.place)
+
+    -- to a later point less is left
+    pub falls_below : a.f.place < t.later.place → left_over < measure
+    falls_below later =
+        let low = a.low in
+        let same : unbegun_in (first u) (turn (first u) one).world.memory ≡ unbegun_in (first u) one.world.memory =
+        ap (λ (r : Run). unbegun_in (first u) r.world.memory) turned ∙ t.unbegun in
+        let within = slice_get_within a.in_planned.one.flat.points a.f.place a.settled.point (reached u laws a).is_point in
+        omega (arith, low, same, later, within)
+
+  -- where the second stands at the block of the instruction
+  pub stands_own : AtOwn u a.in_planned.one a.f.place a.settled.point a.settled.route a.g
+  stands_own =
+      at_own u laws.settle a.in_planned.one a.f a.g a.settled.point a.settled.route a.in_planned.block a.in_planned.is_written a.settled.here
+      a.settled.of_instruction
+
   -- ---- the edge to the next point
 
   -- the first frame goes on to the next point, and the second's moves are made
@@ -212,207 +428,32 @@ module _ (u : Setup) (laws : TemplateLaws u) {measure : ℕ} {one other : Run} (
         (record { by = edges.Next; to = a.f.place + 1; guard = (row_of_point (s u laws a) a.f.place (point u laws a)).next }) next t.virtuals gives
         t.later middle
 
-  -- what goes along behind the turn
-  pub record AlongBehind (r : Run) (after : MethodState) (left : ℕ) : Type 0 where
-    pub along : (steps : ℕ) → Along u r (standing other (Method after ∷ a.others) other.world.memory steps)
-    pub none_now : (steps : ℕ) → (along steps).now ≡ []
-    pub low : (steps : ℕ) → weight (first u) r.world.memory [] (points_left (along steps).frames) ≤ left
-
   module _ (t : FirstTurn) (goes : GoesNext t) where
-    abbrev now : State
-    now = state_written a.settled.route
-
-    abbrev then_run : Run
-    then_run = record one { world = record (counted one) { memory = t.memory; frames = Method t.later ∷ a.ones } }
-
-    turned : turn (first u) one ≡ then_run
-    turned = turn_is u laws a ∙ ap (λ (world : World). record one { world = world }) t.turned
-
-    typed : TypedWorld (first u) u.typings then_run.world
-    typed = subst (TypedWorld (first u) u.typings) t.turned (typed_then u laws a)
-
-    written_then : u.written t.later.at ≡ Some a.in_planned.one
-    written_then = ap u.written t.at ∙ written u laws a
-
-    same_left : state_left (of_plan u laws a).point ≡ now
-    same_left =
-        ap (λ (state : State). without state (has (of_plan u laws a).point.made)) (sym (of_plan u laws a).is.state)
-        ∙ ap (λ (made : List ℕ). without a.settled.route.state (has made)) (sym (of_plan u laws a).is.made)
-
-    effect : IsEffectIn (scope_in u a.in_planned.one) a.f.place (Some a.settled.point) now (of_plan u laws a).is.effect
-    effect =
-        subst (λ (state : State). IsEffectIn (scope_in u a.in_planned.one) a.f.place (Some a.settled.point) state (of_plan u laws a).is.effect) same_left
-        (subst (λ (found : Option Point). IsEffectIn (scope_in u a.in_planned.one) a.f.place found (state_left (of_plan u laws a).point)
-        (of_plan u laws a).is.effect) (reached u laws a).is_point
-        (subst (λ (n : ℕ). IsEffect (scope_in u a.in_planned.one) n (state_left (of_plan u laws a).point) (of_plan u laws a).is.effect) (omega arith)
-        (of_plan u laws a).is.is_effect))
+    abbrev next_row_here : RowEdge
+    next_row_here = record { by = edges.Next; to = a.f.place + 1; guard = (row_of_point (scope_in u a.in_planned.one) a.f.place a.settled.point).next }
 
     has_next : (edge : RouteEdge)
         × (edge_by a.settled.route edges.Next ≡ Some edge)
-        × IsOfRow (scope_in u a.in_planned.one) a.settled.point a.f.place now
-        (record { by = edges.Next; to = a.f.place + 1; guard = (row_of_point (scope_in u a.in_planned.one) a.f.place a.settled.point).next }) edge
+        × IsOfRow (scope_in u a.in_planned.one) a.settled.point a.f.place (state_written a.settled.route) next_row_here edge
     has_next =
-        next_edge (scope_in u a.in_planned.one) a.settled.point a.f.place now (of_plan u laws a).is.effect (of_plan u laws a).point.edges
-        a.settled.route effect (of_plan u laws a).is.edges goes.falls goes.opens
+        next_edge (scope_in u a.in_planned.one) a.settled.point a.f.place (state_written a.settled.route) (of_plan u laws a).is.effect
+        (of_plan u laws a).point.edges a.settled.route effect_here (of_plan u laws a).is.edges goes.falls goes.opens
 
-    abbrev edge : RouteEdge
-    edge = has_next.0
-
-    target : (next : Point) × (slice_get a.in_planned.one.flat.points edge.to ≡ Some next) × IsState edge.state
-    target =
-        target_point u laws.settle a.f a.in_planned.one a.f.place a.settled.point a.settled.route edges.Next edge (written u laws a) (reached u laws a)
-        has_next.1
-
-    abbrev next : Point
-    next = target.0
-
-    is_next : slice_get a.in_planned.one.flat.points (a.f.place + 1) ≡ Some next
-    is_next = ap (slice_get a.in_planned.one.flat.points) (sym has_next.2.to) ∙ target.1
-
-    many_then : length t.later.stack ≡ length next.typed.stack
-    many_then =
-        sym (length-reverse t.later.stack)
-        ∙ values_many (laws.conforms then_run.world t.later a.ones a.in_planned.one next typed refl written_then
-        (ap (slice_get a.in_planned.one.flat.points) goes.place ∙ is_next)).stack
-        ∙ many_mapped (read_type a.in_planned.one.flat) next.typed.stack
-
-    over : MovesOver u laws a
-        (record { by = edges.Next; to = a.f.place + 1; guard = (row_of_point (scope_in u a.in_planned.one) a.f.place a.settled.point).next }) next t.virtuals
-        goes.gives t.later goes.middle
-    over = goes.over next is_next many_then
-
-    there : AtOwn u a.in_planned.one a.f.place a.settled.point a.settled.route a.g
-    there =
-        at_own u laws.settle a.in_planned.one a.f a.g a.settled.point a.settled.route a.in_planned.block a.in_planned.is_written a.settled.here
-        a.settled.of_instruction
+    takes : TakesEdge t next_row_here has_next.0 goes.middle
+    takes = record { found = has_next.1; of_row = has_next.2; place = goes.place; gives = goes.gives; over = goes.over }
 
     moves_made : OwnMoves u a.in_planned.one a.f.place a.settled.route
-        (written_code (scope_in u a.in_planned.one) there.host u.constructor a.in_planned.one.form (blocks_in u a.in_planned.one)) a.g goes.middle
+        (written_code (scope_in u a.in_planned.one) stands_own.host u.constructor a.in_planned.one.form (blocks_in u a.in_planned.one)) a.g goes.middle
     moves_made =
-        own_items there (reached u laws a) goes.instrs goes.items goes.own goes.leaves goes.middle (goes.straight there) (goes.moved there)
+        own_items stands_own (reached u laws a) goes.instrs goes.items goes.own goes.leaves goes.middle (goes.straight stands_own)
+        (goes.moved stands_own)
 
-    abbrev after : MethodState
-    after = moves_made.after
-
-    place_then : t.later.place ≡ edge.to
-    place_then = goes.place ∙ sym has_next.2.to
-
-    arrives_there : ArrivesAt u a.in_planned.one edge
+    arrives_there : ArrivesAt u a.in_planned.one has_next.0
         (first_item a.in_planned.one.form (blocks_in u a.in_planned.one)
         (suc (own_number (scope_in u a.in_planned.one) a.in_planned.one.routes a.f.place a.settled.route)))
     arrives_there =
-        arrives_next u laws.settle t.later a.in_planned.one a.f.place a.settled.point next a.settled.route edge written_then (reached u laws a)
-        has_next.1 has_next.2.by place_then target.1
-
-    abbrev left : Virtuals
-    left = kept_in (length a.ones) edge.state t.virtuals
-
-    tells_then : Tells (first u) (scope_in u a.in_planned.one) left (length a.ones) next edge.state t.later
-    tells_then = tells_kept (length a.ones) edge.state t.virtuals target.2 (tells_over has_next.2.state is_next (goes_over u laws a over))
-
-    keeps_then : Keeps a.in_planned.one.flat a.t.along.names left (length a.ones) [] next edge.state t.later after
-    keeps_then =
-        keeps_kept (length a.ones) edge.state t.virtuals target.2
-        (keeps_alike goes.middle after moves_made.locals moves_made.stack (keeps_over has_next.2.state is_next (goes_over u laws a over)))
-
-    fewer : AreFewer t.virtuals left
-    fewer = record { keeps = is_kept (length a.ones) edge.state; is = refl }
-
-    abbrev frame_then : InPlanned u left a.t.along.known a.t.along.names (length a.ones) t.later after
-    frame_then = record {
-      one = a.in_planned.one;
-      is_written = ap u.written moves_made.method ∙ a.in_planned.is_written;
-      at = t.at ∙ a.in_planned.at ∙ sym moves_made.method;
-      held =
-          subst (λ (held : Option ℕ). SameHeld a.t.along.names held after.held) (sym t.held)
-          (subst (SameHeld a.t.along.names a.f.held) (sym moves_made.held) a.in_planned.held);
-      block = arrives_there.block;
-      moment = arrives (record {
-        number = arrives_there.number;
-        is_block = arrives_there.is_block;
-        place = place_then ∙ sym arrives_there.at;
-        place_also = moves_made.place ∙ arrives_there.begins;
-      }) arrives_there.is_told;
-      point = next;
-      is_point = ap (slice_get a.in_planned.one.flat.points) arrives_there.at ∙ target.1;
-      tells =
-          subst (λ (state : State). Tells (first u) (scope_in u a.in_planned.one) left (length a.ones) next state t.later)
-          (sym arrives_there.state) tells_then;
-      keeps =
-          subst (λ (state : State). Keeps a.in_planned.one.flat a.t.along.names left (length a.ones) [] next state t.later after)
-          (sym arrives_there.state) keeps_then;
-      own = λ number virtual is of_frame.
-          subst (λ (state : State). IsTrue (is_present state.objects virtual.site)) (sym arrives_there.state)
-          (own_kept (length a.ones) edge.state t.virtuals number virtual is of_frame);
-    }
-
-    below_left : SameBelow a.t.along.virtuals left (length a.ones)
-    below_left = λ frame low.
-        let one_step = t.below frame low in
-        let other_step = same_below_kept (length a.ones) edge.state t.virtuals frame low in
-        record {
-          forth = λ site virtual is. other_step.forth site virtual (one_step.forth site virtual is);
-          back = λ site virtual is. one_step.back site virtual (other_step.back site virtual is);
-        }
-
-    stands_below : Stands u left a.t.along.known (is_awaited u after.at) a.t.along.names a.ones a.others
-    stands_below =
-        subst (λ (waiting : Bool). Stands u left a.t.along.known waiting a.t.along.names a.ones a.others)
-        (ap (is_awaited u) (sym moves_made.method))
-        (stands_more below_left (knows_itself a.t.along.known) (names_themselves a.t.along.names) a.below)
-
-    left_was : (number : ℕ) (virtual : Virtual) → slice_get left number ≡ Some virtual
-        → (place : ℕ) × (slice_get t.virtuals place ≡ Some virtual)
-    left_was number virtual is =
-        let was = was_in (is_kept (length a.ones) edge.state) t.virtuals number virtual is in (was.number, was.is_there)
-
-    abbrev along_then : (steps : ℕ) → Along u then_run (standing other (Method after ∷ a.others) other.world.memory steps)
-    along_then steps = record {
-      virtuals = left;
-      are_apart = fewer_are_apart fewer t.are_apart;
-      known = a.t.along.known;
-      are_known = known_still t.shapes a.t.along.are_known;
-      names = a.t.along.names;
-      now = [];
-      ones = Method t.later ∷ a.ones;
-      stands = refl;
-      others = Method after ∷ a.others;
-      stands_also = refl;
-      frames = planned_stand frame_then (λ waiting. absurd (false≢true waiting)) stands_below;
-      owned = record {
-        owner = λ number virtual is. let was = left_was number virtual is in t.owned.owner was.0 virtual was.1;
-        begun = λ number class virtual is shape. let was = left_was number virtual is in t.owned.begun was.0 class virtual was.1 shape;
-      };
-      alone = tt;
-      no_turn = tt;
-      memories = memories_fewer u a.t.along.known fewer t.memories;
-      seen = record {
-        known = a.t.along.seen.known;
-        events = (seen_as {c = comparison u a.t.along.virtuals a.t.along.known} {d = comparison u left a.t.along.known}
-            (record { allocated = λ n m less. less; entered = λ n m less. less }) a.t.along.seen).events;
-      };
-      goes = a.t.along.goes;
-      goes_also = a.t.along.goes_also;
-      actions = a.t.along.actions;
-      used = a.t.along.used;
-      typed = typed;
-    }
-
-    abbrev left_over : ℕ
-    left_over = weight (first u) t.memory [] (length a.in_planned.one.flat.points - t.later.place)
-
-    behind : AlongBehind (turn (first u) one) after left_over
-    behind =
-        subst (λ (r : Run). AlongBehind r after left_over) (sym turned)
-        (record { along = along_then; none_now = λ steps. refl; low = λ steps. omega arith })
-
-    falls_below : left_over < measure
-    falls_below =
-        let low = a.low in
-        let same = t.unbegun in
-        let place = goes.place in
-        let within = slice_get_within a.in_planned.one.flat.points a.f.place a.settled.point (reached u laws a).is_point in
-        omega (arith, low, same, place, within)
+        arrives_next u laws.settle t.later a.in_planned.one a.f.place a.settled.point (target t takes).0 a.settled.route has_next.0
+        (written_then t takes) (reached u laws a) has_next.1 has_next.2.by (place_then t takes) (target t takes).1
 
     pub goes_next : KeepsTurn u measure one other
     goes_next =
@@ -421,14 +462,19 @@ module _ (u : Setup) (laws : TemplateLaws u) {measure : ℕ} {one other : Run} (
           rest_also = a.others;
           stands_also = a.t.along.stands_also ∙ a.stands_also;
           goes_also = a.t.along.goes_also;
-          code = written_code (scope_in u a.in_planned.one) there.host u.constructor a.in_planned.one.form (blocks_in u a.in_planned.one);
-          is_code = there.is_code;
+          code =
+              written_code (scope_in u a.in_planned.one) stands_own.host u.constructor a.in_planned.one.form (blocks_in u a.in_planned.one);
+          is_code = stands_own.is_code;
           count = moves_made.count;
-          after = after;
+          after = moves_made.after;
           moved = moves_made.moved;
-          along = behind.along;
-          none_now = behind.none_now;
-          measure_then = left_over;
-          low = behind.low;
-          falls = λ none. falls_below;
+          along = λ steps.
+              along_there (halfway_behind t takes moves_made.after moves_made.method moves_made.held moves_made.locals moves_made.stack steps)
+              moves_made.after refl refl refl refl arrives_there.block arrives_there.number arrives_there.is_block arrives_there.is_told
+              arrives_there.state (place_then t takes ∙ sym arrives_there.at) (moves_made.place ∙ arrives_there.begins)
+              (ap (slice_get a.in_planned.one.flat.points) arrives_there.at ∙ (target t takes).1) steps;
+          none_now = λ steps. refl;
+          measure_then = left_over t takes;
+          low = λ steps. omega arith;
+          falls = λ none. falls_below t takes (let place = goes.place in omega (arith, place));
         })
