@@ -1,20 +1,18 @@
 -- The second program, in which field constructors are added to classes, is the same but for these and for codes and flags of fields.
-use Rattle.std.proofs.Common.{◌≡◌, ◌≢◌, ◌⊎◌, inl, inr, ◌==◌, ◌&&◌, ◌++◌, not, ℕ, zero, suc, Bool, true, false, List, [], ◌∷◌, filter, map, bytes_eq, slice_get, Option, Some, None, option_and_then, option_map, IsTrue, IsFalse, refl, sym, ap, subst, ◌∙◌}
-use Rattle.std.specs.List.{AllByRecursion, flat_map, list_any}
+use Rattle.std.proofs.Common.{◌≡◌, ◌≢◌, inl, inr, ◌==◌, not, ℕ, Bool, true, false, List, [], ◌∷◌, filter, map, bytes_eq, slice_get, Option, Some, None, option_map, IsTrue, IsFalse, refl, sym, ap, subst, ◌∙◌}
+use Rattle.std.specs.List.{AllByRecursion, list_any}
 use Rattle.std.proofs.lemmas.Bool.{and_from, and_parts, both_ways, false≢true, or_right}
 use Rattle.std.proofs.lemmas.Option.{none-some, same_Some, slice_get-map}
 use Rattle.std.proofs.lemmas.Slice.Eq.{bytes_eq-Decides}
 use Rattle.class_model.specs.Header.{header_of}
-use Rattle.class_model.specs.Laws.Lists.{at_index}
 use Rattle.class_model.specs.Names.{init}
 use Rattle.class_model.specs.Pool.{Constants, constant_at}
 use Rattle.class_model.specs.declared.class_file.ClassFile.{ClassFile}
-use Rattle.class_model.specs.declared.class_file.Method.{Method}
 use Rattle.class_model.specs.declared.header.Header.{Header}
 use Rattle.class_model.specs.declared.header.Member.{Member}
 use Rattle.class_model.specs.declared.pool.Const.{Const}
 use Rattle.class_model.specs.declared.pool.Const.TheVariants.{MethodHandle}
-use Rattle.class_tree.specs.Headers.{Name, Classes, Headers, class_named, headers_of, named}
+use Rattle.class_tree.specs.Headers.{Name, Headers, class_named, headers_of}
 use Rattle.class_tree.specs.Hierarchy.{IsHierarchy}
 use Rattle.class_tree.specs.Laws.Above.{hierarchy_is_rooted, hierarchy_is_sound, object_no_superclass, superclass_kind}
 use Rattle.class_tree.specs.Laws.Headers.{same_class}
@@ -24,22 +22,22 @@ use Rattle.class_tree.specs.Names.{is_interface, is_member, object}
 use Rattle.expanded_code.specs.Candidates.{HasRoom, IsCandidate}
 use Rattle.expanded_code.specs.Laws.SuperChains.{of_each_class, super_there, superclasses_is, superclasses_of_root}
 use Rattle.machine_values.specs.Heaps.{same_constant}
-use Rattle.machine_values.specs.declared.object.Constant.{Constant}
 use Rattle.machine_values.specs.declared.object.Constant.TheVariants.{Handle}
 use Rattle.member_link.specs.DeclaredMembers.{declared, declared_by, own_method}
-use Rattle.member_link.specs.FieldConstructors.{HasDimensions, HasFieldConstructor, IsFree, HandlesNone, constructor_descriptor, constructor_reference, handled}
+use Rattle.member_link.specs.FieldConstructors.{HasDimensions, HasFieldConstructor, HandlesNone, constructor_descriptor, handled}
 use Rattle.member_link.specs.Laws.FolderClasses.{class_of_folder, found_in_folder}
 use Rattle.member_link.specs.Machine.Acting.{NEW_INVOKE_SPECIAL, is_handled}
 use Rattle.member_link.specs.Machine.Classes.{handles_in, program_of, run_class_of, run_method_of}
-use Rattle.member_link.specs.Machine.Programs.{Links, Program, RunClass, RunMethod}
+use Rattle.member_link.specs.Machine.Programs.{RunClass, RunMethod}
 use Rattle.member_link.specs.References.{Reference}
 use Rattle.member_link.specs.Signatures.{reference_of}
 use Rattle.plan_flow.specs.Written.WrittenPrograms.{constructor_method}
 use Rattle.same_runs.specs.Flats.{flats_for_codes}
+use Rattle.same_runs.specs.Laws.BothReplaced.{both_replaced_same}
 use Rattle.same_runs.specs.Laws.FlatPrograms.{flats_alike, members_of_class}
 use Rattle.same_runs.specs.Laws.ReplacedPrograms.{ReplacesAlike, replaced_same}
 use Rattle.same_runs.specs.SamePrograms.{IsAdded, SamePrograms}
-use Rattle.written_runs.specs.Inner.Setup.{IsSetup, Setup, second}
+use Rattle.written_runs.specs.Inner.Setup.{IsSetup, Setup, first, second}
 
 -- Field constructors are added to classes of candidates' chains alone: to those whose objects written code may make, and to the classes above.
 pub record AddsToCandidates (u : Setup) : Type 0 where
@@ -286,7 +284,8 @@ module _ (u : Setup) (setup : IsSetup u) (hierarchy : IsHierarchy (headers_of u.
       (constructor_method u.classes u.links u.constructor file)
   is_added number file is_file added = record {
     is_init = refl;
-    is_new = of_members (λ (member : Member). member.name ≡ init → member.desc ≡ u.constructor (header_of file).name → ⊥) (map (run_method_of u.links (headers_of u.classes) file) file.methods)
+    is_new = of_members (λ (member : Member). member.name ≡ init → member.desc ≡ u.constructor (header_of file).name → ⊥)
+        (map (run_method_of u.links (headers_of u.classes) file) file.methods)
         (subst (AllByRecursion (λ (member : Member). member.name ≡ init → member.desc ≡ u.constructor (header_of file).name → ⊥))
         (sym (members_of_class u.links (headers_of u.classes) file file.methods))
         (none_declared init (u.constructor (header_of file).name) (header_of file).methods free.undeclared));
@@ -349,3 +348,19 @@ module _ (u : Setup) (setup : IsSetup u) (hierarchy : IsHierarchy (headers_of u.
   -- the folder's own program and the second
   pub own_second_same : SamePrograms (program_of u.classes u.links) (second u)
   own_second_same = replaced_same written_alike
+
+  -- the first program and the second
+  pub first_alike : ReplacesAlike (program_of u.classes u.links) u.r
+  first_alike = record {
+    no_init = flats.no_init;
+    members = flats.members;
+    plain_starts = flats.plain_starts;
+    are_added = λ number class is.
+        subst (AllByRecursion (IsAdded (program_of u.classes u.links) class)) (sym (setup.replaces.none_added number)) tt;
+    of_interface = λ number class is interface. setup.replaces.none_added number;
+  } where
+    flats : ReplacesAlike (program_of u.classes u.links) (flats_for_codes u.classes u.links u.flats)
+    flats = flats_alike u.classes u.links u.flats setup.linked
+
+  pub first_second_same : SamePrograms (first u) (second u)
+  first_second_same = both_replaced_same first_alike written_alike setup.replaces.none_added

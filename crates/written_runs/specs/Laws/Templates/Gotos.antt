@@ -22,7 +22,7 @@ use Rattle.flow_code.specs.WrittenUnits.{written_units}
 use Rattle.member_link.specs.Bodies.{falls_through}
 use Rattle.member_link.specs.Machine.Codes.{CodePoint, if_between, number_at}
 use Rattle.member_link.specs.Machine.Locals.{Jump, jump_of_null}
-use Rattle.member_link.specs.Machine.Ops.{Op, jump_by_null}
+use Rattle.member_link.specs.Machine.Ops.{Op, jump_by_null, meaningless}
 use Rattle.member_link.specs.Machine.Programs.{number_of_first}
 use Rattle.member_link.specs.Machine.Replaced.{map_numbered}
 use Rattle.member_link.specs.Machine.Runs.{Run}
@@ -392,3 +392,141 @@ module _ (u : Setup) (laws : TemplateLaws u) {measure : ℕ} {one other : Run} (
         units = refl;
         keep_below = keeps_whole u laws a;
       })
+
+  -- ---- comparisons with null
+
+  module _ (opcode to : ℕ) (is : a.settled.point.instr ≡ Of class (IfNull opcode to)) (site : ℕ)
+      (virtual : held (state_written a.settled.route) (operand a.settled.point.typed 0) ≡ Virt site)
+      (fits : (nat_le IFNULL opcode && nat_le opcode IFNONNULL) ≡ true) (value : Value) (below : List Value) (stack : a.f.stack ≡ value ∷ below) where
+    goes_on_by : (taken : Bool) → not (opcode == IFNULL) ≡ taken
+        → op_step (first u) (counted one) a.f a.ones (op_here u laws a class (IfNull opcode to))
+        ≡ with_top (counted one) a.ones (record a.f { place = if taken then flat_number u laws a to else a.f.place + 1; stack = below })
+    goes_on_by taken is_taken =
+        ap (λ (b : Bool). op_step (first u) (counted one) a.f a.ones (if b then jump_by_null opcode (flat_number u laws a to) else meaningless)) fits
+        ∙ ap (λ (some_stack : List Value). jump_step (counted one) a.f a.ones (flat_number u laws a to) (jump_of_null opcode some_stack))
+        (stack ∙ ap (λ (v : Value). v ∷ below) (operand_refers u laws a [] below value site stack virtual).is)
+        ∙ ap (λ (b : Bool). with_top (counted one) a.ones (record a.f { place = if b then flat_number u laws a to else a.f.place + 1; stack = below }))
+        is_taken
+
+    falls_on_null : (opcode == IFNULL) ≡ true → KeepsTurn u measure one other
+    falls_on_null test =
+        still_goes_next u laws a class (IfNull opcode to) (record {
+          is = is;
+          instrs = [];
+          told = ap (null_template (scope_in u a.in_planned.one) a.settled.route) virtual ∙ ap Some nothing;
+          own = tt;
+          gives = [];
+          row_locals = rw (test) refl;
+          takes = 1;
+          row_stack = rw (test) refl;
+          row_change = rw (test) refl;
+          opens = rw (test) refl;
+          falls = refl;
+          leaves = leaves_none (is_decided a.settled.point a.settled.route) refl;
+          top = value ∷ [];
+          below = below;
+          is_stack = stack;
+          many_top = refl;
+          given = [];
+          many_given = refl;
+          turned = goes_on_by false (ap not test);
+          given_refers = λ place other_site now slot there. absurd (none-some now there);
+          given_uninit = λ place source type now from there kept site_object. absurd (none-some now there);
+          middle = a.g;
+          straight = λ there. tt;
+          moved = λ there. refl;
+          units = refl;
+          below_also = a.g.stack;
+          given_also = [];
+          then_also = refl;
+          keep_below = virtual_gone u laws a value below site stack virtual;
+          keep_given = no_values;
+        }) where
+          none : edge_by a.settled.route (edges.Jump 0) ≡ None
+          none =
+              no_jump u laws a
+              (ap (λ (r : PlanRow). is_open (state_written a.settled.route) r.jump) (row_is u laws a class (IfNull opcode to) is)
+              ∙ rw (test, virtual) refl)
+
+          nothing : made_on_jump (scope_in u a.in_planned.one) a.settled.route ≡ []
+          nothing = rw (none) refl
+
+          leaves_none : (decided : Bool) → is_decided a.settled.point a.settled.route ≡ decided
+              → leaves_to a.settled.point a.settled.route ≡ None
+          leaves_none true told = rw (told, none) refl
+          leaves_none false told = rw (told) refl
+
+    jumps_on_object : (opcode == IFNULL) ≡ false → KeepsTurn u measure one other
+    jumps_on_object test =
+        still_jumps u laws a class (IfNull opcode to) (record {
+          is = is;
+          is_targets = refl;
+          falls = true;
+          is_falls = refl;
+          opens = rw (test) refl;
+          row_locals = rw (test) refl;
+          takes = 1;
+          row_stack = rw (test) refl;
+          row_change = rw (test) refl;
+          decided = rw (is, virtual) refl;
+          pops = [];
+          own_pops = tt;
+          told = ap (null_template (scope_in u a.in_planned.one) a.settled.route) virtual;
+          top = value ∷ [];
+          below = below;
+          is_stack = stack;
+          many_top = refl;
+          turned = goes_on_by true (ap not test);
+          middle = a.g;
+          straight = λ there. tt;
+          moved = λ there. refl;
+          units = refl;
+          keep_below = virtual_gone u laws a value below site stack virtual;
+        })
+
+  pub null_turns : (opcode to : ℕ) → a.settled.point.instr ≡ Of class (IfNull opcode to) → (instrs : List WInstr)
+      → written_at a class (IfNull opcode to) ≡ Some instrs
+      → KeepsTurn u measure one other
+  null_turns opcode to is instrs told = by (held (state_written a.settled.route) (operand a.settled.point.typed 0)) refl told where
+    by_test : (site : ℕ)
+        → held (state_written a.settled.route) (operand a.settled.point.typed 0) ≡ Virt site
+        → (nat_le IFNULL opcode && nat_le opcode IFNONNULL) ≡ true
+        → (value : Value) (below : List Value)
+        → a.f.stack ≡ value ∷ below
+        → (test : Bool)
+        → (opcode == IFNULL) ≡ test
+        → KeepsTurn u measure one other
+    by_test site virtual fits value below stack true test = falls_on_null opcode to is site virtual fits value below stack test
+    by_test site virtual fits value below stack false test = jumps_on_object opcode to is site virtual fits value below stack test
+
+    by_stack : (site : ℕ)
+        → held (state_written a.settled.route) (operand a.settled.point.typed 0) ≡ Virt site
+        → (nat_le IFNULL opcode && nat_le opcode IFNONNULL) ≡ true
+        → (stack : List Value)
+        → a.f.stack ≡ stack
+        → KeepsTurn u measure one other
+    by_stack site virtual fits [] empty =
+        absurd (here_not_stuck u laws a class (IfNull opcode to) is
+        (ap (λ (b : Bool). (op_step (first u) (counted one) a.f a.ones
+        (if b then jump_by_null opcode (flat_number u laws a to) else meaningless)).halt) fits
+        ∙ ap (λ (stack : List Value). (jump_step (counted one) a.f a.ones (flat_number u laws a to) (jump_of_null opcode stack)).halt) empty))
+    by_stack site virtual fits (value ∷ below) stack = by_test site virtual fits value below stack (opcode == IFNULL) refl
+
+    by_form : (site : ℕ)
+        → held (state_written a.settled.route) (operand a.settled.point.typed 0) ≡ Virt site
+        → (fits : Bool)
+        → (nat_le IFNULL opcode && nat_le opcode IFNONNULL) ≡ fits
+        → KeepsTurn u measure one other
+    by_form site virtual false other_form =
+        absurd (here_not_stuck u laws a class (IfNull opcode to) is
+        (ap (λ (b : Bool). (op_step (first u) (counted one) a.f a.ones
+        (if b then jump_by_null opcode (flat_number u laws a to) else meaningless)).halt) other_form))
+    by_form site virtual true fits = by_stack site virtual fits a.f.stack refl
+
+    by : (slot : Slot)
+        → held (state_written a.settled.route) (operand a.settled.point.typed 0) ≡ slot
+        → null_template (scope_in u a.in_planned.one) a.settled.route slot ≡ Some instrs
+        → KeepsTurn u measure one other
+    by Plain is_slot written_it = absurd (none-some instrs written_it)
+    by Unusable is_slot written_it = absurd (none-some instrs written_it)
+    by (Virt site) is_slot written_it = by_form site is_slot (nat_le IFNULL opcode && nat_le opcode IFNONNULL) refl
