@@ -25,3 +25,4 @@ pub mod Still
 pub mod Stores
 pub mod Turns
 pub mod Working
+pub mod Sames
