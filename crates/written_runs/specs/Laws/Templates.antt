@@ -26,3 +26,4 @@ pub mod Stores
 pub mod Turns
 pub mod Working
 pub mod Sames
+pub mod Whole
