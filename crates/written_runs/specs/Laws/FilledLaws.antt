@@ -108,7 +108,7 @@ module _ {u : Setup} (grounds : Grounds u) (laws : RunLaws) where
       own = λ measure one other t none f g ones others is is_also in_own below.
           own_turn u turns measure one other t none f g ones others is is_also in_own below;
       planned = λ measure one other t none f g ones others is is_also in_planned settled below low.
-          planned_turn u settle planned measure one other (record {
+          planned_turn u planned measure one other (record {
             t = t;
             none_now = none;
             f = f;

@@ -1,2 +1,29 @@
--- Templates.
+-- Instructions of which a template is written.
+pub mod Arriving
+pub mod Changed
+pub mod ChangedTurns
+pub mod Classes
+pub mod Dropped
+pub mod Edges
+pub mod Fields
+pub mod Gets
+pub mod Gotos
+pub mod Holding
+pub mod Instrs
+pub mod Items
+pub mod Jumps
+pub mod Known
+pub mod Loads
+pub mod Monitors
+pub mod Moving
+pub mod News
+pub mod Onward
+pub mod Operands
+pub mod Slots
 pub mod Stacks
+pub mod Still
+pub mod Stores
+pub mod Turns
+pub mod Working
+pub mod Sames
+pub mod Whole

@@ -67,7 +67,6 @@ use Rattle.written_runs.specs.Laws.Halfway.{Halfway}
 use Rattle.written_runs.specs.Laws.PlannedTurns.{AtPlanned, PlannedParts, written_at}
 use Rattle.written_runs.specs.Laws.Settling.{SettleLaws}
 use Rattle.written_runs.specs.Laws.Simulation.{KeepsTurn}
-use Rattle.written_runs.specs.Laws.Turned.{BehindMoves}
 
 -- ---- what rows say of operations
 
@@ -327,7 +326,7 @@ module _ (u : Setup) (laws : CarriedLaws u) (parts : OpenCarried u) where
   pub planned_parts : ((measure : ℕ) (one other : Run) (a : AtPlanned u measure one other) (class : ℕ) (instr : Instr) (instrs : List WInstr)
       → a.settled.point.instr ≡ Of class instr
       → written_at a class instr ≡ Some instrs
-      → BehindMoves u measure one other)
+      → KeepsTurn u measure one other)
       → PlannedParts u
   planned_parts by_template = record {
     by_template = by_template;
