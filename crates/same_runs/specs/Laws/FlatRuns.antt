@@ -76,6 +76,16 @@ module _ (classes : Classes) (s : Scope) (flat : FlatCode) where
 -- ---- points of flat code
 
 module _ (classes : Classes) (links : Links) (s : Scope) (flat : FlatCode) where
+  -- a point, with handlers by the numbers of places
+  pub numbered_point_is : (n : ℕ) (point : FlatPoint)
+      → slice_get flat.points n ≡ Some point
+      → slice_get (flat_code classes links s flat).points n
+      ≡ Some (run_point links (number_at (flat_points classes s flat)) (flat_point classes s flat n point))
+  numbered_point_is n point is =
+      slice_get-map (run_point links (number_at (flat_points classes s flat))) (flat_points classes s flat) n
+      ∙ ap (option_map (run_point links (number_at (flat_points classes s flat))))
+      (from_zero (flat_point classes s flat) flat.points n ∙ ap (option_map (flat_point classes s flat n)) is)
+
   -- a point of flat code as the machine runs it
   abbrev pub flat_run_point : FlatPoint → Point
   flat_run_point point = record {
@@ -88,9 +98,7 @@ module _ (classes : Classes) (links : Links) (s : Scope) (flat : FlatCode) where
       → BeginWithin classes s flat point.handlers
       → slice_get (flat_code classes links s flat).points n ≡ Some (flat_run_point point)
   flat_points_are n point is within =
-      slice_get-map (run_point links (number_at (flat_points classes s flat))) (flat_points classes s flat) n
-      ∙ ap (option_map (run_point links (number_at (flat_points classes s flat))))
-      (from_zero (flat_point classes s flat) flat.points n ∙ ap (option_map (flat_point classes s flat n)) is)
+      numbered_point_is n point is
       ∙ ap (λ (catches : List Catch). Some (record {
         op = item_op links (number_at (flat_points classes s flat)) (instr_scope classes s flat point.instr) (flat_item point.instr);
         catches = catches;

@@ -13,7 +13,7 @@ use Rattle.same_runs.specs.Laws.FoundMembers.{FieldLaws}
 use Rattle.typed_runs.specs.TypedPrograms.{IsTypedProgram, Typings}
 use Rattle.typed_runs.specs.TypedWorlds.{StaysTyped, TypedWorld}
 use Rattle.written_runs.specs.Inner.Setup.{IsSetup, Setup, first, second}
-use Rattle.written_runs.specs.Laws.AddedFree.{AddsWhereFree}
+use Rattle.written_runs.specs.Laws.AddedConstructors.{AddsToCandidates, first_second_same}
 use Rattle.written_runs.specs.Laws.AloneTurns.{alone_turn}
 use Rattle.written_runs.specs.Laws.BeginningTurns.{beginning_turn}
 use Rattle.written_runs.specs.Laws.BothTurns.{Basis}
@@ -27,7 +27,7 @@ use Rattle.written_runs.specs.Laws.OwnFrames.{FrameLaws, ReturnsToPlanned, Unwin
 use Rattle.written_runs.specs.Laws.OwnOperations.{own_operations}
 use Rattle.written_runs.specs.Laws.OwnTurns.{TurnLaws, own_turn}
 use Rattle.written_runs.specs.Laws.PlannedTurns.{PlannedParts, planned_turn}
-use Rattle.written_runs.specs.Laws.SameBoth.{begin_alike, same_programs}
+use Rattle.written_runs.specs.Laws.SameBoth.{begin_alike}
 use Rattle.written_runs.specs.Laws.Settling.{SettleLaws}
 use Rattle.written_runs.specs.Laws.Simulation.{Parts, runs_the_same}
 
@@ -44,11 +44,11 @@ pub record RunLaws : Type 0 where
   pub starts : (P : Program) (T : Typings) → IsTypedProgram P T → TypedWorld P T start
   pub grows : TurnsGrow
 
--- The setup, of a folder that is a hierarchy; and methods are added only to classes that may have a field constructor.
+-- The setup, of a folder that is a hierarchy; and field constructors are added only to classes of candidates' chains.
 pub record Grounds (u : Setup) : Type 0 where
   pub setup : IsSetup u
   pub hierarchy : IsHierarchy (headers_of u.classes)
-  pub adds : AddsWhereFree u.classes u.s
+  pub adds : AddsToCandidates u
 
 module _ {u : Setup} (grounds : Grounds u) (laws : RunLaws) where
   -- ---- the records
@@ -56,7 +56,7 @@ module _ {u : Setup} (grounds : Grounds u) (laws : RunLaws) where
   pub basis : SettleLaws u → Basis u
   basis settle = record {
     settle = settle;
-    same = same_programs grounds.setup grounds.hierarchy grounds.adds;
+    same = first_second_same u grounds.setup grounds.hierarchy grounds.adds;
     alike = begin_alike grounds.setup grounds.hierarchy grounds.adds;
     steps_typed = λ w typed. laws.steps (first u) u.typings w typed;
     codes = own_codes grounds.setup;
@@ -66,7 +66,7 @@ module _ {u : Setup} (grounds : Grounds u) (laws : RunLaws) where
 
   pub frame_laws : UnwindsPlanned u → ReturnsToPlanned u → FrameLaws u
   frame_laws unwinds returns = record {
-    same = same_programs grounds.setup grounds.hierarchy grounds.adds;
+    same = first_second_same u grounds.setup grounds.hierarchy grounds.adds;
     codes = own_codes grounds.setup;
     unwinds = unwinds;
     returns = returns;
@@ -108,7 +108,7 @@ module _ {u : Setup} (grounds : Grounds u) (laws : RunLaws) where
       own = λ measure one other t none f g ones others is is_also in_own below.
           own_turn u turns measure one other t none f g ones others is is_also in_own below;
       planned = λ measure one other t none f g ones others is is_also in_planned settled below low.
-          planned_turn u settle planned measure one other (record {
+          planned_turn u planned measure one other (record {
             t = t;
             none_now = none;
             f = f;

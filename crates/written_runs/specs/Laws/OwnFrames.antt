@@ -149,13 +149,13 @@ stands_free (beginnings_stand below) = beginnings_stand below
 stands_free (own_stand own below) = own_stand own below
 stands_free (planned_stand in_planned waits below) = planned_stand in_planned (λ impossible. absurd (false≢true impossible)) below
 
-above_awaited : (u : Setup) (f : MethodState) (method : RunMethod)
+pub above_awaited : (u : Setup) (f : MethodState) (method : RunMethod)
     → run_method (first u) f.at ≡ Some method
     → is_initialiser method ≡ false
     → IsAwaited (above_of (first u) (Method f))
 above_awaited u f method is named = rw (is, named) tt
 
-typed_below : (u : Setup) {heap : Heap} {above : Above} {f : MethodState} {ones : List RunFrame}
+pub typed_below : (u : Setup) {heap : Heap} {above : Above} {f : MethodState} {ones : List RunFrame}
     → FramesConform (first u) u.typings heap above (Method f ∷ ones)
     → FramesConform (first u) u.typings heap (above_of (first u) (Method f)) ones
 typed_below u (upon conforms rest) = rest
@@ -183,7 +183,7 @@ module _ (u : Setup) (laws : FrameLaws u) (virtuals : Virtuals) (known : Known) 
   UnwindsSo names ones others = Unwinds P Q (GoesFewer u virtuals known) (GoesFewer u virtuals known) names ones others
 
   -- below a method that is no class initialiser frames wait
-  waits_below : (f g : MethodState) (method : RunMethod)
+  pub waits_below : (f g : MethodState) (method : RunMethod)
       → run_method P f.at ≡ Some method
       → g.at ≡ f.at
       → is_initialiser method ≡ false
@@ -191,7 +191,7 @@ module _ (u : Setup) (laws : FrameLaws u) (virtuals : Virtuals) (known : Known) 
   waits_below f g method is at plain = ap (is_awaited u) at ∙ awaited_is (first u) f.at method false is plain
 
   -- frames that stood below go together by themselves
-  goes_below : {waiting : Bool} {names : Names} {rest rest_also : List RunFrame}
+  pub goes_below : {waiting : Bool} {names : Names} {rest rest_also : List RunFrame}
       → OwnedBelow u virtuals rest
       → Stands u virtuals known waiting names rest rest_also
       → Together names rest rest_also
@@ -303,6 +303,25 @@ module _ (u : Setup) (laws : FrameLaws u) (virtuals : Virtuals) (known : Known) 
 
   -- ---- a method on top that runs its own code
 
+  -- a result goes to the frame below
+  pub below_same : {names : Names} {heap : Heap} {waiting : Bool} {above : Above} {ones others : List RunFrame}
+      → Stands u virtuals known waiting names ones others
+      → waiting ≡ true
+      → OwnedBelow u virtuals ones
+      → IsAwaited above
+      → FramesConform P u.typings heap above ones
+      → SameBelow P Q (over_turn u virtuals known) names ones others
+  below_same none_stand told there awaited conforms = none_below
+  below_same (libraries_stand held lower) told there awaited conforms = library_below held (library_goes (owned_below there) lower)
+  below_same (beginnings_stand lower) told there awaited conforms = beginnings_below
+  below_same {names = names} (own_stand own_there lower) told there awaited conforms =
+      methods_below (λ values also are.
+      own_goes_on (owned_below there) (names_themselves names) (own_resumed values also (names_themselves names) own_there are) lower)
+  below_same {names = names} {heap = heap} (planned_stand {f = one} {g = other} {ones = ones} {others = others} in_planned waits lower) told there awaited conforms =
+      methods_below (λ values also are.
+      laws.returns.resumes virtuals known names heap one other ones others values also
+      (waits_planned in_planned (waits told) lower there awaited conforms) are)
+
   module _ {names : Names} {heap : Heap} {f g : MethodState} {rest rest_also : List RunFrame} (own : InOwn u names f g)
       (below : Stands u virtuals known (is_awaited u g.at) names rest rest_also) (owned : OwnedBelow u virtuals rest)
       (typed : FramesConform P u.typings heap nothing_awaited (Method f ∷ rest)) where
@@ -353,25 +372,6 @@ module _ (u : Setup) (laws : FrameLaws u) (virtuals : Virtuals) (known : Known) 
           (own_changed place place ones others units units_also (names_themselves names) own refl are shifted) below;
       unwinds = λ more grows. throws grows (own_more grows own) refl refl refl;
     }
-
-    -- a result goes to the frame below
-    below_same : {waiting : Bool} {above : Above} {ones others : List RunFrame}
-        → Stands u virtuals known waiting names ones others
-        → waiting ≡ true
-        → OwnedBelow u virtuals ones
-        → IsAwaited above
-        → FramesConform P u.typings heap above ones
-        → SameBelow P Q (over_turn u virtuals known) names ones others
-    below_same none_stand told there awaited conforms = none_below
-    below_same (libraries_stand held lower) told there awaited conforms = library_below held (library_goes (owned_below there) lower)
-    below_same (beginnings_stand lower) told there awaited conforms = beginnings_below
-    below_same (own_stand own_there lower) told there awaited conforms =
-        methods_below (λ values also are.
-        own_goes_on (owned_below there) (names_themselves names) (own_resumed values also (names_themselves names) own_there are) lower)
-    below_same (planned_stand {f = one} {g = other} {ones = ones} {others = others} in_planned waits lower) told there awaited conforms =
-        methods_below (λ values also are.
-        laws.returns.resumes virtuals known names heap one other ones others values also
-        (waits_planned in_planned (waits told) lower there awaited conforms) are)
 
     -- behind the method's end
     pub own_returns : Returns P Q (over_turn u virtuals known) names f g rest rest_also

@@ -1,15 +1,13 @@
 -- The second run goes on quietly to where the instruction of the topmost planned frame is next in both: through make code before the instruction, or
 -- on the edge over which control comes, and over the goto at the end of a pad.
-use Rattle.std.proofs.Common.{◌≡◌, ◌≢◌, ◌≤◌, ◌<◌, ◌+◌, ◌-◌, ◌++◌, ℕ, zero, suc, Bool, true, false, List, [], ◌∷◌, drop, length, map, reverse, slice_get, Option, Some, None, option_map, IsTrue, refl, sym, ap, subst, ◌∙◌, arith, inl}
+use Rattle.std.proofs.Common.{◌≡◌, ◌≢◌, ◌≤◌, ◌+◌, ◌-◌, ◌++◌, ℕ, suc, Bool, true, false, List, [], ◌∷◌, drop, length, map, slice_get, Some, None, option_map, IsTrue, refl, sym, ap, subst, ◌∙◌, arith, inl}
 use Rattle.std.specs.List.{find}
 use Rattle.std.proofs.lemmas.Bool.{false≢true}
-use Rattle.std.proofs.lemmas.List.{length-append}
 use Rattle.std.proofs.lemmas.Option.{none-some, same_Some}
 use Rattle.class_model.specs.declared.class_file.MethodAt.{MethodAt}
 use Rattle.class_model.specs.declared.instr.Instr.TheVariants.{Goto}
 use Rattle.flow_code.specs.FlatCode.{FlatCode}
 use Rattle.flow_code.specs.declared.point.Point.{Point}
-use Rattle.flow_code.specs.declared.point.Site.{Site}
 use Rattle.machine_values.specs.Frames.{MethodState}
 use Rattle.machine_values.specs.declared.frame.RunFrame.{RunFrame}
 use Rattle.machine_values.specs.declared.frame.RunFrame.TheVariants.{Beginning, Method}
@@ -19,14 +17,13 @@ use Rattle.making_code.specs.MakeCode.{make_code}
 use Rattle.making_code.specs.MakeOrder.{IsMakeOrder}
 use Rattle.member_link.specs.Machine.Programs.{Code, code_at}
 use Rattle.member_link.specs.Machine.Runs.{Run}
-use Rattle.member_link.specs.Machine.Worlds.{World}
 use Rattle.member_link.specs.Scope.{Scope, scope_at}
 use Rattle.plan_flow.specs.Laws.RoutedPlans.{EdgeLeads, HasOneEffect, HasRoute, IsRouteOf, leads_of, route_at, route_of}
 use Rattle.plan_flow.specs.Laws.WrittenBlocks.{block_finished, first_block, first_item, first_of, next_first, next_starts, own_first, own_number, own_second, starts_at, blocks_left, first_begins, made_next, next_of, StandsNext, goes_on, makes_first}
 use Rattle.plan_flow.specs.Laws.WrittenPads.{StandsFirst, comes_nowhere, none_finished, pad_block}
 use Rattle.plan_flow.specs.MetPlans.{MeetsState, RefersToSite}
 use Rattle.plan_flow.specs.PlanScope.{PlanScope}
-use Rattle.plan_flow.specs.Plans.{HasPlainBeneathTop, IsMadeIn, IsValidAt, planned}
+use Rattle.plan_flow.specs.Plans.{IsMadeIn, IsValidAt, planned, state_left}
 use Rattle.plan_flow.specs.Written.Blocks.{Block, BlockOf, blocks_of, handler_pad, instruction_block, jump_pad, state_written}
 use Rattle.plan_flow.specs.Written.Finish.{End, Finished, begins_point, comes_to, end_items, end_of, finish, goto_end, is_empty, no_end}
 use Rattle.plan_flow.specs.Written.Routes.{IsRoute, Route, RouteEdge, edge_by, is_kind}
@@ -41,23 +38,23 @@ use Rattle.same_runs.specs.Simulations.{at_once}
 use Rattle.typed_runs.specs.TypedWorlds.{TypedWorld}
 use Rattle.virtual_state.specs.Laws.Fields.{unusable_made}
 use Rattle.virtual_state.specs.Laws.Objects.{found_present, found_site}
-use Rattle.virtual_state.specs.Laws.Removals.{without_none}
+use Rattle.virtual_state.specs.Laws.Removals.{without_is_state, without_none}
 use Rattle.virtual_state.specs.Sites.{has}
-use Rattle.virtual_state.specs.States.{IsState, State, is_present, is_unusable, object_of}
+use Rattle.virtual_state.specs.States.{IsState, State, is_present, is_unusable}
 use Rattle.virtual_state.specs.Without.{without}
 use Rattle.virtual_state.specs.declared.slot.Slot.TheVariants.{Virt}
-use Rattle.written_runs.specs.Laws.Halfway.{CanMake, GoesOn, Halfway, goes_then, jumps_on, makes_on}
-use Rattle.written_runs.specs.Laws.KnownClasses.{classes_in, halfway_knowing, met_here, met_left}
+use Rattle.written_runs.specs.Laws.Halfway.{GoesOn, Halfway, goes_then, jumps_on, makes_on}
+use Rattle.written_runs.specs.Laws.KnownClasses.{halfway_knowing, met_here, met_left}
 use Rattle.written_runs.specs.Laws.MadeItems.{AreOwn, HasSome, behind_made, length_made, made_at, made_in_form, made_some, make_code_some, own_make_code}
-use Rattle.written_runs.specs.Laws.EdgesPlain.{edges_plain}
+use Rattle.written_runs.specs.Laws.Uncovered.{IsUncovered, can_be_saved}
+use Rattle.written_runs.specs.Laws.UncoveredPlans.{GivesOnTop, uncovered_along, uncovered_at}
 use Rattle.written_runs.specs.Laws.NextEdges.{next_follows}
-use Rattle.written_runs.specs.Laws.SavedEntries.{PlainBelowTop, can_be_saved, entry_has, plain_below}
-use Rattle.written_runs.specs.Laws.TypedKept.{HasPairs, HasPlaces, TypesEntries, can_be_kept, places_of, stack_type}
-use Rattle.written_runs.specs.Inner.MadeObjects.{CanBeSaved, MakesObjects, StandAt}
+use Rattle.written_runs.specs.Laws.TypedKept.{HasPlaces, TypesEntries, can_be_kept, entry_there, places_of}
+use Rattle.written_runs.specs.Inner.MadeObjects.{MakesObjects}
 use Rattle.written_runs.specs.Inner.PlannedFrames.{AtBlock, InPlanned, IsBlock, IsMet, IsOfSite, IsReached, IsInstructionOf, IsTold, Keeps, Known, MakesOn, Moment, arrives, blocks_in, of_first, of_handler, of_jump, of_next, of_own, scope_in, stays, waits}
 use Rattle.written_runs.specs.Inner.Setup.{IsSetup, Setup, first, second}
 use Rattle.written_runs.specs.Inner.Standing.{Stands, apart, comparison, is_awaited, beginnings_stand, libraries_stand, none_stand, own_stand, planned_stand}
-use Rattle.written_runs.specs.Inner.Together.{Along, AreKnown, AreOwned, IsSettled, Related, Together, TopIsSettled, points_left, weight}
+use Rattle.written_runs.specs.Inner.Together.{Along, AreKnown, AreOwned, Related, Together, points_left, weight}
 use Rattle.written_runs.specs.VirtualObjects.{Tells, stack_slots}
 use Rattle.written_runs.specs.WrittenRuns.{IsReadyMethod}
 
@@ -66,6 +63,8 @@ pub record SettleLaws (u : Setup) : Type 0 where
   pub is_setup : IsSetup u
   pub making : MakesObjects u
   pub one_effect : (w : WrittenMethod) → HasOneEffect (scope_in u w)
+  -- a new object comes to lie on top of the stack
+  pub on_top : (at : MethodAt) (w : WrittenMethod) → u.written at ≡ Some w → GivesOnTop (scope_in u w)
   -- the second program runs written code
   pub code : (at : MethodAt) (w : WrittenMethod) (host : Scope)
       → u.written at ≡ Some w
@@ -77,7 +76,7 @@ pub record SettleLaws (u : Setup) : Type 0 where
 -- ---- lists
 
 -- an edge that is found is one of the route
-found_edge : (wanted : RouteEdge → Bool) (all : List RouteEdge) (edge : RouteEdge) → find wanted all ≡ Some edge
+pub found_edge : (wanted : RouteEdge → Bool) (all : List RouteEdge) (edge : RouteEdge) → find wanted all ≡ Some edge
     → (number : ℕ) × (slice_get all number ≡ Some edge)
 found_edge wanted [] edge is = absurd (none-some edge is)
 found_edge wanted (first ∷ all) edge is = by (wanted first) refl (found_edge wanted all edge) where
@@ -90,7 +89,7 @@ found_edge wanted (first ∷ all) edge is = by (wanted first) refl (found_edge w
 -- ---- how blocks of make code end
 
 -- one that goes on to the block behind it
-ends_plain : (flat : FlatCode) (block : Block) (behind : List Finished) → block.leaves ≡ None → is_empty block.items ≡ false
+pub ends_plain : (flat : FlatCode) (block : Block) (behind : List Finished) → block.leaves ≡ None → is_empty block.items ≡ false
     → end_of flat block behind ≡ no_end
 ends_plain flat block behind none some = rw (none, some) refl
 
@@ -118,12 +117,11 @@ made_block form flat block end instrs items own same =
 
 -- what make code asks of the state of a point and the set
 pub record CanBeMade (point : Point) (state : State) (made order : List ℕ) : Type 0 where
-  pub plain : PlainBelowTop point state
-  pub pairs : HasPairs point
   pub places : HasPlaces point state
   pub is_state : IsState state
   pub is_made : IsMadeIn state made
   pub is_order : IsMakeOrder state.objects made order
+  pub uncovered : IsUncovered point.typed.stack (stack_slots point state) made
 
 -- the target of an edge is the point at which the first frame stands: its route, and the state that is left
 pub record Onwards (w : WrittenMethod) (place : ℕ) (point : Point) (edge : RouteEdge) : Type 0 where
@@ -147,10 +145,6 @@ module _ (u : Setup) (laws : SettleLaws u) where
     route = there.route;
     reached = record { is_point = is_point; is_route = there.is_route };
     can = record {
-      pairs = there_pairs;
-      plain =
-          plain_below (scope_in u w) f.place point there.route.state is_point
-          (subst (HasPlainBeneathTop (scope_in u w) f.place) (sym there.is.state) planned_there.is_planned.beneath);
       places = there_places;
       is_state = subst IsState (sym there.is.state) planned_there.is_planned.state.is_state;
       is_made =
@@ -159,12 +153,11 @@ module _ (u : Setup) (laws : SettleLaws u) where
       is_order =
           subst (λ (state : State). IsMakeOrder state.objects there.route.made there.route.order) (sym there.is.state)
           (subst (λ (made : List ℕ). IsMakeOrder lead.target.state.objects made there.route.order) (sym there.is.made) there.is.order);
+      uncovered =
+          subst (λ (state : State). IsUncovered point.typed.stack (stack_slots point state) there.route.made) (sym there.is.state)
+          (uncovered_at (scope_in u w) f.place point lead.target.state there.route.made is_point planned_there.is_planned.beneath);
     };
     can_edge = record {
-      pairs = there_pairs;
-      plain =
-          edges_plain laws.is_setup f.at w at number.0 before point route edge written reached number.1
-          (ap (slice_get w.flat.points) to ∙ is_point);
       places = record {
         are = sym (unusable_made (has edge.made) edge.state.slots)
             ∙ ap (λ (state : State). map is_unusable state.slots) (sym lead.left ∙ sym there.is.state)
@@ -173,6 +166,9 @@ module _ (u : Setup) (laws : SettleLaws u) where
       is_state = lead.is_state;
       is_made = lead.is_made;
       is_order = lead.is_order;
+      uncovered =
+          uncovered_along (scope_in u w) of_method.plan at before from.point route number.0 edge point edge.made (laws.on_top f.at w written)
+          from_state planned_from from.is reached.is_point number.1 (ap (slice_get w.flat.points) to ∙ is_point);
     };
     left = sym lead.left ∙ sym there.is.state;
   } where
@@ -193,6 +189,18 @@ module _ (u : Setup) (laws : SettleLaws u) where
     planned_there : IsValidAt (scope_in u w) of_method.plan f.place lead.target
     planned_there = of_method.valid.each f.place lead.target target_at
 
+    from : IsRouteOf (scope_in u w) of_method.plan at at route
+    from =
+        let all = route_of (scope_in u w) 0 of_method.plan w.routes at route of_method.routed reached.is_route in
+        record { point = all.point; reached = all.reached; is = subst (λ (n : ℕ). IsRoute (scope_in u w) n all.point route) (omega arith) all.is }
+
+    planned_from : IsValidAt (scope_in u w) of_method.plan at from.point
+    planned_from = of_method.valid.each at from.point from.reached
+
+    from_state : IsState (state_left from.point)
+    from_state =
+        without_is_state from.point.state (has from.point.made) planned_from.is_planned.state.is_state planned_from.is_planned.made.closed
+
     there : HasRoute (scope_in u w) w.routes f.place f.place lead.target
     there =
         let found_route = route_at (scope_in u w) 0 of_method.plan w.routes f.place lead.target of_method.routed target_at in
@@ -201,9 +209,6 @@ module _ (u : Setup) (laws : SettleLaws u) where
           is_route = found_route.is_route;
           is = subst (λ (n : ℕ). IsRoute (scope_in u w) n lead.target found_route.route) (omega arith) found_route.is;
         }
-
-    there_pairs : HasPairs point
-    there_pairs = laws.types.pairs w f.at f.place point there.route written (record { is_point = is_point; is_route = there.is_route })
 
     there_places : HasPlaces point there.route.state
     there_places =
@@ -216,10 +221,6 @@ module _ (u : Setup) (laws : SettleLaws u) where
       → IsReached w at point route
       → CanBeMade point route.state route.made route.order
   can_at f w at point route written reached = record {
-    pairs = laws.types.pairs w f.at at point route written reached;
-    plain =
-        plain_below (scope_in u w) at point route.state reached.is_point
-        (subst (HasPlainBeneathTop (scope_in u w) at) (sym there.is.state) here.is_planned.beneath);
     places =
         places_of u w at point route.state reached.is_point
         (ap (λ (state : State). map is_unusable state.slots) there.is.state ∙ here.is_planned.state.places);
@@ -230,6 +231,9 @@ module _ (u : Setup) (laws : SettleLaws u) where
     is_order =
         subst (λ (state : State). IsMakeOrder state.objects route.made route.order) (sym there.is.state)
         (subst (λ (made : List ℕ). IsMakeOrder there.point.state.objects made route.order) (sym there.is.made) there.is.order);
+    uncovered =
+        subst (λ (state : State). IsUncovered point.typed.stack (stack_slots point state) route.made) (sym there.is.state)
+        (uncovered_at (scope_in u w) at point there.point.state route.made reached.is_point here.is_planned.beneath);
   } where
     ready : IsReadyMethod u.classes u.links f.at w
     ready = laws.is_setup.ready f.at w written
@@ -252,8 +256,8 @@ module _ (u : Setup) (laws : SettleLaws u) where
   meets_of one f rest w known point route are_known typed stands written reached met = record {
     locals = λ unit site is. let found = met.locals unit site is in (found.0, found.1, of_site site found.0 found.2);
     stack = λ entry site is.
-        let type = stack_type (can_at f w f.place point route written reached).places entry (Virt site) is in
-        let full = entry_has laws.is_setup laws.types.frames typed stands written reached.is_point entry type.0 type.1 in
+        let full = entry_there point route.state f entry (Virt site) (can_at f w f.place point route written reached).places
+        (laws.types.stacks one.world f rest w point typed stands written reached.is_point) is in
         (full.0, full.1, of_site site full.0 (met.stack entry site full.0 is full.1));
   } where
     of_site : (site : ℕ) (value : Value) → IsOfSite u known w site value
@@ -358,8 +362,11 @@ module _ (u : Setup) (laws : SettleLaws u) where
             each = λ more within.
                 made_at w.form (blocks_in u w) number finished (make_code w.flat f.place state made order) tail more is_finished items within;
           };
-          savable = can_be_saved laws.is_setup laws.types.frames h.typed h.stands (ap u.written h.at ∙ h.is_written) is_point state made can.plain;
-        }) (can_be_kept laws.is_setup laws.types h is_point can.places can.pairs)
+          savable =
+              can_be_saved w f.place point state made f is_point can.uncovered
+              (laws.types.stacks one.world f rest w point h.typed h.stands (ap u.written h.at ∙ h.is_written) is_point)
+              (laws.types.kinds one.world f rest w point h.typed h.stands (ap u.written h.at ∙ h.is_written) is_point);
+        }) (can_be_kept laws.is_setup laws.types h is_point can.places)
 
     -- there is an instruction, where an object is made
     some_code : (r : Run) (state : State) (site : ℕ) (sites order : List ℕ) (place : ℕ)
@@ -520,9 +527,11 @@ module _ (u : Setup) (laws : SettleLaws u) where
           code : List WInstr
           code = make_code w.flat f.place edge.state edge.made edge.order
 
+          ready : IsReadyMethod u.classes u.links f.at w
+          ready = laws.is_setup.ready f.at w written
+
           follows : suc at ≡ f.place
           follows =
-              let ready = laws.is_setup.ready f.at w written in
               sym (next_follows s ready.plan w.routes at before route edge ready.routed reached.is_point reached.is_route makes.found) ∙ to
 
           code_is : code ≡ make_code w.flat edge.to edge.state (site ∷ sites) edge.order

@@ -1,11 +1,10 @@
 -- What typing of the first run tells make code of a frame at a point, by a state that has the places of the point.
-use Rattle.std.proofs.Common.{◌≡◌, ◌≢◌, ℕ, zero, suc, Bool, true, false, List, [], ◌∷◌, ◌++◌, drop, length, map, slice_get, take, Option, Some, None, option_map, IsTrue, refl, sym, ap, subst, ◌∙◌}
+use Rattle.std.proofs.Common.{◌≡◌, ◌≢◌, ℕ, zero, suc, Bool, true, false, List, [], ◌∷◌, ◌++◌, ◌<◌, drop, get_or, length, map, reverse, slice_get, take, Option, Some, None, option_map, IsTrue, refl, sym, ap, subst, ◌∙◌, arith}
 use Rattle.std.proofs.lemmas.Bool.{false≢true, true≢false}
-use Rattle.std.proofs.lemmas.List.{length-map}
-use Rattle.std.proofs.lemmas.Option.{none-some, same_Some, slice_get-map}
-use Rattle.class_model.specs.Frames.{is_top, is_wide}
+use Rattle.std.proofs.lemmas.List.{length-map, length-reverse}
+use Rattle.std.proofs.lemmas.Option.{none-some, same_Some, slice_get-get_or, slice_get-map, slice_get_within}
+use Rattle.class_model.specs.Frames.{is_top}
 use Rattle.class_model.specs.Laws.Lists.{at_index}
-use Rattle.class_model.specs.declared.class_file.MethodAt.{MethodAt}
 use Rattle.class_model.specs.declared.descriptor.FieldType.{FieldType}
 use Rattle.class_model.specs.declared.frame.VType.{VType}
 use Rattle.class_model.specs.declared.frame.VType.TheVariants.{Top, Int, Float, Long, Double, Null, UninitThis, Object, Uninit}
@@ -15,22 +14,22 @@ use Rattle.flow_code.specs.declared.point.Point.{Point}
 use Rattle.flow_code.specs.declared.point.Site.{Site}
 use Rattle.machine_values.specs.Frames.{MethodState}
 use Rattle.machine_values.specs.Heaps.{object_at}
-use Rattle.machine_values.specs.Values.{have_kinds, is_wide_value}
+use Rattle.machine_values.specs.Values.{has_kind, have_kinds, is_wide_value}
 use Rattle.machine_values.specs.declared.frame.RunFrame.{RunFrame}
 use Rattle.machine_values.specs.declared.frame.RunFrame.TheVariants.{Method}
 use Rattle.machine_values.specs.declared.object.Object.{Object as RunObject}
 use Rattle.machine_values.specs.declared.object.Shape.TheVariants.{Folder}
 use Rattle.machine_values.specs.declared.value.Value.{Value}
+use Rattle.machine_values.specs.declared.value.Value.TheVariants.{Null as NullValue}
+use Rattle.making_code.specs.MakeCode.{kind_of_type}
 use Rattle.member_link.specs.FieldConstructors.{field_types}
 use Rattle.member_link.specs.Machine.Programs.{folder_number}
 use Rattle.member_link.specs.Machine.Runs.{Run}
 use Rattle.member_link.specs.Machine.Worlds.{World}
 use Rattle.plan_flow.specs.PlanScope.{local_types, stack_types}
 use Rattle.plan_flow.specs.Plans.{unusable_places}
-use Rattle.plan_flow.specs.Written.Routes.{Route}
 use Rattle.plan_flow.specs.Written.WrittenPrograms.{WrittenMethod}
 use Rattle.same_runs.specs.SameMemories.{StaysApart}
-use Rattle.typed_runs.specs.FolderTypings.{HasFlatTypings}
 use Rattle.typed_runs.specs.TypedWorlds.{TypedWorld}
 use Rattle.virtual_state.specs.Laws.Objects.{found_present, found_site}
 use Rattle.virtual_state.specs.States.{State, is_present, is_unusable, object_of}
@@ -38,31 +37,46 @@ use Rattle.virtual_state.specs.declared.slot.Slot.{Slot}
 use Rattle.virtual_state.specs.declared.slot.Slot.TheVariants.{Plain, Virt, Unusable}
 use Rattle.virtual_state.specs.declared.slot.VObject.{VObject}
 use Rattle.written_runs.specs.Inner.MadeObjects.{CanBeKept}
-use Rattle.written_runs.specs.Inner.PlannedFrames.{IsReached, Known, scope_in}
+use Rattle.written_runs.specs.Inner.PlannedFrames.{Known, scope_in}
 use Rattle.written_runs.specs.Inner.Setup.{IsSetup, Setup, first}
 use Rattle.written_runs.specs.Inner.Standing.{apart}
 use Rattle.written_runs.specs.Laws.Halfway.{Halfway}
 use Rattle.written_runs.specs.Laws.LessVirtual.{one_owner}
-use Rattle.written_runs.specs.Laws.SavedEntries.{local_wide, stack_is}
 use Rattle.written_runs.specs.VirtualObjects.{HasVirtual, TellsObject, Virtual, local_slots, stack_slots}
 use Rattle.written_runs.specs.WrittenRuns.{IsReadyMethod}
 
--- behind a long or double among the local units is Top
-pub record HasPairs (point : Point) : Type 0 where
-  pub each : (unit : ℕ) (type : VType)
-      → slice_get point.typed.locals unit ≡ Some type
-      → IsTrue (is_wide type)
-      → slice_get point.typed.locals (suc unit) ≡ Some Top
-
 -- what typing gives
 pub record TypesEntries (u : Setup) : Type 0 where
-  -- the frames of the methods that are rewritten are those of their typed points, as they are read
-  pub frames : HasFlatTypings u.flats u.typings
-  -- at a reached point a long or double is followed by its second unit
-  pub pairs : (w : WrittenMethod) (method : MethodAt) (at : ℕ) (point : Point) (route : Route)
-      → u.written method ≡ Some w
-      → IsReached w at point route
-      → HasPairs point
+  -- a frame at a point has as many stack entries as the point's type
+  pub stacks : (one : World) (f : MethodState) (rest : List RunFrame) (w : WrittenMethod) (point : Point)
+      → TypedWorld (first u) u.typings one
+      → one.frames ≡ Method f ∷ rest
+      → u.written f.at ≡ Some w
+      → slice_get w.flat.points f.place ≡ Some point
+      → length f.stack ≡ length point.typed.stack
+  -- an entry has a value of the kind of its type, if that is not Top
+  pub kinds : (one : World) (f : MethodState) (rest : List RunFrame) (w : WrittenMethod) (point : Point)
+      → TypedWorld (first u) u.typings one
+      → one.frames ≡ Method f ∷ rest
+      → u.written f.at ≡ Some w
+      → slice_get w.flat.points f.place ≡ Some point
+      → (place : ℕ) (type : VType) (value : Value)
+      → slice_get point.typed.stack place ≡ Some type
+      → type ≢ Top
+      → slice_get (reverse f.stack) place ≡ Some value
+      → IsTrue (has_kind (kind_of_type type) value)
+  -- behind a long or double that is typed so there is Top
+  pub wide : (one : World) (f : MethodState) (rest : List RunFrame) (w : WrittenMethod) (point : Point)
+      → TypedWorld (first u) u.typings one
+      → one.frames ≡ Method f ∷ rest
+      → u.written f.at ≡ Some w
+      → slice_get w.flat.points f.place ≡ Some point
+      → (unit : ℕ) (type : VType) (value : Value)
+      → slice_get point.typed.locals unit ≡ Some type
+      → type ≢ Top
+      → slice_get f.locals unit ≡ Some (Some value)
+      → IsTrue (is_wide_value value)
+      → slice_get point.typed.locals (suc unit) ≡ Some Top
   -- the values of an object are of the kinds of the fields of its class
   pub values : (one : World) (reference class : ℕ) (object : RunObject) (name : Name)
       → TypedWorld (first u) u.typings one
@@ -152,19 +166,6 @@ module _ {point : Point} {state : State} (places : HasPlaces point state) where
         ap (λ (all : List Bool). slice_get all place) (sym stack_flags)
         ∙ slice_get-map is_unusable (stack_slots point state) place ∙ ap (option_map is_unusable) is
 
-  -- an entry that has a slot has a type
-  pub stack_type : (place : ℕ) (slot : Slot) → slice_get (stack_slots point state) place ≡ Some slot
-      → (type : VType) × (slice_get point.typed.stack place ≡ Some type)
-  stack_type place slot is = by (slice_get point.typed.stack place) refl where
-    told : option_map (λ (type : VType). false) (slice_get point.typed.stack place) ≡ Some (is_unusable slot)
-    told =
-        sym (slice_get-map (λ (type : VType). false) point.typed.stack place) ∙ ap (λ (all : List Bool). slice_get all place) (sym stack_flags)
-        ∙ slice_get-map is_unusable (stack_slots point state) place ∙ ap (option_map is_unusable) is
-
-    by : (found : Option VType) → slice_get point.typed.stack place ≡ found → (type : VType) × (slice_get point.typed.stack place ≡ Some type)
-    by None none = absurd (none-some (is_unusable slot) (sym (ap (option_map (λ (type : VType). false)) none) ∙ told))
-    by (Some type) some = (type, some)
-
   -- the type of a plain local unit, and the slot of one that is typed Top
   pub local_type : (unit : ℕ) → slice_get (local_slots point state) unit ≡ Some Plain
       → (type : VType) × (slice_get point.typed.locals unit ≡ Some type) × (type ≢ Top)
@@ -195,6 +196,23 @@ module _ {point : Point} {state : State} (places : HasPlaces point state) where
     by (Some slot) some =
         some ∙ ap Some (unusable_is slot (same_Some (is_unusable slot) true (sym (ap (option_map is_unusable) some) ∙ told)))
 
+-- a stack entry that a state has is there
+pub entry_there : (point : Point) (state : State) (f : MethodState) (place : ℕ) (slot : Slot)
+    → HasPlaces point state
+    → length f.stack ≡ length point.typed.stack
+    → slice_get (stack_slots point state) place ≡ Some slot
+    → (value : Value) × (slice_get (reverse f.stack) place ≡ Some value)
+entry_there point state f place slot places as_long is =
+    (get_or (reverse f.stack) place NullValue, slice_get-get_or (reverse f.stack) place NullValue (omega (arith, within, slots, as_long, back))) where
+      within : place < length (stack_slots point state)
+      within = slice_get_within (stack_slots point state) place slot is
+
+      slots : length (stack_slots point state) ≡ length point.typed.stack
+      slots = stack_length places
+
+      back : length (reverse f.stack) ≡ length f.stack
+      back = length-reverse f.stack
+
 -- ---- the whole
 
 pub can_be_kept : {u : Setup} {one other : Run} {f : MethodState} {rest : List RunFrame} {w : WrittenMethod} {known : Known} {point : Point}
@@ -204,16 +222,15 @@ pub can_be_kept : {u : Setup} {one other : Run} {f : MethodState} {rest : List R
     → (h : Halfway u one other f rest w known point state place)
     → slice_get w.flat.points f.place ≡ Some point
     → HasPlaces point state
-    → HasPairs point
     → CanBeKept w h.virtuals (length rest) point state f
-can_be_kept {u = u} {one = one} {f = f} {rest = rest} {w = w} {point = point} {state = state} setup types h is_point places pairs = record {
-  entries = stack_is setup types.frames h.typed h.stands written is_point;
+can_be_kept {u = u} {one = one} {f = f} {rest = rest} {w = w} {point = point} {state = state} setup types h is_point places = record {
+  entries = types.stacks one.world f rest w point h.typed h.stands written is_point;
   slots = stack_length places;
   usable = stack_usable places;
-  wide = λ unit value plain is two.
+  wide = λ unit value plain is is_wide.
       let type = local_type places unit plain in
       local_unusable places (suc unit)
-      (pairs.each unit type.0 type.1 (local_wide setup types.frames h.typed h.stands written is_point unit type.0 value type.1 type.2 is two));
+      (types.wide one.world f rest w point h.typed h.stands written is_point unit type.0 value type.1 type.2 is is_wide);
   kinds = kinds;
 } where
   written : u.written f.at ≡ Some w

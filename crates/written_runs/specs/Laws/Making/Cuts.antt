@@ -200,7 +200,7 @@ entry_at (first ∷ types) (one ∷ slots) number below (suc place) type slot is
     }
 
 -- what stands in a list stands in its reverse
-in_reverse : {A : Type 0} (xs : List A) (number : ℕ) (x : A) → slice_get xs number ≡ Some x → (other : ℕ) × (slice_get (reverse xs) other ≡ Some x)
+pub in_reverse : {A : Type 0} (xs : List A) (number : ℕ) (x : A) → slice_get xs number ≡ Some x → (other : ℕ) × (slice_get (reverse xs) other ≡ Some x)
 in_reverse [] number x is = absurd (none-some x is)
 in_reverse {A = A} (first ∷ xs) zero x is = (
   length (reverse xs),
