@@ -36,5 +36,6 @@ pub mod TypedKept
 pub mod TypedEntries
 pub mod Uncovered
 pub mod UncoveredPlans
+pub mod NewOnTop
 pub mod UpperSlots
 pub mod WrittenCodes
