@@ -27,7 +27,7 @@ pub written_code_at : (u : Setup) → IsSetup u → (at : MethodAt) (w : Written
 written_code_at u setup at w host written is =
     ap (option_and_then code_run) (still_runs (program_of u.classes u.links) u.s at own (own_run u.classes u.links at host there))
     ∙ ap (λ (body : Option Code). code_run (with_body own body)) body_is
-    ∙ body_runs own _ _ (not_native u.classes at host.class host.method host.part setup.tree known.of_folder known.of_class known.has_code) (own_method_code u.classes u.links at host there) where
+    ∙ body_runs own _ _ (not_native u.classes at host.class host.method host.part setup.tree there.of_folder there.of_class there.has_code) (own_method_code u.classes u.links at host there) where
       there : IsScopeAt u.classes at host
       there = scope_is_at u.classes at host is
 
