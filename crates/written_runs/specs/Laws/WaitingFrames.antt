@@ -28,6 +28,7 @@ use Rattle.same_runs.specs.Laws.FlatRuns.{numbered_point_is}
 use Rattle.same_runs.specs.Laws.MethodPoints.{code_of_point}
 use Rattle.same_runs.specs.Laws.Numbered.{replaced_code, slice_numbered}
 use Rattle.same_runs.specs.Renamings.{Names}
+use Rattle.written_runs.specs.Laws.WrittenCodes.{written_code_at}
 use Rattle.written_runs.specs.Inner.PlannedFrames.{IsBlock, Known, Moment, arrives, blocks_in, of_first, of_handler, of_jump, of_next, of_own, scope_in, stays, waits}
 use Rattle.written_runs.specs.Inner.Setup.{IsSetup, Setup, first, second}
 use Rattle.written_runs.specs.Inner.Standing.{IsWaiting}
@@ -99,7 +100,7 @@ module _ (u : Setup) (is : IsSetup u) (settle : SettleLaws u) where
     whole = written_code (scope_in u one) ready.scope u.constructor one.form (blocks_in u one)
 
     runs_written : code_at (second u) g.at ≡ Some whole
-    runs_written = settle.code g.at one ready.scope w.in_planned.is_written (ap (scope_at u.classes) (sym w.in_planned.at) ∙ ready.is_scope)
+    runs_written = written_code_at u settle.is_setup g.at one ready.scope w.in_planned.is_written (ap (scope_at u.classes) (sym w.in_planned.at) ∙ ready.is_scope)
 
     second_point : (number : ℕ) (finished : Finished) (item : WItem) (tail : List WItem)
         → slice_get (blocks_in u one) number ≡ Some finished

@@ -14,7 +14,7 @@ use Rattle.member_link.specs.Machine.Ops.{Op, jump_by_int, jump_by_ints, jump_by
 use Rattle.member_link.specs.Machine.Programs.{Program}
 use Rattle.member_link.specs.Machine.Stepping.{jump_step, op_step}
 use Rattle.member_link.specs.Machine.Worlds.{World}
-use Rattle.plan_flow.specs.Written.WrittenCode.{opposite}
+use Rattle.making_code.specs.Opposites.{opposite}
 use Rattle.same_runs.specs.Laws.Moves.{same_jump_of_int, same_jump_of_ints, same_jump_of_null, same_jump_of_references}
 use Rattle.same_runs.specs.QuietMoves.{jumped, moved_by}
 use Rattle.same_runs.specs.Renamings.{IsRenaming, Names, SameValues}

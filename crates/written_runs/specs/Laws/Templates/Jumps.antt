@@ -41,6 +41,7 @@ use Rattle.virtual_state.specs.Laws.Removals.{without_none}
 use Rattle.virtual_state.specs.Sites.{has}
 use Rattle.virtual_state.specs.States.{State}
 use Rattle.virtual_state.specs.Without.{without}
+use Rattle.written_runs.specs.Laws.WrittenCodes.{written_code_at}
 use Rattle.written_runs.specs.Inner.MadeObjects.{CanBeKept, StandAt}
 use Rattle.written_runs.specs.Inner.PlannedFrames.{IsBlock, blocks_in, of_first, scope_in}
 use Rattle.written_runs.specs.Inner.Setup.{Setup, first, second}
@@ -297,7 +298,7 @@ module _ (u : Setup) (laws : TemplateLaws u) {measure : ℕ} {one other : Run} (
 
     code_there : code_at (second u) on.there.g.at ≡ Some whole_code
     code_there =
-        laws.settle.code on.there.g.at w there.host on.there.is_written
+        written_code_at u laws.settle.is_setup on.there.g.at w there.host on.there.is_written
         (ap (scope_at u.classes) (sym on.there.at ∙ t.at ∙ a.in_planned.at) ∙ there.is_host)
 
     -- the second arrives at the first block of the target
