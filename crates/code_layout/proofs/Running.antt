@@ -1,25 +1,25 @@
 -- The code of a method with the bytes and the exception table of a layout is that of the emitted items.
-use Rattle.std.proofs.Common.{◌≡◌, ◌==◌, ◌&&◌, ℕ, zero, suc, ltb, leb, ◌+◌, ◌≤◌, ◌<◌, true, false, List, [], ◌∷◌, ◌++◌, length, map, Option, Some, refl, sym, ap, subst, ◌∙◌, arith, append-nil}
+use Rattle.std.proofs.Common.{◌≡◌, ◌==◌, ◌&&◌, ℕ, zero, suc, ltb, leb, ◌+◌, ◌≤◌, ◌<◌, true, false, List, [], ◌∷◌, ◌++◌, length, map, Option, Ok, Some, refl, sym, ap, subst, ◌∙◌, arith, append-nil}
 use Rattle.std.specs.List.{AllByRecursion, flat_map}
 use Rattle.std.proofs.lemmas.Bool.{eq-eqb}
 use Rattle.std.proofs.lemmas.List.{map-append}
 use Rattle.std.proofs.lemmas.Grind.{flat_map-append}
-use Rattle.class_model.specs.Instructions.{targets}
+use Rattle.class_model.specs.Instructions.{decoded, targets}
 use Rattle.class_model.specs.Laws.Lists.{AllByRecursion-weaker}
 use Rattle.class_model.specs.Pool.{Constants}
 use Rattle.class_model.specs.declared.class_file.Handler.{Handler}
 use Rattle.class_model.specs.declared.instr.Instr.{Instr}
 use Rattle.class_model.specs.declared.instr.Placed.{Placed}
 use Rattle.class_tree.specs.Headers.{Name}
-use Rattle.member_link.specs.Bodies.{item_instr}
 use Rattle.member_link.specs.Laws.Renumbered.{IsSamePoint, op_renumbered}
-use Rattle.member_link.specs.Machine.Codes.{CodePoint, catch_in, catches_at, code_points, instr_op, item_op, method_code, number_at, code_point, renumbered, run_point}
-use Rattle.member_link.specs.Machine.Programs.{Catch, Code, Links, Point, number_of_first}
+use Rattle.member_link.specs.Machine.Codes.{CodePoint, catch_in, catches_at, code_points, instr_op, method_code, number_at, code_point, renumbered, run_point}
+use Rattle.member_link.specs.Machine.Programs.{Code, Links, Point, number_of_first}
 use Rattle.member_link.specs.Machine.Replaced.{map_numbered}
 use Rattle.member_link.specs.RowScope.{RowScope}
 use Rattle.member_link.specs.Scope.{Scope, instructions, row_scope}
 use Rattle.member_link.specs.Targets.{with_targets}
 use Rattle.code_layout.specs.Emitting.{IsEmitted, NamesItem}
+use Rattle.code_bytes.specs.Consecutive.{AreConsecutive}
 use Rattle.code_layout.specs.EmittedCode.{HasCodeOf, catch_of, item_point, item_points, items_code, items_scope}
 use Rattle.code_layout.specs.Layout.{IsLaid, end_from, placed_from, placed_items, range_of, ranges_from, short_len, short_starts, start_in, starts_from}
 use Rattle.code_layout.specs.declared.emitted.Catch.{Catch as EmittedCatch}
@@ -208,4 +208,17 @@ take-bytes place small at (item ∷ items) fits spelled =
 pub has-code : (items : List EmitItem) (laid : Laid) → IsEmitted items → IsLaid items laid → end_from 0 items ≤ 32767 → AreSpelled (placed_items items) → HasCodeOf items laid
 has-code items laid emitted is fits spelled =
     let take = take-bytes (start_in (short_starts items)) (start-most 0 items 32767 fits) 0 items fits spelled in
+    λ links s code handlers. code-same links s items laid emitted is take code handlers
+
+-- instructions of a code, one after the other, take a byte each at least
+one-after-other : (place : ℕ → ℕ) (at : ℕ) (items : List EmitItem) (end : ℕ) → AreConsecutive at (placed_from place at items) end → TakeBytes at items
+one-after-other place at [] end consecutive = tt
+one-after-other place at (item ∷ items) end consecutive = (consecutive.1, one-after-other place (at + short_len at item.instr) items end consecutive.2)
+
+-- so the layout need not be short
+pub laid-has-code : (items : List EmitItem) (laid : Laid) → IsEmitted items → IsLaid items laid
+    → ((code : List ℕ) (instrs : List Placed) → decoded code ≡ Ok instrs → AreConsecutive 0 instrs (length code))
+    → HasCodeOf items laid
+laid-has-code items laid emitted is consecutive =
+    let take = one-after-other (start_in (short_starts items)) 0 items (length laid.code) (consecutive laid.code (placed_items items) is.decodes.covers) in
     λ links s code handlers. code-same links s items laid emitted is take code handlers

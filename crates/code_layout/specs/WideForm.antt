@@ -1,6 +1,6 @@
 -- The bytes of emitted code in its wide form, in which each goto is a goto_w and the items are those of the short form but for conditional jumps, of
 -- which each is the opposite one over such a goto (JVM Specification SE 8, 6.5.goto_w). It is this project's profile.
-use Rattle.std.specs.Prelude.{◌≡◌, ◌⊎◌, ℕ, ◌+◌, ◌<◌, ◌≤◌, List, [], ◌∷◌, ◌++◌, length, map}
+use Rattle.std.specs.Prelude.{◌≡◌, ℕ, ◌+◌, List, [], ◌∷◌, ◌++◌, length, map}
 use Rattle.std.specs.List.{flat_map}
 use Rattle.class_model.specs.Instructions.{CodeOf}
 use Rattle.class_model.specs.Spelling.{u4}

@@ -4,6 +4,7 @@
 
 mod emitted;
 mod laid;
+mod laws;
 mod lengths;
 mod places;
 mod retarget;
@@ -12,4 +13,5 @@ mod writing;
 
 pub use emitted::{Catch, CatchList, EmitItem, EmitItemList, Emitted};
 pub use laid::{Laid, OffsetList};
+pub use laws::a_laid_code_means_its_items;
 pub use short_form::layout;
