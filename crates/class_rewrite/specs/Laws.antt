@@ -3,3 +3,5 @@ pub mod OneReason
 pub mod OneWriting
 pub mod OneFolder
 pub mod GrownPools
+pub mod MadeConstructors
+pub mod WrittenGrown

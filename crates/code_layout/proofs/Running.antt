@@ -1,10 +1,10 @@
 -- The code of a method with the bytes and the exception table of a layout is that of the emitted items.
-use Rattle.std.proofs.Common.{◌≡◌, ◌==◌, ◌&&◌, ℕ, zero, suc, ltb, leb, ◌+◌, ◌≤◌, ◌<◌, true, false, List, [], ◌∷◌, ◌++◌, length, map, Option, Some, refl, sym, ap, subst, ◌∙◌, arith, append-nil}
+use Rattle.std.proofs.Common.{◌≡◌, ◌==◌, ◌&&◌, ℕ, zero, suc, ltb, leb, ◌+◌, ◌≤◌, ◌<◌, true, false, List, [], ◌∷◌, ◌++◌, length, map, Option, Ok, Some, refl, sym, ap, subst, ◌∙◌, arith, append-nil}
 use Rattle.std.specs.List.{AllByRecursion, flat_map}
 use Rattle.std.proofs.lemmas.Bool.{eq-eqb}
 use Rattle.std.proofs.lemmas.List.{map-append}
 use Rattle.std.proofs.lemmas.Grind.{flat_map-append}
-use Rattle.class_model.specs.Instructions.{targets}
+use Rattle.class_model.specs.Instructions.{decoded, targets}
 use Rattle.class_model.specs.Laws.Lists.{AllByRecursion-weaker}
 use Rattle.class_model.specs.Pool.{Constants}
 use Rattle.class_model.specs.declared.class_file.Handler.{Handler}
@@ -19,6 +19,7 @@ use Rattle.member_link.specs.RowScope.{RowScope}
 use Rattle.member_link.specs.Scope.{Scope, instructions, row_scope}
 use Rattle.member_link.specs.Targets.{with_targets}
 use Rattle.code_layout.specs.Emitting.{IsEmitted, NamesItem}
+use Rattle.code_bytes.specs.Consecutive.{AreConsecutive}
 use Rattle.code_layout.specs.EmittedCode.{HasCodeOf, catch_of, item_point, item_points, items_code, items_scope}
 use Rattle.code_layout.specs.Layout.{IsLaid, Spelled, end_from, item_starts, len_of, placed_from, placed_items, range_of, ranges_from, start_in, starts_from}
 use Rattle.code_layout.specs.declared.emitted.Catch.{Catch as EmittedCatch}
@@ -208,4 +209,18 @@ module _ (spelled : Spelled) where
       → AreSpelled spelled (placed_items spelled items) → HasCodeOf items laid
   has-code items laid emitted is kept spells =
       let take = take-bytes (start_in (item_starts spelled items)) (end_from spelled 0 items) kept 0 items (omega arith) spells in
+      λ links s code handlers. code-same links s items laid emitted is take code handlers
+
+  -- instructions of a code, one after the other, take a byte each at least
+  one-after-other : (place : ℕ → ℕ) (at : ℕ) (items : List EmitItem) (end : ℕ) → AreConsecutive at (placed_from spelled place at items) end → TakeBytes at items
+  one-after-other place at [] end consecutive = tt
+  one-after-other place at (item ∷ items) end consecutive =
+      (consecutive.1, one-after-other place (at + len_of spelled at item.instr) items end consecutive.2)
+
+  -- so that a layout alone is enough
+  pub laid-has-code : (items : List EmitItem) (laid : Laid) → IsEmitted items → IsLaid spelled items laid
+      → ((code : List ℕ) (instrs : List Placed) → decoded code ≡ Ok instrs → AreConsecutive 0 instrs (length code))
+      → HasCodeOf items laid
+  laid-has-code items laid emitted is consecutive =
+      let take = one-after-other (start_in (item_starts spelled items)) 0 items (length laid.code) (consecutive laid.code (placed_items spelled items) is.decodes.covers) in
       λ links s code handlers. code-same links s items laid emitted is take code handlers

@@ -1,5 +1,5 @@
 -- Pools grow at their end: each pool that methods of a class leave one after the other begins with those before it.
-use Rattle.std.proofs.Common.{◌≡◌, ◌≢◌, ◌<◌, ◌⊎◌, ◌+◌, ◌++◌, ℕ, zero, suc, nat_le, Bool, true, false, List, [], ◌∷◌, length, Option, Some, None, option_and_then, refl, sym, ap, subst, ◌∙◌, arith, inl, inr, if◌then◌else◌}
+use Rattle.std.proofs.Common.{◌≡◌, ◌+◌, ◌++◌, ℕ, zero, suc, nat_le, Bool, true, false, List, [], ◌∷◌, length, Option, Some, None, option_and_then, refl, sym, ap, subst, ◌∙◌, arith, if◌then◌else◌}
 use Rattle.std.proofs.lemmas.Option.{none-some, same_Some}
 use Rattle.class_model.specs.Pool.{Constants, entries_of}
 use Rattle.class_model.specs.declared.class_file.ClassFile.{ClassFile}
@@ -11,7 +11,7 @@ use Rattle.class_rewrite.specs.Rewriting.Folders.{IsPoolBefore, at_first, behind
 use Rattle.class_rewrite.specs.Rewriting.Methods.{HasReasonIn, IsRewritten, Rewriting, Rewritten}
 use Rattle.flow_code.specs.declared.reason.Reason.TheVariants as reasons
 use Rattle.making_code.specs.Constants.{Need, constant_of, grow, index_of, with_constant}
-use Rattle.stackmap_emit.specs.FrameConstants.{frames_pool, table_needs}
+use Rattle.stackmap_emit.specs.FrameConstants.{table_needs}
 
 -- ---- one pool begins with another
 
