@@ -3,3 +3,6 @@ pub mod ReadClasses
 pub mod HeldChecks
 pub mod Library
 pub mod Appended
+pub mod Indexed
+pub mod MadeChoices
+pub mod PlainMethodNames
