@@ -6,3 +6,4 @@ pub mod Appended
 pub mod Indexed
 pub mod MadeChoices
 pub mod PlainMethodNames
+pub mod FitsWork

@@ -1,5 +1,7 @@
 //! Generated work: methods of four kinds, and a script that calls each of them.
 ghost use Rattle.std.specs.Prelude.{◌≡◌, ◌<◌, ◌≤◌, ◌++◌, length, IfOk, OnOk};
+ghost use Rattle.std.specs.List.{AllByRecursion};
+ghost use Rattle.class_bytes.specs.Counts.{FitsCounts};
 ghost use Rattle.work_gen.specs.Generated as generated;
 ghost use Rattle.work_gen.specs.Generated.{IsWork};
 
@@ -31,7 +33,8 @@ pub struct Work {
 pub fn generate(alloc: Global, number: u32, size: u32) -> Result<Work, NoMemory>
     requires number { number ≤ 2147483647 }
     requires size { size ≤ 1000 }
-    ensures { IfOk result (λ work. IsWork number size work) }
+    ensures is { IfOk result (λ work. IsWork number size work) }
+    ensures fits { IfOk result (λ work. AllByRecursion FitsCounts work.folder) }
 {
     let chosen = choices_of(alloc, number, size)?;
     Ok(Work {
