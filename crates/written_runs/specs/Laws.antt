@@ -37,5 +37,7 @@ pub mod TypedEntries
 pub mod Uncovered
 pub mod UncoveredPlans
 pub mod NewOnTop
+pub mod WideLocals
+pub mod RowsGo
 pub mod UpperSlots
 pub mod WrittenCodes
