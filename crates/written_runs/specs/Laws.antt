@@ -39,5 +39,6 @@ pub mod UncoveredPlans
 pub mod NewOnTop
 pub mod WideLocals
 pub mod RowsGo
+pub mod WideFlats
 pub mod UpperSlots
 pub mod WrittenCodes

@@ -49,6 +49,8 @@ use Rattle.written_runs.specs.Laws.MadeItems.{AreOwn, HasSome, behind_made, leng
 use Rattle.written_runs.specs.Laws.Uncovered.{IsUncovered, can_be_saved}
 use Rattle.written_runs.specs.Laws.NewOnTop.{gives_on_top}
 use Rattle.written_runs.specs.Laws.NextEdges.{next_follows}
+use Rattle.written_runs.specs.Laws.WideFlats.{room_reached}
+use Rattle.written_runs.specs.Laws.WideLocals.{HasWideRoom}
 use Rattle.written_runs.specs.Laws.WrittenCodes.{written_code_at}
 use Rattle.written_runs.specs.Laws.UncoveredPlans.{uncovered_along, uncovered_at}
 use Rattle.written_runs.specs.Laws.TypedKept.{HasPlaces, TypesEntries, can_be_kept, entry_there, places_of}
@@ -128,6 +130,7 @@ pub record CanBeMade (point : Point) (state : State) (made order : List ℕ) : T
   pub is_made : IsMadeIn state made
   pub is_order : IsMakeOrder state.objects made order
   pub uncovered : IsUncovered point.typed.stack (stack_slots point state) made
+  pub room : HasWideRoom point.typed.locals
 
 -- the target of an edge is the point at which the first frame stands: its route, and the state that is left
 pub record Onwards (w : WrittenMethod) (place : ℕ) (point : Point) (edge : RouteEdge) : Type 0 where
@@ -162,6 +165,7 @@ module _ (u : Setup) (laws : SettleLaws u) where
       uncovered =
           subst (λ (state : State). IsUncovered point.typed.stack (stack_slots point state) there.route.made) (sym there.is.state)
           (uncovered_at (scope_in u w) f.place point lead.target.state there.route.made is_point planned_there.is_planned.beneath);
+      room = room_there;
     };
     can_edge = record {
       places = record {
@@ -176,6 +180,7 @@ module _ (u : Setup) (laws : SettleLaws u) where
           uncovered_along (scope_in u w) of_method.plan at before from.point route number.0 edge point edge.made
           (gives_on_top (scope_in u w) u.classes of_method.scope of_method.code.typed)
           from_state planned_from from.is reached.is_point number.1 (ap (slice_get w.flat.points) to ∙ is_point);
+      room = room_there;
     };
     left = sym lead.left ∙ sym there.is.state;
   } where
@@ -217,6 +222,11 @@ module _ (u : Setup) (laws : SettleLaws u) where
           is = subst (λ (n : ℕ). IsRoute (scope_in u w) n lead.target found_route.route) (omega arith) found_route.is;
         }
 
+    room_there : HasWideRoom point.typed.locals
+    room_there =
+        room_reached (scope_in u w) of_method.plan of_method.valid u.classes of_method.scope of_method.code.typed f.place point lead.target
+        target_at is_point
+
     there_places : HasPlaces point there.route.state
     there_places =
         places_of u w f.place point there.route.state is_point
@@ -241,6 +251,8 @@ module _ (u : Setup) (laws : SettleLaws u) where
     uncovered =
         subst (λ (state : State). IsUncovered point.typed.stack (stack_slots point state) route.made) (sym there.is.state)
         (uncovered_at (scope_in u w) at point there.point.state route.made reached.is_point here.is_planned.beneath);
+    room =
+        room_reached (scope_in u w) ready.plan ready.valid u.classes ready.scope ready.code.typed at point there.point there.reached reached.is_point;
   } where
     ready : IsReadyMethod u.classes u.links f.at w
     ready = laws.is_setup.ready f.at w written
@@ -373,7 +385,7 @@ module _ (u : Setup) (laws : SettleLaws u) where
               can_be_saved w f.place point state made f is_point can.uncovered
               (laws.types.stacks one.world f rest w point h.typed h.stands (ap u.written h.at ∙ h.is_written) is_point)
               (laws.types.kinds one.world f rest w point h.typed h.stands (ap u.written h.at ∙ h.is_written) is_point);
-        }) (can_be_kept laws.is_setup laws.types h is_point can.places)
+        }) (can_be_kept laws.is_setup laws.types h is_point can.places can.room)
 
     -- there is an instruction, where an object is made
     some_code : (r : Run) (state : State) (site : ℕ) (sites order : List ℕ) (place : ℕ)

@@ -1,8 +1,8 @@
 -- Where no long or double is typed in the last local unit, none is behind an instruction whose row holds.
-use Rattle.std.proofs.Common.{◌≡◌, ◌≢◌, ◌≤◌, ◌<◌, ◌⊎◌, inl, inr, ◌+◌, ◌-◌, ◌++◌, ◌==◌, ◌&&◌, ℕ, zero, suc, Bool, true, false, List, [], ◌∷◌, bytes_eq, length, map, nat_le, replicate, slice_get, slice_set, Option, Some, None, option_map, refl, sym, ap, subst, ◌∙◌, arith}
+use Rattle.std.proofs.Common.{◌≡◌, ◌≢◌, ◌≤◌, ◌<◌, ◌⊎◌, inl, inr, ◌+◌, ◌-◌, ◌++◌, ◌==◌, ℕ, zero, suc, Bool, true, false, List, [], ◌∷◌, bytes_eq, length, map, replicate, slice_get, slice_set, Option, Some, None, option_map, refl, sym, ap, subst, ◌∙◌, arith}
 use Rattle.std.proofs.lemmas.Bool.{false≢true}
-use Rattle.std.proofs.lemmas.List.{length-append, length-map}
-use Rattle.std.proofs.lemmas.Option.{none-some, same_Some, slice_get-map, slice_get_within}
+use Rattle.std.proofs.lemmas.List.{length-map}
+use Rattle.std.proofs.lemmas.Option.{none-some, same_Some, slice_get-map}
 use Rattle.class_model.specs.Frames.{filled, is_wide, units, units_of_entries}
 use Rattle.class_model.specs.Names.{init}
 use Rattle.class_model.specs.Pool.{constant_at}
@@ -14,26 +14,25 @@ use Rattle.class_model.specs.declared.frame.VType.{VType}
 use Rattle.class_model.specs.declared.frame.VType.TheVariants.{Top, Int, Float, Long, Double, Null, UninitThis, Object, Uninit}
 use Rattle.class_model.specs.declared.instr.Instr.{Instr}
 use Rattle.class_model.specs.declared.instr.Instr.TheVariants.{Nop, Const, Ldc, Ldc2, Load, Store, Iinc, ArrayLoad, ArrayStore, Shuffle, Pure, Divide, FloatAsk, If, If2, IfSame, IfNull, Goto, Table, Lookup, Return, GetStatic, PutStatic, GetField, PutField, Invoke, Dynamic, New, NewArray, NewRefArray, NewMulti, Length, Throw, Cast, InstanceOf, Enter, Leave}
-use Rattle.class_model.specs.declared.opcodes.TheConstants.{AALOAD, AASTORE, IALOAD, IASTORE, IFEQ, IFLE, IFNONNULL, IFNULL, IF_ACMPEQ, IF_ACMPNE, IF_ICMPEQ, IF_ICMPLE, INVOKESPECIAL, INVOKESTATIC}
+use Rattle.class_model.specs.declared.opcodes.TheConstants.{AALOAD, AASTORE, IALOAD, IASTORE, INVOKESPECIAL, INVOKESTATIC}
 use Rattle.class_model.specs.declared.pool.Const.{Const as PoolConst}
 use Rattle.class_model.specs.declared.pool.Const.TheVariants as consts
 use Rattle.class_tree.specs.Headers.{Headers, Name}
 use Rattle.member_link.specs.Assignability.{IsAssignable, from_null, of_names, to_same, to_top}
 use Rattle.member_link.specs.Bodies.{CodeItem, item_instr, item_null_test, item_row}
-use Rattle.member_link.specs.BodyTyping.{RowHolds}
 use Rattle.member_link.specs.References.{Reference}
 use Rattle.member_link.specs.RowScope.{RowScope}
 use Rattle.member_link.specs.Rows.ArithmeticRows.{Operation, divide_operations, float_operations, operation_in, operation_row, pure_operations}
 use Rattle.member_link.specs.Rows.ArrayRows.{Elements, array_load_row, array_of, array_store_row, elements_from, elements_load_row, elements_store_row, made_row, primitive_array}
 use Rattle.member_link.specs.Rows.FrameAssignability.{AreAssignable}
-use Rattle.member_link.specs.Rows.LocalRows.{HasRoom, const_row, cut_before, store_row, stored, type_of_const, with_units}
-use Rattle.member_link.specs.Rows.MemberRows.{call_row, dynamic_row, get_field_row, get_static_row, init_row, initialised_type, instance_row, put_field_row, put_static_row, receiver, return_row, special_row, static_row}
+use Rattle.member_link.specs.Rows.LocalRows.{HasRoom, const_row, cut_before, stored, type_of_const}
+use Rattle.member_link.specs.Rows.MemberRows.{call_row, dynamic_row, get_field_row, get_static_row, init_row, initialised_type, put_field_row, put_static_row, receiver, return_row, special_row}
 use Rattle.member_link.specs.Rows.Operands.{AllFit, IsOfKind, Need, lowest_of, of_kind, topmost}
 use Rattle.member_link.specs.Rows.Row.{Row, either}
 use Rattle.member_link.specs.Rows.ShuffleRows.{Form, form_in, form_row, forms_of}
 use Rattle.member_link.specs.Rows.Table.{cast_row, jump_row, row_of, without_older}
 use Rattle.member_link.specs.Signatures.{reference_of}
-use Rattle.same_runs.specs.Laws.Stored.{set_count, set_in}
+use Rattle.same_runs.specs.Laws.Stored.{set_count}
 
 -- no long or double is the last of these local units
 pub record HasWideRoom (types : List VType) : Type 0 where
