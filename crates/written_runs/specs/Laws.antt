@@ -40,5 +40,7 @@ pub mod NewOnTop
 pub mod WideLocals
 pub mod RowsGo
 pub mod WideFlats
+pub mod OneEffect
+pub mod SettleFromSetup
 pub mod UpperSlots
 pub mod WrittenCodes

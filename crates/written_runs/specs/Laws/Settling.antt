@@ -18,7 +18,7 @@ use Rattle.making_code.specs.MakeOrder.{IsMakeOrder}
 use Rattle.member_link.specs.Machine.Programs.{Code, code_at}
 use Rattle.member_link.specs.Machine.Runs.{Run}
 use Rattle.member_link.specs.Scope.{Scope, scope_at}
-use Rattle.plan_flow.specs.Laws.RoutedPlans.{EdgeLeads, HasOneEffect, HasRoute, IsRouteOf, leads_of, route_at, route_of}
+use Rattle.plan_flow.specs.Laws.RoutedPlans.{EdgeLeads, HasRoute, IsRouteOf, leads_of, route_at, route_of}
 use Rattle.plan_flow.specs.Laws.WrittenBlocks.{block_finished, first_block, first_item, first_of, next_first, next_starts, own_first, own_number, own_second, starts_at, blocks_left, first_begins, made_next, next_of, StandsNext, goes_on, makes_first}
 use Rattle.plan_flow.specs.Laws.WrittenPads.{StandsFirst, comes_nowhere, none_finished, pad_block}
 use Rattle.plan_flow.specs.MetPlans.{MeetsState, RefersToSite}
@@ -49,6 +49,7 @@ use Rattle.written_runs.specs.Laws.MadeItems.{AreOwn, HasSome, behind_made, leng
 use Rattle.written_runs.specs.Laws.Uncovered.{IsUncovered, can_be_saved}
 use Rattle.written_runs.specs.Laws.NewOnTop.{gives_on_top}
 use Rattle.written_runs.specs.Laws.NextEdges.{next_follows}
+use Rattle.written_runs.specs.Laws.OneEffect.{one_effect}
 use Rattle.written_runs.specs.Laws.WideFlats.{room_reached}
 use Rattle.written_runs.specs.Laws.WideLocals.{HasWideRoom}
 use Rattle.written_runs.specs.Laws.WrittenCodes.{written_code_at}
@@ -66,7 +67,6 @@ use Rattle.written_runs.specs.WrittenRuns.{IsReadyMethod}
 pub record SettleLaws (u : Setup) : Type 0 where
   pub is_setup : IsSetup u
   pub making : MakesObjects u
-  pub one_effect : (w : WrittenMethod) → HasOneEffect (scope_in u w)
   -- what typing tells make code of entries, local units and values
   pub types : TypesEntries u
 
@@ -192,7 +192,7 @@ module _ (u : Setup) (laws : SettleLaws u) where
 
     lead : EdgeLeads (scope_in u w) of_method.plan edge
     lead =
-        leads_of (scope_in u w) of_method.plan w.routes at before route number.0 edge (laws.one_effect w) of_method.valid of_method.routed
+        leads_of (scope_in u w) of_method.plan w.routes at before route number.0 edge (one_effect (scope_in u w)) of_method.valid of_method.routed
         reached.is_point reached.is_route number.1
 
     target_at : planned of_method.plan f.place ≡ Some lead.target
