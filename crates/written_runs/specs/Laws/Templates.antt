@@ -27,3 +27,4 @@ pub mod Turns
 pub mod Working
 pub mod Sames
 pub mod Whole
+pub mod Inits

@@ -21,7 +21,11 @@ use Rattle.machine_values.specs.declared.frame.RunFrame.TheVariants.{Beginning, 
 use Rattle.machine_values.specs.declared.value.Value.{Value}
 use Rattle.class_tree.specs.Headers.{Name, headers_of}
 use Rattle.class_tree.specs.Layouts.{instance_fields}
-use Rattle.class_model.specs.Descriptors.{kind_of}
+use Rattle.class_model.specs.Descriptors.{kind_of, parameters_of}
+use Rattle.class_model.specs.Pool.{constant_at}
+use Rattle.class_model.specs.declared.instr.Instr.TheVariants.{Invoke}
+use Rattle.member_link.specs.Machine.CallSteps.{is_object_init}
+use Rattle.member_link.specs.Signatures.{reference_of}
 use Rattle.class_model.specs.declared.descriptor.FieldType.{FieldType}
 use Rattle.flow_code.specs.declared.point.Site.{Site}
 use Rattle.machine_values.specs.Values.{blank_of_kind, blank_values}
@@ -106,6 +110,14 @@ pub record TemplateLaws (u : Setup) : Type 0 where
       → u.written at ≡ Some w
       → slice_get w.flat.sites number ≡ Some site
       → (class : ℕ) × (folder_number (first u) site.class ≡ Some class) × IsInert (first u) class
+  -- a linked call of the instance initialiser of java/lang/Object hands over its object alone
+  pub object_inits : (at : MethodAt) (w : WrittenMethod) (place : ℕ) (point : Point) (class opcode index count : ℕ) (r : Reference)
+      → u.written at ≡ Some w
+      → slice_get w.flat.points place ≡ Some point
+      → point.instr ≡ Of class (Invoke opcode index count)
+      → reference_of (pool_of u.classes class) (constant_at (pool_of u.classes class) index) ≡ Some r
+      → is_object_init r ≡ true
+      → parameters_of r.desc ≡ []
   -- an object begins with zero or null in each field of its class
   pub blanks : (class : Name)
       → blank_values (instance_fields (headers_in (first u)) class)
