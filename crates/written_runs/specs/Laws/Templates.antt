@@ -28,3 +28,4 @@ pub mod Working
 pub mod Sames
 pub mod Whole
 pub mod Inits
+pub mod Puts
