@@ -29,3 +29,4 @@ pub mod Sames
 pub mod Whole
 pub mod Inits
 pub mod Puts
+pub mod Quiets
