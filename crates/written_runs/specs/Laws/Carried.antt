@@ -6,7 +6,9 @@ pub mod CarriedOps
 pub mod CastFits
 pub mod EdgeBlocks
 pub mod FieldFits
+pub mod JumpEdges
 pub mod JumpFamilies
+pub mod JumpPoints
 pub mod Knowing
 pub mod Landing
 pub mod LoadTurns
