@@ -9,6 +9,7 @@ pub mod FieldFits
 pub mod JumpEdges
 pub mod JumpFamilies
 pub mod JumpPoints
+pub mod JumpTurns
 pub mod Knowing
 pub mod Landing
 pub mod LoadTurns
