@@ -8,6 +8,7 @@ pub mod EdgeBlocks
 pub mod FieldFits
 pub mod JumpEdges
 pub mod JumpFamilies
+pub mod JumpInstrs
 pub mod JumpPoints
 pub mod JumpTurns
 pub mod Knowing
