@@ -31,6 +31,8 @@ pub mod SimpleFits
 pub mod Slots
 pub mod Standing
 pub mod StuckFits
+pub mod SwitchInstrs
+pub mod SwitchTurns
 pub mod Turns
 pub mod Waiting
 pub mod Whole
