@@ -14,6 +14,7 @@ pub mod JumpTurns
 pub mod Knowing
 pub mod Landing
 pub mod LoadTurns
+pub mod LocalsStay
 pub mod MoveTurns
 pub mod MovesOn
 pub mod NopTurns

@@ -44,12 +44,13 @@ use Rattle.written_runs.specs.Inner.PlannedFrames.{InPlanned, IsReached, KeepSta
 use Rattle.written_runs.specs.Inner.Setup.{Setup, first, second}
 use Rattle.written_runs.specs.Inner.Standing.{Stands, is_awaited}
 use Rattle.written_runs.specs.Laws.Carried.Arriving.{arrives_planned, goes_planned}
-use Rattle.written_runs.specs.Laws.Carried.Behind.{MovesAlong, kept_of, keeps_behind, tells_behind}
+use Rattle.written_runs.specs.Laws.Carried.Behind.{MovesAlong, kept_of, keeps_behind, moves_stack, tells_behind}
 use Rattle.written_runs.specs.Laws.Carried.EdgeBlocks.{EdgeBlock, handler_block_at, next_block_at}
 use Rattle.written_runs.specs.Laws.Carried.Knowing.{CarriedLaws}
 use Rattle.written_runs.specs.Laws.Carried.PlannedEdges.{EdgeThere, handler_there, next_there, slots_long, unusable_is_top}
+use Rattle.written_runs.specs.Laws.Carried.LocalsStay.{locals_stay}
 use Rattle.written_runs.specs.Laws.Carried.Points.{IsNoJump, first_point_is, next_place, second_point_is}
-use Rattle.written_runs.specs.Laws.Carried.Slots.{LeadsAlong, LeavesLocals, got_left}
+use Rattle.written_runs.specs.Laws.Carried.Slots.{LeadsAlong, LeavesLocals, got_left, leaves_stack}
 use Rattle.written_runs.specs.Laws.Carried.Standing.{AtOwn, at_own}
 use Rattle.written_runs.specs.Laws.Carried.Waiting.{AtCarried, AtInstruction, instruction_of}
 use Rattle.written_runs.specs.Laws.FewerVirtuals.{AllOwned, GoesFewer}
@@ -157,8 +158,10 @@ module _ (u : Setup) (laws : CarriedLaws u) {virtuals : Virtuals} {known : Known
       arrives_planned u virtuals known block (ap u.written at_also ∙ c.is_written) (at ∙ c.at ∙ sym at_also)
       (subst (λ (h : Option ℕ). SameHeld more h also.held) (sym held) (subst (SameHeld more f.held) (sym held_also) (held_more grows c.held)))
       place_also (ap (slice_get c.w.flat.points) place ∙ edge.is_target)
-      (tells_behind leaves (leads_along edge taken given leaves) edge.of_row.is.state moves c.tells)
-      (keeps_behind leaves (leads_along edge taken given leaves) edge.of_row.is.state moves c.tells grows lower c.keeps)
+      (tells_behind (leaves_stack leaves) (leads_along edge taken given leaves) edge.of_row.is.state (moves_stack moves)
+      (locals_stay leaves (leads_along edge taken given leaves) moves c.tells grows c.keeps) c.tells)
+      (keeps_behind (leaves_stack leaves) (leads_along edge taken given leaves) edge.of_row.is.state (moves_stack moves)
+      (locals_stay leaves (leads_along edge taken given leaves) moves c.tells grows c.keeps) c.tells lower c.keeps)
 
   -- and all frames go together
   pub goes_along : {more : Names} {row : RowEdge} (edge : EdgeThere s f.place c.point c.route row) (taken : ℕ) (given : List Source)
