@@ -31,6 +31,7 @@ pub mod Rows
 pub mod SimpleFits
 pub mod Slots
 pub mod Standing
+pub mod StoreOver
 pub mod StuckFits
 pub mod SwitchInstrs
 pub mod SwitchTurns
