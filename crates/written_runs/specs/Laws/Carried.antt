@@ -32,6 +32,7 @@ pub mod SimpleFits
 pub mod Slots
 pub mod Standing
 pub mod StoreOver
+pub mod StoreTurns
 pub mod StuckFits
 pub mod SwitchInstrs
 pub mod SwitchTurns
