@@ -6,10 +6,15 @@ pub mod CarriedOps
 pub mod CastFits
 pub mod EdgeBlocks
 pub mod FieldFits
+pub mod JumpEdges
 pub mod JumpFamilies
+pub mod JumpInstrs
+pub mod JumpPoints
+pub mod JumpTurns
 pub mod Knowing
 pub mod Landing
 pub mod LoadTurns
+pub mod LocalsStay
 pub mod MoveTurns
 pub mod MovesOn
 pub mod NopTurns
@@ -26,7 +31,11 @@ pub mod Rows
 pub mod SimpleFits
 pub mod Slots
 pub mod Standing
+pub mod StoreOver
+pub mod StoreTurns
 pub mod StuckFits
+pub mod SwitchInstrs
+pub mod SwitchTurns
 pub mod Turns
 pub mod Waiting
 pub mod Whole

@@ -63,16 +63,6 @@ IsOperation (Lookup other pairs) = ⊥
 IsOperation (Return kind) = ⊥
 IsOperation instr = Unit {0}
 
--- a jump on operands
-abbrev pub IsJump : Instr → Type 0
-IsJump (If opcode to) = Unit {0}
-IsJump (If2 opcode to) = Unit {0}
-IsJump (IfSame opcode to) = Unit {0}
-IsJump (IfNull opcode to) = Unit {0}
-IsJump (Table low other to) = Unit {0}
-IsJump (Lookup other pairs) = Unit {0}
-IsJump instr = ⊥
-
 -- its code is an operation on operands, or means nothing
 pub data IsWorth (op : Op) : Type 0 where
   works_so : WorksOnOperands op → IsWorth op
