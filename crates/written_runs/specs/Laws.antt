@@ -46,6 +46,7 @@ pub mod TypedEntries
 pub mod TypedKept
 pub mod Uncovered
 pub mod UncoveredPlans
+pub mod NewOnTop
 pub mod UpperSlots
 pub mod WaitingFrames
 pub mod WrittenCodes

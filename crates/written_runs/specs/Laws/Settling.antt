@@ -47,8 +47,10 @@ use Rattle.written_runs.specs.Laws.Halfway.{GoesOn, Halfway, goes_then, jumps_on
 use Rattle.written_runs.specs.Laws.KnownClasses.{halfway_knowing, met_here, met_left}
 use Rattle.written_runs.specs.Laws.MadeItems.{AreOwn, HasSome, behind_made, length_made, made_at, made_in_form, made_some, make_code_some, own_make_code}
 use Rattle.written_runs.specs.Laws.Uncovered.{IsUncovered, can_be_saved}
-use Rattle.written_runs.specs.Laws.UncoveredPlans.{GivesOnTop, uncovered_along, uncovered_at}
+use Rattle.written_runs.specs.Laws.NewOnTop.{gives_on_top}
 use Rattle.written_runs.specs.Laws.NextEdges.{next_follows}
+use Rattle.written_runs.specs.Laws.WrittenCodes.{written_code_at}
+use Rattle.written_runs.specs.Laws.UncoveredPlans.{uncovered_along, uncovered_at}
 use Rattle.written_runs.specs.Laws.TypedKept.{HasPlaces, TypesEntries, can_be_kept, entry_there, places_of}
 use Rattle.written_runs.specs.Inner.MadeObjects.{MakesObjects}
 use Rattle.written_runs.specs.Inner.PlannedFrames.{AtBlock, InPlanned, IsBlock, IsMet, IsOfSite, IsReached, IsInstructionOf, IsTold, Keeps, Known, MakesOn, Moment, arrives, blocks_in, of_first, of_handler, of_jump, of_next, of_own, scope_in, stays, waits}
@@ -63,13 +65,6 @@ pub record SettleLaws (u : Setup) : Type 0 where
   pub is_setup : IsSetup u
   pub making : MakesObjects u
   pub one_effect : (w : WrittenMethod) → HasOneEffect (scope_in u w)
-  -- a new object comes to lie on top of the stack
-  pub on_top : (at : MethodAt) (w : WrittenMethod) → u.written at ≡ Some w → GivesOnTop (scope_in u w)
-  -- the second program runs written code
-  pub code : (at : MethodAt) (w : WrittenMethod) (host : Scope)
-      → u.written at ≡ Some w
-      → scope_at u.classes at ≡ Some host
-      → code_at (second u) at ≡ Some (written_code (scope_in u w) host u.constructor w.form (blocks_in u w))
   -- what typing tells make code of entries, local units and values
   pub types : TypesEntries u
 
@@ -167,7 +162,8 @@ module _ (u : Setup) (laws : SettleLaws u) where
       is_made = lead.is_made;
       is_order = lead.is_order;
       uncovered =
-          uncovered_along (scope_in u w) of_method.plan at before from.point route number.0 edge point edge.made (laws.on_top f.at w written)
+          uncovered_along (scope_in u w) of_method.plan at before from.point route number.0 edge point edge.made
+          (gives_on_top (scope_in u w) u.classes of_method.scope of_method.code.typed)
           from_state planned_from from.is reached.is_point number.1 (ap (slice_get w.flat.points) to ∙ is_point);
     };
     left = sym lead.left ∙ sym there.is.state;
@@ -521,18 +517,18 @@ module _ (u : Setup) (laws : SettleLaws u) where
           s : PlanScope
           s = scope_in u w
 
+          of_method : IsReadyMethod u.classes u.links f.at w
+          of_method = laws.is_setup.ready f.at w written
+
           number : ℕ
           number = suc (own_number s w.routes at route)
 
           code : List WInstr
           code = make_code w.flat f.place edge.state edge.made edge.order
 
-          ready : IsReadyMethod u.classes u.links f.at w
-          ready = laws.is_setup.ready f.at w written
-
           follows : suc at ≡ f.place
           follows =
-              sym (next_follows s ready.plan w.routes at before route edge ready.routed reached.is_point reached.is_route makes.found) ∙ to
+              sym (next_follows s of_method.plan w.routes at before route edge of_method.routed reached.is_point reached.is_route makes.found) ∙ to
 
           code_is : code ≡ make_code w.flat edge.to edge.state (site ∷ sites) edge.order
           code_is =
@@ -673,7 +669,7 @@ module _ (u : Setup) (laws : SettleLaws u) where
           whole = written_code s ready.scope u.constructor w.form (blocks_in u w)
 
           runs : code_at (second u) on.there.g.at ≡ Some whole
-          runs = laws.code on.there.g.at w ready.scope on.there.is_written (ap (scope_at u.classes) (sym on.there.at) ∙ ready.is_scope)
+          runs = written_code_at u laws.is_setup on.there.g.at w ready.scope on.there.is_written (ap (scope_at u.classes) (sym on.there.at) ∙ ready.is_scope)
 
           at_goto : slice_get whole.points (first_item w.form (blocks_in u w) number + length code)
               ≡ Some (written_point s ready.scope u.constructor w.form (blocks_in u w) (0 + (first_item w.form (blocks_in u w) number + length code)) goto)

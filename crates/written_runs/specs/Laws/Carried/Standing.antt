@@ -19,6 +19,7 @@ use Rattle.written_runs.specs.Inner.PlannedFrames.{AtBlock, IsBlock, IsInstructi
 use Rattle.written_runs.specs.Inner.Setup.{Setup, second}
 use Rattle.written_runs.specs.Laws.MadeItems.{items_of_block}
 use Rattle.written_runs.specs.Laws.Settling.{SettleLaws}
+use Rattle.written_runs.specs.Laws.WrittenCodes.{written_code_at}
 use Rattle.written_runs.specs.WrittenRuns.{IsReadyMethod}
 
 -- ---- the number of the block
@@ -85,7 +86,7 @@ module _ (u : Setup) (laws : SettleLaws u) where
   at_own w f g point route block written here of_instruction = record {
     host = ready.scope;
     is_host = ready.is_scope;
-    is_code = laws.code g.at w ready.scope written ready.is_scope;
+    is_code = written_code_at u laws.is_setup g.at w ready.scope written ready.is_scope;
     place =
         here.place_also
         ∙ ap (first_item w.form (blocks_in u w))

@@ -59,6 +59,7 @@ use Rattle.written_runs.specs.Laws.Templates.Onward.{ComesOn, comes_on, goto_lea
 use Rattle.written_runs.specs.Laws.Templates.Stacks.{get_left, get_right}
 use Rattle.written_runs.specs.Laws.Templates.Turns.{FirstTurn, TakesEdge, along_there, effect_here, falls_below, halfway_behind, left_over, place_then, stands_own, target, written_then}
 use Rattle.written_runs.specs.Laws.Uncovered.{can_be_saved}
+use Rattle.written_runs.specs.Laws.WrittenCodes.{written_code_at}
 use Rattle.written_runs.specs.Laws.Turned.{BehindMoves, turns_by_moves}
 use Rattle.written_runs.specs.Laws.TypedKept.{can_be_kept}
 
@@ -297,7 +298,7 @@ module _ (u : Setup) (laws : TemplateLaws u) {measure : ℕ} {one other : Run} (
 
     code_there : code_at (second u) on.there.g.at ≡ Some whole_code
     code_there =
-        laws.settle.code on.there.g.at w there.host on.there.is_written
+        written_code_at u laws.settle.is_setup on.there.g.at w there.host on.there.is_written
         (ap (scope_at u.classes) (sym on.there.at ∙ t.at ∙ a.in_planned.at) ∙ there.is_host)
 
     -- the second arrives at the first block of the target
