@@ -6,7 +6,11 @@ pub mod CarriedOps
 pub mod CastFits
 pub mod EdgeBlocks
 pub mod FieldFits
+pub mod JumpEdges
 pub mod JumpFamilies
+pub mod JumpInstrs
+pub mod JumpPoints
+pub mod JumpTurns
 pub mod Knowing
 pub mod Landing
 pub mod LoadTurns

@@ -45,6 +45,7 @@ use Rattle.member_link.specs.Machine.CallSteps.{is_object_init}
 use Rattle.written_runs.specs.Inner.PlannedFrames.{scope_in}
 use Rattle.written_runs.specs.Inner.Setup.{Setup, first}
 use Rattle.written_runs.specs.Laws.Carried.Knowing.{CarriedLaws}
+use Rattle.written_runs.specs.Laws.Carried.JumpInstrs.{if_null_turn, if_same_turn, if_turn, if_two_turn}
 use Rattle.written_runs.specs.Laws.Carried.LoadTurns.{load_turn}
 use Rattle.written_runs.specs.Laws.Carried.NopTurns.{nop_turn}
 use Rattle.written_runs.specs.Laws.Carried.ReturnTurns.{return_turn}
@@ -62,7 +63,7 @@ use Rattle.written_runs.specs.Laws.Carried.CastFits.{fits_cast}
 use Rattle.written_runs.specs.Laws.Carried.FieldFits.{fits_get_field, fits_put_field}
 use Rattle.written_runs.specs.Laws.Carried.NumberFits.{fits_divide, fits_float_ask, fits_pure}
 use Rattle.written_runs.specs.Laws.Carried.StuckFits.{fits_array_load, fits_array_store, fits_new_multi}
-use Rattle.written_runs.specs.Laws.Carried.Worth.{IsJump, IsOperation, IsWorth, means_nothing, straight_on, works_so, worth}
+use Rattle.written_runs.specs.Laws.Carried.Worth.{IsOperation, IsSwitch, IsWorth, means_nothing, straight_on, works_so, worth}
 use Rattle.written_runs.specs.Laws.Halfway.{Halfway}
 use Rattle.written_runs.specs.Laws.PlannedTurns.{AtPlanned, PlannedParts, written_at}
 use Rattle.written_runs.specs.Laws.Settling.{SettleLaws}
@@ -262,7 +263,7 @@ module _ (u : Setup) (laws : CarriedLaws u) {measure : ℕ} {one other : Run} (a
 
 -- ---- all
 
--- What is left to show of instructions that are written as they are: a constructor's row, stores into locals, and jumps on plain operands.
+-- What is left to show of instructions that are written as they are: a constructor's row, stores into locals, and switches.
 pub record OpenCarried (u : Setup) : Type 0 where
   pub rows : (w : WrittenMethod) → OpenRows (first u) (scope_in u w)
   pub store : (measure : ℕ) (one other : Run) (a : AtPlanned u measure one other) (class : ℕ) (kind : Kind) (local : ℕ)
@@ -272,10 +273,9 @@ pub record OpenCarried (u : Setup) : Type 0 where
   pub increment : (measure : ℕ) (one other : Run) (a : AtPlanned u measure one other) (class local : ℕ) (by : ℤ)
       → a.settled.point.instr ≡ Of class (Iinc local by)
       → KeepsTurn u measure one other
-  pub jumps : (measure : ℕ) (one other : Run) (a : AtPlanned u measure one other) (class : ℕ) (instr : Instr)
+  pub switches : (measure : ℕ) (one other : Run) (a : AtPlanned u measure one other) (class : ℕ) (instr : Instr)
       → a.settled.point.instr ≡ Of class instr
-      → written_at a class instr ≡ None
-      → IsJump instr
+      → IsSwitch instr
       → KeepsTurn u measure one other
 
 module _ (u : Setup) (laws : CarriedLaws u) (parts : OpenCarried u) where
@@ -290,12 +290,12 @@ module _ (u : Setup) (laws : CarriedLaws u) (parts : OpenCarried u) where
   as_it_is_turn measure one other a class (Iinc local by) is none = parts.increment measure one other a class local by is
   as_it_is_turn measure one other a class (Shuffle opcode) is none = absurd (none-some _ (sym none))
   as_it_is_turn measure one other a class (Goto to) is none = absurd (none-some _ (sym none))
-  as_it_is_turn measure one other a class (If opcode to) is none = parts.jumps measure one other a class (If opcode to) is none tt
-  as_it_is_turn measure one other a class (If2 opcode to) is none = parts.jumps measure one other a class (If2 opcode to) is none tt
-  as_it_is_turn measure one other a class (IfSame opcode to) is none = parts.jumps measure one other a class (IfSame opcode to) is none tt
-  as_it_is_turn measure one other a class (IfNull opcode to) is none = parts.jumps measure one other a class (IfNull opcode to) is none tt
-  as_it_is_turn measure one other a class (Table low default to) is none = parts.jumps measure one other a class (Table low default to) is none tt
-  as_it_is_turn measure one other a class (Lookup default pairs) is none = parts.jumps measure one other a class (Lookup default pairs) is none tt
+  as_it_is_turn measure one other a class (If opcode to) is none = if_turn u laws a class opcode to is none
+  as_it_is_turn measure one other a class (If2 opcode to) is none = if_two_turn u laws a class opcode to is none
+  as_it_is_turn measure one other a class (IfSame opcode to) is none = if_same_turn u laws a class opcode to is none
+  as_it_is_turn measure one other a class (IfNull opcode to) is none = if_null_turn u laws a class opcode to is none
+  as_it_is_turn measure one other a class (Table low default to) is none = parts.switches measure one other a class (Table low default to) is tt
+  as_it_is_turn measure one other a class (Lookup default pairs) is none = parts.switches measure one other a class (Lookup default pairs) is tt
   as_it_is_turn measure one other a class (Return kind) is none = return_turn u laws a class kind is
   as_it_is_turn measure one other a class (Const imm) is none = operation_turn u laws a class (Const imm) is none tt (parts.rows a.in_planned.one)
   as_it_is_turn measure one other a class (Ldc index) is none = operation_turn u laws a class (Ldc index) is none tt (parts.rows a.in_planned.one)

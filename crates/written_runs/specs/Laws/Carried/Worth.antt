@@ -63,15 +63,11 @@ IsOperation (Lookup other pairs) = ⊥
 IsOperation (Return kind) = ⊥
 IsOperation instr = Unit {0}
 
--- a jump on operands
-abbrev pub IsJump : Instr → Type 0
-IsJump (If opcode to) = Unit {0}
-IsJump (If2 opcode to) = Unit {0}
-IsJump (IfSame opcode to) = Unit {0}
-IsJump (IfNull opcode to) = Unit {0}
-IsJump (Table low other to) = Unit {0}
-IsJump (Lookup other pairs) = Unit {0}
-IsJump instr = ⊥
+-- a jump by a key
+abbrev pub IsSwitch : Instr → Type 0
+IsSwitch (Table low other to) = Unit {0}
+IsSwitch (Lookup other pairs) = Unit {0}
+IsSwitch instr = ⊥
 
 -- its code is an operation on operands, or means nothing
 pub data IsWorth (op : Op) : Type 0 where
