@@ -61,7 +61,7 @@ module _ {u : Setup} (grounds : Grounds u) (laws : RunLaws) where
     steps_typed = λ w typed. laws.steps (first u) u.typings w typed;
     codes = own_codes grounds.setup;
     initialisers = λ class at method is there. initialiser_named (first u) class at method is there;
-    fresh_stands = λ virtuals known names w others typed top. fresh_frames_stand u grounds.setup settle virtuals known names w others typed top;
+    fresh_stands = λ virtuals known names w others typed top. fresh_frames_stand u grounds.setup virtuals known names w others typed top;
   }
 
   pub frame_laws : UnwindsPlanned u → ReturnsToPlanned u → FrameLaws u
@@ -79,7 +79,7 @@ module _ {u : Setup} (grounds : Grounds u) (laws : RunLaws) where
     alike = begin_alike grounds.setup grounds.hierarchy grounds.adds;
     steps_typed = λ w typed. laws.steps (first u) u.typings w typed;
     keeps = λ w typed goes no_turn. step_kept laws.grows (first u) w goes no_turn;
-    fresh_stands = λ virtuals known names w others typed top. fresh_frames_stand u grounds.setup settle virtuals known names w others typed top;
+    fresh_stands = λ virtuals known names w others typed top. fresh_frames_stand u grounds.setup virtuals known names w others typed top;
     own_ops = λ at place point none there work. own_operations grounds.setup laws.fields grounds.hierarchy at place point none there work;
   }
 

@@ -33,13 +33,12 @@ use Rattle.virtual_state.specs.Without.{made_plain, objects_without}
 use Rattle.virtual_state.specs.declared.slot.Slot.{Slot}
 use Rattle.virtual_state.specs.declared.slot.Slot.TheVariants.{Plain, Unusable, Virt}
 use Rattle.virtual_state.specs.declared.slot.VObject.{VObject}
-use Rattle.written_runs.specs.Laws.WrittenCodes.{written_code_at}
 use Rattle.written_runs.specs.Inner.PlannedFrames.{InPlanned, IsReached, KeepStack, Keeps, Known, arrives, blocks_in, of_first, scope_in}
 use Rattle.written_runs.specs.Inner.Setup.{IsSetup, Setup, first, second}
 use Rattle.written_runs.specs.Inner.Standing.{HasNone, SameTop, Stands, begins_class, begins_fresh, beginnings_stand, planned_stand, stands}
 use Rattle.member_link.specs.Machine.Worlds.{World}
 use Rattle.typed_runs.specs.TypedWorlds.{TypedWorld}
-use Rattle.written_runs.specs.Laws.Settling.{SettleLaws}
+use Rattle.written_runs.specs.Laws.WrittenCodes.{written_code_at}
 use Rattle.written_runs.specs.VirtualObjects.{Tells, Virtuals, local_slots, stack_slots}
 use Rattle.written_runs.specs.WrittenRuns.{IsReadyMethod}
 
@@ -209,7 +208,7 @@ module _ (u : Setup) (one : WrittenMethod) (point : Point) (is_point : slice_get
 
 -- ---- the frames
 
-module _ (u : Setup) (is : IsSetup u) (settle : SettleLaws u) where
+module _ (u : Setup) (is : IsSetup u) where
   fresh_in_planned : (virtuals : Virtuals) (known : Known) (names : Names) (frame : ℕ) (at : MethodAt) (one : WrittenMethod)
       (units also : List (Option Value)) (held held_also : Option ℕ)
       → u.written at ≡ Some one
@@ -236,7 +235,7 @@ module _ (u : Setup) (is : IsSetup u) (settle : SettleLaws u) where
         (frame_with (first u) at units held);
     keeps = keeps_units u one point.0 point.1 (first_block s 0 point.0 route.route route.route.made).state no_sites names virtuals frame at units also held
         held_also same
-        (room_of (second u) at also held_also (written_code s ready.scope u.constructor one.form (blocks_in u one)) (written_code_at u settle.is_setup at one ready.scope written ready.is_scope));
+        (room_of (second u) at also held_also (written_code s ready.scope u.constructor one.form (blocks_in u one)) (written_code_at u is at one ready.scope written ready.is_scope));
     own = λ number virtual is of_frame. absurd (none.none number virtual is of_frame);
   } where
     s : PlanScope

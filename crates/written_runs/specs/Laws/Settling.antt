@@ -538,9 +538,6 @@ module _ (u : Setup) (laws : SettleLaws u) where
           code : List WInstr
           code = make_code w.flat f.place edge.state edge.made edge.order
 
-          ready : IsReadyMethod u.classes u.links f.at w
-          ready = laws.is_setup.ready f.at w written
-
           follows : suc at ≡ f.place
           follows =
               sym (next_follows s of_method.plan w.routes at before route edge of_method.routed reached.is_point reached.is_route makes.found) ∙ to

@@ -28,7 +28,6 @@ use Rattle.same_runs.specs.Laws.FlatRuns.{numbered_point_is}
 use Rattle.same_runs.specs.Laws.MethodPoints.{code_of_point}
 use Rattle.same_runs.specs.Laws.Numbered.{replaced_code, slice_numbered}
 use Rattle.same_runs.specs.Renamings.{Names}
-use Rattle.written_runs.specs.Laws.WrittenCodes.{written_code_at}
 use Rattle.written_runs.specs.Inner.PlannedFrames.{IsBlock, Known, Moment, arrives, blocks_in, of_first, of_handler, of_jump, of_next, of_own, scope_in, stays, waits}
 use Rattle.written_runs.specs.Inner.Setup.{IsSetup, Setup, first, second}
 use Rattle.written_runs.specs.Inner.Standing.{IsWaiting}
@@ -37,7 +36,7 @@ use Rattle.written_runs.specs.Laws.MadeItems.{behind_made}
 use Rattle.written_runs.specs.Laws.OwnFrames.{WaitsPlanned, point_on_top}
 use Rattle.written_runs.specs.Laws.PendingOperations.{BeginsCarried, begins_carried, pends_alike}
 use Rattle.written_runs.specs.Laws.SameBoth.{own}
-use Rattle.written_runs.specs.Laws.Settling.{SettleLaws}
+use Rattle.written_runs.specs.Laws.WrittenCodes.{written_code_at}
 use Rattle.written_runs.specs.VirtualObjects.{Virtuals}
 use Rattle.written_runs.specs.WrittenRuns.{IsReadyMethod}
 
@@ -54,7 +53,7 @@ block_there (of_next from its own_route edge site sites reached makes) at point 
 block_there (of_jump from number its own_route edge site sites place reached makes there) at point route same = there.is_there
 block_there (of_handler from number its own_route edge site sites place reached makes there) at point route same = there.is_there
 
-module _ (u : Setup) (is : IsSetup u) (settle : SettleLaws u) where
+module _ (u : Setup) (is : IsSetup u) where
   module _ {virtuals : Virtuals} {known : Known} {names : Names} {heap : Heap} {f g : MethodState} {ones others : List RunFrame}
       (w : WaitsPlanned u virtuals known names heap f g ones others) where
     abbrev one : WrittenMethod
@@ -100,7 +99,7 @@ module _ (u : Setup) (is : IsSetup u) (settle : SettleLaws u) where
     whole = written_code (scope_in u one) ready.scope u.constructor one.form (blocks_in u one)
 
     runs_written : code_at (second u) g.at ≡ Some whole
-    runs_written = written_code_at u settle.is_setup g.at one ready.scope w.in_planned.is_written (ap (scope_at u.classes) (sym w.in_planned.at) ∙ ready.is_scope)
+    runs_written = written_code_at u is g.at one ready.scope w.in_planned.is_written (ap (scope_at u.classes) (sym w.in_planned.at) ∙ ready.is_scope)
 
     second_point : (number : ℕ) (finished : Finished) (item : WItem) (tail : List WItem)
         → slice_get (blocks_in u one) number ≡ Some finished

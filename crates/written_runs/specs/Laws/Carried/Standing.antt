@@ -20,6 +20,7 @@ use Rattle.written_runs.specs.Inner.PlannedFrames.{AtBlock, IsBlock, IsInstructi
 use Rattle.written_runs.specs.Inner.Setup.{Setup, second}
 use Rattle.written_runs.specs.Laws.MadeItems.{items_of_block}
 use Rattle.written_runs.specs.Laws.Settling.{SettleLaws}
+use Rattle.written_runs.specs.Laws.WrittenCodes.{written_code_at}
 use Rattle.written_runs.specs.WrittenRuns.{IsReadyMethod}
 
 -- ---- the number of the block

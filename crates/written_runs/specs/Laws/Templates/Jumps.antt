@@ -60,6 +60,7 @@ use Rattle.written_runs.specs.Laws.Templates.Onward.{ComesOn, comes_on, goto_lea
 use Rattle.written_runs.specs.Laws.Templates.Stacks.{get_left, get_right}
 use Rattle.written_runs.specs.Laws.Templates.Turns.{FirstTurn, TakesEdge, along_there, effect_here, falls_below, halfway_behind, left_over, place_then, stands_own, target, written_then}
 use Rattle.written_runs.specs.Laws.Uncovered.{can_be_saved}
+use Rattle.written_runs.specs.Laws.WrittenCodes.{written_code_at}
 use Rattle.written_runs.specs.Laws.Turned.{BehindMoves, turns_by_moves}
 use Rattle.written_runs.specs.Laws.TypedKept.{can_be_kept}
 
