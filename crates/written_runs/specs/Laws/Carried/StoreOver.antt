@@ -104,8 +104,7 @@ module _ {P : Program} {s : PlanScope} {at : ℕ} {point target : Point} {before
     by (inl same) =
         absurd (cc (stores.slot_here (Virt site) (ap (slice_get (edge_slots s at point before row)) same ∙ slot)))
     by (inr apart) =
-        let was = tells.locals unit site (read_virtual (local_slots point before) unit site (stores.slots_were unit (Virt site) apart slot)) in
-        (
+        let was = tells.locals unit site (read_virtual (local_slots point before) unit site (stores.slots_were unit (Virt site) apart slot)) in (
           was.0,
           subst (λ (v : Value). slice_get then.locals unit ≡ Some (Some v)) (sym was.2.is)
               (still_there unit was.2.virtual.reference type apart is_type usable (was.1 ∙ ap (λ (v : Value). Some (Some v)) was.2.is)),

@@ -31,7 +31,8 @@ use Rattle.plan_flow.specs.PlanTable.{moving, operand, targets_at}
 use Rattle.plan_flow.specs.Written.Blocks.{is_decided, state_written}
 use Rattle.plan_flow.specs.Written.Routes.{Route}
 use Rattle.plan_flow.specs.Written.Templates.{jump_target, jump_targets, to_or_pad}
-use Rattle.plan_flow.specs.Written.WrittenCode.{Form, carried_scope, in_form, jumping_to, opposite_instr, pairs_to, short, target_number, wide, written_op, written_point}
+use Rattle.making_code.specs.Opposites.{opposite_instr}
+use Rattle.plan_flow.specs.Written.WrittenCode.{Form, carried_scope, in_form, jumping_to, pairs_to, short, target_number, wide, written_op, written_point}
 use Rattle.plan_flow.specs.declared.edge.EdgeKind.TheVariants as edges
 use Rattle.same_runs.specs.Laws.BothBegin.{counted}
 use Rattle.same_runs.specs.QuietMoves.{moved_at, moved_by, moves, switched}

@@ -72,6 +72,8 @@ use Rattle.written_runs.specs.Inner.Setup.{Setup, first}
 use Rattle.written_runs.specs.Laws.PlannedTurns.{AtPlanned}
 use Rattle.written_runs.specs.Laws.Settling.{SettleLaws}
 use Rattle.written_runs.specs.Laws.Templates.Stacks.{KeptParts, as_read, drop_all, drop_at, get_dropped, get_in_take, get_left, get_taken, keep_split, length_dropped, length_taken, read_slot, take_all}
+use Rattle.written_runs.specs.Laws.WideFlats.{room_reached}
+use Rattle.written_runs.specs.Laws.WideLocals.{HasWideRoom}
 use Rattle.written_runs.specs.VirtualObjects.{RefersTo, Tells, Virtual, local_slots, stack_slots}
 use Rattle.written_runs.specs.WrittenRuns.{IsReadyMethod}
 
@@ -292,6 +294,11 @@ module _ (u : Setup) (laws : TemplateLaws u) {measure : ℕ} {one other : Run} (
 
   pub state_at : IsStateAt s a.f.place route.state
   state_at = subst (IsStateAt s a.f.place) (sym of_plan.is.state) planned_here.is_planned.state
+
+  -- no long or double is typed in the last local unit
+  pub room_here : HasWideRoom point.typed.locals
+  room_here =
+      room_reached s ready.plan ready.valid u.classes ready.scope ready.code.typed a.f.place point of_plan.point of_plan.reached reached.is_point
 
   pub is_state : IsState before
   is_state = without_is_state route.state (has route.made) state_at.is_state closed where
