@@ -43,7 +43,6 @@ pub mod FolderReceivers
 mod CallChoices
 mod TypedCalls
 mod CallWork
-mod QuietInert
 pub mod CallFrames
 pub mod CallLaws
 mod ReplacedCallLaws

@@ -78,12 +78,12 @@ class_coded bytes class is =
     (methods_coded (home_of c) [] (methods_place c + 2) c.methods (class_cut is.version is.rest c is.is_cut) (parts_hold c is.holds).methods)
 
 -- so a method of a folder that has code is not native
-pub not_native : (classes : Classes) (at : MethodAt) (file : ClassFile) (method : Method) (part : CodePart)
-    → IsTree classes
+pub not_native : (classes : Classes) → IsTree classes
+    → (at : MethodAt) (file : ClassFile) (method : Method) (part : CodePart)
     → slice_get classes.folder at.class ≡ Some file
     → slice_get file.methods at.method ≡ Some method
     → code_of method.attrs ≡ Some part
     → has method.flags NATIVE ≡ false
-not_native classes at file method part tree of_folder of_class has_code =
+not_native classes tree at file method part of_folder of_class has_code =
     let read : IsClassFile file = at_index IsClassFile classes.folder at.class file tree.folder of_folder in
     (at_index IsCoded file.methods at.method method (class_coded (class_bytes file) file read) of_class part has_code).no_native
