@@ -30,3 +30,4 @@ pub mod Whole
 pub mod Inits
 pub mod Puts
 pub mod Quiets
+pub mod Narrowings

@@ -47,7 +47,12 @@ use Rattle.plan_flow.specs.PlanTable.{operand, positions}
 use Rattle.plan_flow.specs.Written.Blocks.{state_written}
 use Rattle.plan_flow.specs.Written.Templates.{narrowing, put_template, store_of_field}
 use Rattle.same_runs.specs.Laws.BothBegin.{counted}
+use Rattle.same_runs.specs.Laws.FieldWork.{narrowed_same}
 use Rattle.same_runs.specs.Laws.Moves.{same_kind}
+use Rattle.same_runs.specs.Laws.QuietBeginnings.{standing}
+use Rattle.same_runs.specs.Simulations.{Quietly}
+use Rattle.plan_flow.specs.Written.WrittenCode.{written_code, written_op}
+use Rattle.member_link.specs.Scope.{Scope}
 use Rattle.same_runs.specs.Laws.Objects.{set_here, set_other}
 use Rattle.same_runs.specs.Laws.Stored.{Units}
 use Rattle.same_runs.specs.Renamings.{SameValue, no_values}
@@ -56,8 +61,8 @@ use Rattle.virtual_state.specs.States.{State, object_of}
 use Rattle.virtual_state.specs.declared.slot.Slot.{Slot}
 use Rattle.virtual_state.specs.declared.slot.Slot.TheVariants.{Plain, Virt, Unusable}
 use Rattle.virtual_state.specs.declared.slot.VObject.{VObject}
-use Rattle.written_runs.specs.Inner.PlannedFrames.{KeepStack, KeptIn, scope_in}
-use Rattle.written_runs.specs.Inner.Setup.{Setup, first}
+use Rattle.written_runs.specs.Inner.PlannedFrames.{KeepStack, KeptIn, blocks_in, scope_in}
+use Rattle.written_runs.specs.Inner.Setup.{Setup, first, second}
 use Rattle.written_runs.specs.Inner.Standing.{entered}
 use Rattle.written_runs.specs.Laws.Carried.Standing.{AtOwn}
 use Rattle.written_runs.specs.Laws.LessVirtual.{one_owner}
@@ -70,10 +75,11 @@ use Rattle.written_runs.specs.Laws.Templates.ChangedTurns.{changed_turn}
 use Rattle.written_runs.specs.Laws.Templates.Fields.{fields_set}
 use Rattle.written_runs.specs.Laws.Templates.Gets.{field_is, named_in}
 use Rattle.written_runs.specs.Laws.Templates.Holding.{StoredIn, field_held, field_stored, own_held}
-use Rattle.written_runs.specs.Laws.Templates.Instrs.{first_is, here_not_stuck, instr_goes_next, items_are, op_here, row_here, row_is, scope_here}
-use Rattle.written_runs.specs.Laws.Templates.Items.{IsStraight, all_moved, op_of, store_is_straight}
+use Rattle.written_runs.specs.Laws.Templates.Instrs.{InstrEdge, edge_goes_next, edge_goes_quietly, first_is, here_not_stuck, items_are, op_here, row_here, row_is, scope_here}
+use Rattle.written_runs.specs.Laws.Templates.Items.{IsStraight, OpsThere, all_moved, op_of, store_is_straight}
 use Rattle.written_runs.specs.Laws.Templates.Known.{TemplateLaws, entries, keeps, operand_refers, reached, split_stack, tells, two_slots, written}
 use Rattle.written_runs.specs.Laws.Templates.Monitors.{found_now, objects_now}
+use Rattle.written_runs.specs.Laws.Templates.Narrowings.{kind_narrowed, narrowing_ops, quiet_narrowing}
 use Rattle.written_runs.specs.Laws.Templates.Operands.{IsObjectOf, asks_none, none_same, object_is}
 use Rattle.written_runs.specs.Laws.Templates.Sames.{OnePlain, one_plain}
 use Rattle.written_runs.specs.Laws.Templates.Stacks.{KeptParts, as_read, keep_read}
@@ -89,13 +95,28 @@ narrowed_reference types.Char reference = refl
 narrowed_reference types.Bool reference = refl
 narrowed_reference type reference = refl
 
--- nor is a value of a type for which no narrowing is written
-not_narrowed : (type : FieldType) (value : Value) → narrowing type ≡ [] → narrowed type value ≡ value
-not_narrowed types.Byte value none = absurd cc
-not_narrowed types.Short value none = absurd cc
-not_narrowed types.Char value none = absurd cc
-not_narrowed types.Bool value none = absurd cc
-not_narrowed type value none = refl
+-- what narrows has no units
+own_narrowing : (type : FieldType) (kind : Kind) (unit : WUnit) → AreOwn (narrowing type ++ store kind unit ∷ [])
+own_narrowing types.Byte kind unit = (tt, (tt, tt))
+own_narrowing types.Short kind unit = (tt, (tt, tt))
+own_narrowing types.Char kind unit = (tt, (tt, tt))
+own_narrowing types.Bool kind unit = (tt, (tt, (tt, tt)))
+own_narrowing type kind unit = (tt, tt)
+
+many_narrowing : (type : FieldType) → length (narrowing type) ≡ length (narrowing_ops type)
+many_narrowing types.Byte = refl
+many_narrowing types.Short = refl
+many_narrowing types.Char = refl
+many_narrowing types.Bool = refl
+many_narrowing type = refl
+
+narrowing_is : (s : PlanScope) (host : Scope) (constructor : Name → List ℕ) (type : FieldType)
+    → map (written_op s host constructor []) (narrowing type) ≡ narrowing_ops type
+narrowing_is s host constructor types.Byte = refl
+narrowing_is s host constructor types.Short = refl
+narrowing_is s host constructor types.Char = refl
+narrowing_is s host constructor types.Bool = refl
+narrowing_is s host constructor type = refl
 
 -- a store into a local unit, as a move
 store_moves : (g : MethodState) (kind : Kind) (unit : ℕ) (also : Value) (rest : List Value) (after : Units)
@@ -241,16 +262,7 @@ module _ (u : Setup) (laws : TemplateLaws u) {measure : ℕ} {one other : Run} (
 
       -- What the second has behind it.
       record PutAlso (slot : Slot) : Type 0 where
-        pub instrs : List WInstr
-        pub told : written_at a class (PutField index) ≡ Some instrs
-        pub own : AreOwn instrs
         pub middle : MethodState
-        pub straight : (at_own : AtOwn u a.in_planned.one a.f.place a.settled.point a.settled.route a.g)
-            → AllByRecursion IsStraight (map (op_of at_own (reached u laws a) instrs
-            (items_are u laws a class (PutField index) instrs is told) own) instrs)
-        pub moved : (at_own : AtOwn u a.in_planned.one a.f.place a.settled.point a.settled.route a.g)
-            → all_moved (map (op_of at_own (reached u laws a) instrs (items_are u laws a class (PutField index) instrs is told) own) instrs) a.g
-            ≡ Some middle
         pub keep_below : KeepStack a.t.along.names (take (length below) (entries u laws a)) (reverse below) (reverse middle.stack)
         pub own_units : (unit : ℕ) (value : Value)
             → slice_get (local_slots a.settled.point now) unit ≡ Some Plain
@@ -266,17 +278,14 @@ module _ (u : Setup) (laws : TemplateLaws u) {measure : ℕ} {one other : Run} (
         pub this_field : slot ≡ Plain → KeptIn a.t.along.names middle (unit_number a.in_planned.one.flat (field_unit site number)) put_value
         pub room : written_units a.in_planned.one.flat ≤ length middle.locals
 
-      put_goes : (slot : Slot)
+      abbrev put_edge : (slot : Slot)
           → held now (operand a.settled.point.typed 0) ≡ slot
           → TellsField a.t.along.virtuals (length a.ones) (type_of field.desc) put_value slot
           → PutAlso slot
-          → KeepsTurn u measure one other
-      put_goes slot is_slot tells_value also =
-          instr_goes_next u laws a class (PutField index) (record {
+          → InstrEdge u laws a class (PutField index)
+      put_edge slot is_slot tells_value also =
+          record {
             is = is;
-            instrs = also.instrs;
-            told = also.told;
-            own = also.own;
             gives = [];
             row_locals = rw (plan_field) refl;
             takes = 2;
@@ -306,8 +315,6 @@ module _ (u : Setup) (laws : TemplateLaws u) {measure : ℕ} {one other : Run} (
                 (ap (λ (objects : List VObject). object_of (objects ++ (state_written a.settled.route).objects) other_site)
                 (sym (row_changed slot is_slot)) ∙ found_is);
             middle = also.middle;
-            straight = also.straight;
-            moved = also.moved;
             below_also = also.middle.stack;
             given_also = [];
             then_also = refl;
@@ -316,7 +323,7 @@ module _ (u : Setup) (laws : TemplateLaws u) {measure : ℕ} {one other : Run} (
             own_units = also.own_units;
             fields = fields;
             room = also.room;
-          }) where
+          } where
             fields : (other_site place : ℕ) (found : VObject) (now_virtual : Virtual) (value : Value)
                 → object_of (changed (scope_in u a.in_planned.one) (state_written a.settled.route)
                 (row_here u laws a class (PutField index)).change ++ (state_written a.settled.route).objects) other_site ≡ Some found
@@ -416,97 +423,132 @@ module _ (u : Setup) (laws : TemplateLaws u) {measure : ℕ} {one other : Run} (
             slots = two_slots u laws a upper lower below stack
 
       puts_virtual : (value_site : ℕ) → held now (operand a.settled.point.typed 0) ≡ Virt value_site → KeepsTurn u measure one other
-      puts_virtual value_site is_slot = put_goes (Virt value_site) is_slot tells_value (record {
-        instrs = [];
-        told = rw (virtual, is_slot) refl;
-        own = tt;
-        middle = a.g;
-        straight = λ at_own. tt;
-        moved = λ at_own. refl;
-        keep_below =
-            subst (KeepStack a.t.along.names (take (length below) (entries u laws a)) (reverse below))
-            (sym (parts.are ∙ ap (λ (vs : List Value). parts.first ++ vs) (none_same (keep_both (Virt value_site) is_slot))
-            ∙ append-nil parts.first)) parts.keep;
-        own_units = (keeps u laws a).locals;
-        other_fields = λ other_site place told found value is_told has_it plain here differ.
-            (keeps u laws a).fields other_site place told found value is_told has_it plain here;
-        this_field = λ plain. absurd (cc plain);
-        room = (keeps u laws a).room;
-      }) where
-        refers_value : RefersTo a.t.along.virtuals (length a.ones) value_site upper
-        refers_value = operand_refers u laws a [] (lower ∷ below) upper value_site stack is_slot
+      puts_virtual value_site is_slot =
+          edge_goes_next u laws a class (PutField index) (put_edge (Virt value_site) is_slot tells_value (record {
+            middle = a.g;
+            keep_below =
+                subst (KeepStack a.t.along.names (take (length below) (entries u laws a)) (reverse below))
+                (sym (parts.are ∙ ap (λ (vs : List Value). parts.first ++ vs) (none_same (keep_both (Virt value_site) is_slot))
+                ∙ append-nil parts.first)) parts.keep;
+            own_units = (keeps u laws a).locals;
+            other_fields = λ other_site place told found value is_told has_it plain here differ.
+                (keeps u laws a).fields other_site place told found value is_told has_it plain here;
+            this_field = λ plain. absurd (cc plain);
+            room = (keeps u laws a).room;
+          })) [] (rw (virtual, is_slot) refl) tt (λ at_own. tt) (λ at_own. refl) where
+            refers_value : RefersTo a.t.along.virtuals (length a.ones) value_site upper
+            refers_value = operand_refers u laws a [] (lower ∷ below) upper value_site stack is_slot
 
-        tells_value : TellsField a.t.along.virtuals (length a.ones) (type_of field.desc) put_value (Virt value_site)
-        tells_value = tells_virtual (record {
-          virtual = refers_value.virtual;
-          has = refers_value.has;
-          is =
-              ap (narrowed (type_of field.desc)) refers_value.is
-              ∙ narrowed_reference (type_of field.desc) refers_value.virtual.reference;
-        })
+            tells_value : TellsField a.t.along.virtuals (length a.ones) (type_of field.desc) put_value (Virt value_site)
+            tells_value = tells_virtual (record {
+              virtual = refers_value.virtual;
+              has = refers_value.has;
+              is =
+                  ap (narrowed (type_of field.desc)) refers_value.is
+                  ∙ narrowed_reference (type_of field.desc) refers_value.virtual.reference;
+            })
 
       puts_plain : held now (operand a.settled.point.typed 0) ≡ Plain
           → has_kind (kind_of (type_of field.desc)) upper ≡ true
-          → narrowing (type_of field.desc) ≡ []
           → KeepsTurn u measure one other
-      puts_plain is_slot fits none = put_goes Plain is_slot tells_value (record {
-        instrs = store (kind_of (type_of field.desc)) (field_unit site number) ∷ [];
-        told = rw (virtual, is_slot, plan_field, plan_number, there.is_site, type_here, none) refl;
-        own = (tt, tt);
-        middle = record (next_with a.g plain_one.rest) { locals = put.0 };
-        straight = λ at_own.
-            (store_is_straight (kind_of (type_of field.desc)) (unit_number a.in_planned.one.flat (field_unit site number)), tt);
-        moved = λ at_own.
-            store_moves a.g (kind_of (type_of field.desc)) (unit_number a.in_planned.one.flat (field_unit site number)) plain_one.also plain_one.rest
-            put.0 plain_one.stack kind_also put.1.is_stored;
-        keep_below = plain_one.keep;
-        own_units = λ unit value plain here.
-            kept_of (held_still (own_held u laws a unit value plain here) put.1.is put.1.fits (λ also same. tt));
-        other_fields = λ other_site place told found value is_told has_it plain here differ.
-            kept_of (held_still (field_held u laws a other_site place told found value is_told has_it plain here) put.1.is put.1.fits
-            (λ also same same_site same_place. differ same_site same_place));
-        this_field = λ plain.
-            kept_of (held_now put.1.is put.1.fits
-            (subst (λ (v : Value). SameValue a.t.along.names v plain_one.also) (sym value_is) plain_one.same));
-        room = let count = put.1.is.count in let before_it = (keeps u laws a).room in omega (arith, count, before_it);
-      }) where
-        plain_one : OnePlain u laws a upper below
-        plain_one = one_plain u laws a upper below parts.first parts.second parts.are parts.keep (keep_both Plain is_slot)
+      puts_plain is_slot fits =
+          edge_goes_quietly u laws a class (PutField index) (put_edge Plain is_slot tells_value (record {
+            middle = middle;
+            keep_below = plain_one.keep;
+            own_units = λ unit value plain here.
+                kept_of (held_still (own_held u laws a unit value plain here) put.1.is put.1.fits (λ also same. tt));
+            other_fields = λ other_site place told found value is_told has_it plain here differ.
+                kept_of (held_still (field_held u laws a other_site place told found value is_told has_it plain here) put.1.is put.1.fits
+                (λ also same same_site same_place. differ same_site same_place));
+            this_field = λ plain. kept_of (held_now put.1.is put.1.fits (narrowed_same (type_of field.desc) plain_one.same));
+            room = let count = put.1.is.count in let before_it = (keeps u laws a).room in omega (arith, count, before_it);
+          })) (narrowing (type_of field.desc)) (store (kind_of (type_of field.desc)) (field_unit site number) ∷ [])
+          (rw (virtual, is_slot, plan_field, plan_number, there.is_site, type_here) refl)
+          (own_narrowing (type_of field.desc) (kind_of (type_of field.desc)) (field_unit site number)) (record {
+            begins = begins;
+            place = refl;
+            at = refl;
+            held = refl;
+            quietly = λ at_own ops_there.
+                quiet_from at_own (quiet_narrowing other a.others other.world.memory a.t.along.goes_also
+                (written_code (scope_in u a.in_planned.one) at_own.host u.constructor a.in_planned.one.form (blocks_in u a.in_planned.one)) a.g
+                other.world.steps (type_of field.desc) plain_one.also plain_one.rest laws.lowest_bit at_own.is_code
+                (subst (OpsThere (written_code (scope_in u a.in_planned.one) at_own.host u.constructor a.in_planned.one.form
+                (blocks_in u a.in_planned.one)) a.g.place) (narrowing_is (scope_in u a.in_planned.one) at_own.host u.constructor (type_of field.desc))
+                ops_there) kind_also);
+            straight = λ at_own.
+                (store_is_straight (kind_of (type_of field.desc)) (unit_number a.in_planned.one.flat (field_unit site number)), tt);
+            moved = λ at_own.
+                store_moves begins (kind_of (type_of field.desc)) (unit_number a.in_planned.one.flat (field_unit site number))
+                (narrowed (type_of field.desc) plain_one.also) plain_one.rest put.0 refl
+                (kind_narrowed (type_of field.desc) plain_one.also kind_also) put.1.is_stored;
+          }) where
+            plain_one : OnePlain u laws a upper below
+            plain_one = one_plain u laws a upper below parts.first parts.second parts.are parts.keep (keep_both Plain is_slot)
 
-        value_is : put_value ≡ upper
-        value_is = not_narrowed (type_of field.desc) upper none
+            kind_also : has_kind (kind_of (type_of field.desc)) plain_one.also ≡ true
+            kind_also = same_kind (kind_of (type_of field.desc)) plain_one.same ∙ fits
 
-        kind_also : has_kind (kind_of (type_of field.desc)) plain_one.also ≡ true
-        kind_also = same_kind (kind_of (type_of field.desc)) plain_one.same ∙ fits
+            begins : MethodState
+            begins = record a.g {
+              place = a.g.place + length (narrowing (type_of field.desc));
+              stack = narrowed (type_of field.desc) plain_one.also ∷ plain_one.rest;
+            }
 
-        put : (after : Units) × StoredIn a.in_planned.one.flat site number (type_of field.desc) plain_one.also a.g.locals after
-        put =
-            field_stored a.in_planned.one.flat site number (type_of field.desc) plain_one.also a.g.locals
-            (record { one = there.one; is_site = there.is_site; is_type = type_here }) kind_also (keeps u laws a).room
+            quiet_from : (at_own : AtOwn u a.in_planned.one a.f.place a.settled.point a.settled.route a.g)
+                → ((later : ℕ)
+                × Quietly (second u)
+                (standing other (Method (record a.g { stack = plain_one.also ∷ plain_one.rest }) ∷ a.others) other.world.memory other.world.steps)
+                (standing other (Method (record a.g {
+                  place = a.g.place + length (narrowing_ops (type_of field.desc));
+                  stack = narrowed (type_of field.desc) plain_one.also ∷ plain_one.rest;
+                }) ∷ a.others) other.world.memory later))
+                → (later : ℕ)
+                × Quietly (second u) (standing other (Method a.g ∷ a.others) other.world.memory other.world.steps)
+                (standing other (Method begins ∷ a.others) other.world.memory later)
+            quiet_from at_own quiet = (
+              quiet.0,
+              subst (λ (stack : List Value). Quietly (second u)
+                  (standing other (Method (record a.g { stack = stack }) ∷ a.others) other.world.memory other.world.steps)
+                  (standing other (Method begins ∷ a.others) other.world.memory quiet.0)) (sym plain_one.stack)
+                  (subst (λ (n : ℕ). Quietly (second u)
+                  (standing other (Method (record a.g { stack = plain_one.also ∷ plain_one.rest }) ∷ a.others) other.world.memory other.world.steps)
+                  (standing other (Method (record a.g {
+                    place = a.g.place + n;
+                    stack = narrowed (type_of field.desc) plain_one.also ∷ plain_one.rest;
+                  }) ∷ a.others) other.world.memory quiet.0)) (sym (many_narrowing (type_of field.desc))) quiet.1),
+            )
 
-        kept_of : {unit : WUnit} {value : Value} → HeldIn a.in_planned.one.flat a.t.along.names put.0 unit value
-            → KeptIn a.t.along.names (record (next_with a.g plain_one.rest) { locals = put.0 }) (unit_number a.in_planned.one.flat unit) value
-        kept_of held_it = record { also = held_it.also; is = held_it.is; same = held_it.same }
+            put : (after : Units)
+                × StoredIn a.in_planned.one.flat site number (type_of field.desc) (narrowed (type_of field.desc) plain_one.also) a.g.locals after
+            put =
+                field_stored a.in_planned.one.flat site number (type_of field.desc) (narrowed (type_of field.desc) plain_one.also) a.g.locals
+                (record { one = there.one; is_site = there.is_site; is_type = type_here })
+                (kind_narrowed (type_of field.desc) plain_one.also kind_also) (keeps u laws a).room
 
-        tells_value : TellsField a.t.along.virtuals (length a.ones) (type_of field.desc) put_value Plain
-        tells_value =
-            subst (λ (v : Value). TellsField a.t.along.virtuals (length a.ones) (type_of field.desc) v Plain) (sym value_is)
-            (tells_plain fits (not_narrowed (type_of field.desc) upper none))
+            middle : MethodState
+            middle = record (next_with begins plain_one.rest) { locals = put.0 }
+
+            kept_of : {unit : WUnit} {value : Value} → HeldIn a.in_planned.one.flat a.t.along.names put.0 unit value
+                → KeptIn a.t.along.names middle (unit_number a.in_planned.one.flat unit) value
+            kept_of held_it = record { also = held_it.also; is = held_it.is; same = held_it.same }
+
+            tells_value : TellsField a.t.along.virtuals (length a.ones) (type_of field.desc) put_value Plain
+            tells_value = tells_plain (kind_narrowed (type_of field.desc) upper fits) (laws.narrowed_again (type_of field.desc) upper)
 
       puts_by : has_kind (kind_of (type_of field.desc)) upper ≡ true
-          → (held now (operand a.settled.point.typed 0) ≡ Plain → narrowing (type_of field.desc) ≡ [])
           → (slot : Slot)
           → held now (operand a.settled.point.typed 0) ≡ slot
           → (instrs : List WInstr)
           → put_template (scope_in u a.in_planned.one) (Virt site) slot (Some field) ≡ Some instrs
           → KeepsTurn u measure one other
-      puts_by fits none (Virt value_site) is_slot instrs written_it = puts_virtual value_site is_slot
-      puts_by fits none Plain is_slot instrs written_it = puts_plain is_slot fits (none is_slot)
-      puts_by fits none Unusable is_slot instrs written_it = absurd (none-some instrs written_it)
+      puts_by fits (Virt value_site) is_slot instrs written_it = puts_virtual value_site is_slot
+      puts_by fits Plain is_slot instrs written_it = puts_plain is_slot fits
+      puts_by fits Unusable is_slot instrs written_it = absurd (none-some instrs written_it)
 
     -- ---- what it comes to in the first run
 
-    module _ (none : held now (operand a.settled.point.typed 0) ≡ Plain → narrowing (type_of field.desc) ≡ []) (instrs : List WInstr)
+    module _ (instrs : List WInstr)
         (told : put_template (scope_in u a.in_planned.one) (Virt site) (held now (operand a.settled.point.typed 0)) (Some field) ≡ Some instrs) where
       stops : work (first u) one.world.memory (put_field r stores_into) (lower ∷ upper ∷ []) ≡ ends stuck → ⊥
       stops is_stuck =
@@ -546,7 +588,7 @@ module _ (u : Setup) (laws : TemplateLaws u) {measure : ℕ} {one other : Run} (
               (put_value_is (first u) one.world.memory field target.reference put_value target.object there.class place there.shape some
               ∙ ap (λ (heap : Heap). gives (record one.world.memory { heap = heap }) [])
               (value_set one.world.memory.heap target.reference target.object place put_value there.there)))
-              class_number in_folder fits none (held now (operand a.settled.point.typed 0)) refl instrs told
+              class_number in_folder fits (held now (operand a.settled.point.typed 0)) refl instrs told
 
         by_conforms : has_flag (field_of (first u) field) STATIC ≡ false
             → has_kind (kind_of (type_of field.desc)) upper ≡ true
@@ -588,24 +630,77 @@ module _ (u : Setup) (laws : TemplateLaws u) {measure : ℕ} {one other : Run} (
         by_static true static = absurd (stops (on_reference ∙ rw (links, static) refl))
         by_static false static = by_fits static (has_kind (kind_of (type_of field.desc)) upper) refl
 
-  -- where the stored value is plain its field's type is none to which it is narrowed
   put_virtual : (r field : Reference)
       → named_in u class index ≡ Some r
       → u.links.field r ≡ Some field
-      → (held (state_written a.settled.route) (operand a.settled.point.typed 0) ≡ Plain → narrowing (type_of field.desc) ≡ [])
       → (instrs : List WInstr)
       → put_template (scope_in u a.in_planned.one) (Virt site) (held (state_written a.settled.route) (operand a.settled.point.typed 0)) (Some field)
       ≡ Some instrs
       → (stack : List Value)
       → a.f.stack ≡ stack
       → KeepsTurn u measure one other
-  put_virtual r field named links none instrs told [] empty =
+  put_virtual r field named links instrs told [] empty =
       absurd (here_not_stuck u laws a class (PutField index) is
       (ap (λ (found : Option Reference). (op_step (first u) (counted one) a.f a.ones (put_op found)).halt) named
       ∙ no_two_operands (first u) (counted one) a.f a.ones (put_field r stores_into) refl empty))
-  put_virtual r field named links none instrs told (upper ∷ []) one_value =
+  put_virtual r field named links instrs told (upper ∷ []) one_value =
       absurd (here_not_stuck u laws a class (PutField index) is
       (ap (λ (found : Option Reference). (op_step (first u) (counted one) a.f a.ones (put_op found)).halt) named
       ∙ one_of_two (first u) (counted one) a.f a.ones (put_field r stores_into) upper refl one_value))
-  put_virtual r field named links none instrs told (upper ∷ lower ∷ below) stack =
-      put_on r field named links upper lower below stack none instrs told
+  put_virtual r field named links instrs told (upper ∷ lower ∷ below) stack =
+      put_on r field named links upper lower below stack instrs told
+
+module _ (u : Setup) (laws : TemplateLaws u) {measure : ℕ} {one other : Run} (a : AtPlanned u measure one other) (class index : ℕ)
+    (is : a.settled.point.instr ≡ Of class (PutField index)) where
+  pub put_turns : (instrs : List WInstr) → written_at a class (PutField index) ≡ Some instrs → KeepsTurn u measure one other
+  put_turns instrs told = by_object (held (state_written a.settled.route) (operand a.settled.point.typed 1)) refl told where
+    by_field : (site : ℕ)
+        → held (state_written a.settled.route) (operand a.settled.point.typed 1) ≡ Virt site
+        → (r : Option Reference)
+        → named_in u class index ≡ r
+        → (field : Option Reference)
+        → option_and_then u.links.field r ≡ field
+        → put_template (scope_in u a.in_planned.one) (Virt site) (held (state_written a.settled.route) (operand a.settled.point.typed 0)) field
+        ≡ Some instrs
+        → KeepsTurn u measure one other
+    by_field site virtual None no_name field links written_it =
+        absurd (here_not_stuck u laws a class (PutField index) is
+        (ap (λ (found : Option Reference). (op_step (first u) (counted one) a.f a.ones
+        (put_op u laws a class index is site virtual found)).halt) no_name))
+    by_field site virtual (Some r) named None no_field written_it = absurd (no_links a.f.stack refl) where
+      no_links : (stack : List Value) → a.f.stack ≡ stack → ⊥
+      no_links [] empty =
+          here_not_stuck u laws a class (PutField index) is
+          (ap (λ (found : Option Reference). (op_step (first u) (counted one) a.f a.ones
+          (put_op u laws a class index is site virtual found)).halt) named
+          ∙ no_two_operands (first u) (counted one) a.f a.ones (put_field r (stores_into u laws a class index is site virtual)) refl empty)
+      no_links (upper ∷ []) one_value =
+          here_not_stuck u laws a class (PutField index) is
+          (ap (λ (found : Option Reference). (op_step (first u) (counted one) a.f a.ones
+          (put_op u laws a class index is site virtual found)).halt) named
+          ∙ one_of_two (first u) (counted one) a.f a.ones (put_field r (stores_into u laws a class index is site virtual)) upper refl one_value)
+      no_links (upper ∷ lower ∷ below) stack =
+          here_not_stuck u laws a class (PutField index) is
+          (ap (λ (found : Option Reference). (op_step (first u) (counted one) a.f a.ones
+          (put_op u laws a class index is site virtual found)).halt) named
+          ∙ ap (λ (world : World). world.halt)
+          (two_operands (first u) (counted one) a.f a.ones (put_field r (stores_into u laws a class index is site virtual)) upper lower below refl
+          stack)
+          ∙ ap (λ (found : Option Reference). (perform (first u) (counted one) a.f (record a.f { stack = below }) a.ones
+          (put_field_work (first u) one.world.memory r.class found (stores_into u laws a class index is site virtual) (lower ∷ upper ∷ []))).halt)
+          no_field)
+    by_field site virtual (Some r) named (Some field) links written_it =
+        put_virtual u laws a class index is site virtual r field named links instrs written_it a.f.stack refl
+
+    by_object : (slot : Slot)
+        → held (state_written a.settled.route) (operand a.settled.point.typed 1) ≡ slot
+        → put_template (scope_in u a.in_planned.one) slot (held (state_written a.settled.route) (operand a.settled.point.typed 0))
+        (plan.field_of (scope_in u a.in_planned.one) class index) ≡ Some instrs
+        → KeepsTurn u measure one other
+    by_object Plain is_slot written_it = absurd (none-some instrs written_it)
+    by_object Unusable is_slot written_it = absurd (none-some instrs written_it)
+    by_object (Virt site) is_slot written_it =
+        by_field site is_slot (named_in u class index) refl (option_and_then u.links.field (named_in u class index)) refl
+        (ap (λ (field : Option Reference). put_template (scope_in u a.in_planned.one) (Virt site)
+        (held (state_written a.settled.route) (operand a.settled.point.typed 0)) field)
+        (sym (field_is (scope_in u a.in_planned.one) class index)) ∙ written_it)

@@ -17,6 +17,7 @@ use Rattle.written_runs.specs.Laws.Templates.Known.{TemplateLaws}
 use Rattle.written_runs.specs.Laws.Templates.Loads.{load_turns}
 use Rattle.written_runs.specs.Laws.Templates.Monitors.{enter_turns, leave_turns}
 use Rattle.written_runs.specs.Laws.Templates.News.{new_turns}
+use Rattle.written_runs.specs.Laws.Templates.Puts.{put_turns}
 use Rattle.written_runs.specs.Laws.Templates.Sames.{same_turns}
 use Rattle.written_runs.specs.Laws.Templates.Stores.{store_turns}
 
@@ -25,10 +26,8 @@ abbrev pub TurnsAt : (u : Setup) (measure : ℕ) (one other : Run) → AtPlanned
 TurnsAt u measure one other a class instr =
     (instrs : List WInstr) → a.settled.point.instr ≡ Of class instr → written_at a class instr ≡ Some instrs → KeepsTurn u measure one other
 
--- The instructions that are left to show: stores into fields of virtual objects; pop, dup, swap and the like.
+-- The instructions that are left to show: pop, dup, swap and the like.
 pub record TemplateParts (u : Setup) : Type 0 where
-  pub puts : (measure : ℕ) (one other : Run) (a : AtPlanned u measure one other) (class index : ℕ)
-      → TurnsAt u measure one other a class (PutField index)
   pub shuffles : (measure : ℕ) (one other : Run) (a : AtPlanned u measure one other) (class opcode : ℕ)
       → TurnsAt u measure one other a class (Shuffle opcode)
 
@@ -46,7 +45,7 @@ template_turns u laws parts measure one other a class (IfNull opcode to) instrs 
 template_turns u laws parts measure one other a class (IfSame opcode to) instrs is told = same_turns u laws a class opcode to is instrs told
 template_turns u laws parts measure one other a class (InstanceOf index) instrs is told = instance_turns u laws a class index is instrs told
 template_turns u laws parts measure one other a class (Goto to) instrs is told = goto_turns u laws a class to is instrs told
-template_turns u laws parts measure one other a class (PutField index) instrs is told = parts.puts measure one other a class index instrs is told
+template_turns u laws parts measure one other a class (PutField index) instrs is told = put_turns u laws a class index is instrs told
 template_turns u laws parts measure one other a class (Invoke opcode index count) instrs is told =
     init_turns u laws a class opcode index count is instrs told
 template_turns u laws parts measure one other a class (Shuffle opcode) instrs is told = parts.shuffles measure one other a class opcode instrs is told
