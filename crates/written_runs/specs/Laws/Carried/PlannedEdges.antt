@@ -6,7 +6,11 @@ use Rattle.std.proofs.lemmas.List.{length-append, length-map}
 use Rattle.std.proofs.lemmas.Option.{none-some, same_Some, slice_get-map, slice_get_past, slice_get_within}
 use Rattle.class_model.specs.Frames.{is_top}
 use Rattle.class_model.specs.declared.class_file.MethodAt.{MethodAt}
+use Rattle.class_model.specs.declared.descriptor.Kind.{Kind}
 use Rattle.class_model.specs.declared.frame.VType.{VType}
+use Rattle.class_model.specs.declared.instr.Instr.TheVariants.{Store}
+use Rattle.flow_code.specs.declared.point.FlatInstr.TheVariants.{Of}
+use Rattle.machine_values.specs.Values.{blank_of_kind, is_wide_value}
 use Rattle.flow_code.specs.FlatCode.{point_at}
 use Rattle.flow_code.specs.declared.handlers.FlatHandler.{FlatHandler}
 use Rattle.flow_code.specs.declared.point.Point.{Point}
@@ -53,6 +57,13 @@ pub record RowsFit (s : PlanScope) : Type 0 where
   pub along : (at : ℕ) (point : Point)
       → point_at s.flat at ≡ Some point
       → AllByRecursion (FitsAlong s at point) (edges_of at point (row_of_point s at point))
+  -- the second unit of a long or double is Top behind its store
+  pub second : (at : ℕ) (point : Point) (class : ℕ) (kind : Kind) (local : ℕ) (type : VType)
+      → point_at s.flat at ≡ Some point
+      → point.instr ≡ Of class (Store kind local)
+      → is_wide_value (blank_of_kind kind) ≡ true
+      → slice_get (local_types s.flat (at + 1)) (local + 1) ≡ Some type
+      → is_top type ≡ true
 
 -- ---- lists
 

@@ -45,6 +45,8 @@ use Rattle.member_link.specs.Machine.CallSteps.{is_object_init}
 use Rattle.written_runs.specs.Inner.PlannedFrames.{scope_in}
 use Rattle.written_runs.specs.Inner.Setup.{Setup, first}
 use Rattle.written_runs.specs.Laws.Carried.Knowing.{CarriedLaws}
+use Rattle.written_runs.specs.Laws.Carried.IncrementTurns.{increment_turn}
+use Rattle.written_runs.specs.Laws.Carried.StoreInstrs.{store_turn}
 use Rattle.written_runs.specs.Laws.Carried.JumpInstrs.{if_null_turn, if_same_turn, if_turn, if_two_turn}
 use Rattle.written_runs.specs.Laws.Carried.LoadTurns.{load_turn}
 use Rattle.written_runs.specs.Laws.Carried.NopTurns.{nop_turn}
@@ -265,18 +267,7 @@ module _ (u : Setup) (laws : CarriedLaws u) {measure : ℕ} {one other : Run} (a
 
 -- ---- all
 
--- What is left to show of instructions that are written as they are: a constructor's row, and stores into locals.
-pub record OpenCarried (u : Setup) : Type 0 where
-  pub rows : (w : WrittenMethod) → OpenRows (first u) (scope_in u w)
-  pub store : (measure : ℕ) (one other : Run) (a : AtPlanned u measure one other) (class : ℕ) (kind : Kind) (local : ℕ)
-      → a.settled.point.instr ≡ Of class (Store kind local)
-      → written_at a class (Store kind local) ≡ None
-      → KeepsTurn u measure one other
-  pub increment : (measure : ℕ) (one other : Run) (a : AtPlanned u measure one other) (class local : ℕ) (by : ℤ)
-      → a.settled.point.instr ≡ Of class (Iinc local by)
-      → KeepsTurn u measure one other
-
-module _ (u : Setup) (laws : CarriedLaws u) (parts : OpenCarried u) where
+module _ (u : Setup) (laws : CarriedLaws u) (rows : (w : WrittenMethod) → OpenRows (first u) (scope_in u w)) where
   -- An instruction that is written as it is.
   pub as_it_is_turn : (measure : ℕ) (one other : Run) (a : AtPlanned u measure one other) (class : ℕ) (instr : Instr)
       → a.settled.point.instr ≡ Of class instr
@@ -284,8 +275,8 @@ module _ (u : Setup) (laws : CarriedLaws u) (parts : OpenCarried u) where
       → KeepsTurn u measure one other
   as_it_is_turn measure one other a class Nop is none = nop_turn u laws a class is
   as_it_is_turn measure one other a class (Load kind local) is none = load_turn u laws a class kind local is none
-  as_it_is_turn measure one other a class (Store kind local) is none = parts.store measure one other a class kind local is none
-  as_it_is_turn measure one other a class (Iinc local by) is none = parts.increment measure one other a class local by is
+  as_it_is_turn measure one other a class (Store kind local) is none = store_turn u laws a class kind local is none
+  as_it_is_turn measure one other a class (Iinc local by) is none = increment_turn u laws a class local by is
   as_it_is_turn measure one other a class (Shuffle opcode) is none = absurd (none-some _ (sym none))
   as_it_is_turn measure one other a class (Goto to) is none = absurd (none-some _ (sym none))
   as_it_is_turn measure one other a class (If opcode to) is none = if_turn u laws a class opcode to is none
@@ -295,30 +286,30 @@ module _ (u : Setup) (laws : CarriedLaws u) (parts : OpenCarried u) where
   as_it_is_turn measure one other a class (Table low default to) is none = table_turn u laws a class low default to is
   as_it_is_turn measure one other a class (Lookup default pairs) is none = lookup_turn u laws a class default pairs is
   as_it_is_turn measure one other a class (Return kind) is none = return_turn u laws a class kind is
-  as_it_is_turn measure one other a class (Const imm) is none = operation_turn u laws a class (Const imm) is none tt (parts.rows a.in_planned.one)
-  as_it_is_turn measure one other a class (Ldc index) is none = operation_turn u laws a class (Ldc index) is none tt (parts.rows a.in_planned.one)
-  as_it_is_turn measure one other a class (Ldc2 index) is none = operation_turn u laws a class (Ldc2 index) is none tt (parts.rows a.in_planned.one)
-  as_it_is_turn measure one other a class (ArrayLoad opcode) is none = operation_turn u laws a class (ArrayLoad opcode) is none tt (parts.rows a.in_planned.one)
-  as_it_is_turn measure one other a class (ArrayStore opcode) is none = operation_turn u laws a class (ArrayStore opcode) is none tt (parts.rows a.in_planned.one)
-  as_it_is_turn measure one other a class (Pure opcode) is none = operation_turn u laws a class (Pure opcode) is none tt (parts.rows a.in_planned.one)
-  as_it_is_turn measure one other a class (Divide opcode) is none = operation_turn u laws a class (Divide opcode) is none tt (parts.rows a.in_planned.one)
-  as_it_is_turn measure one other a class (FloatAsk opcode) is none = operation_turn u laws a class (FloatAsk opcode) is none tt (parts.rows a.in_planned.one)
-  as_it_is_turn measure one other a class (GetStatic index) is none = operation_turn u laws a class (GetStatic index) is none tt (parts.rows a.in_planned.one)
-  as_it_is_turn measure one other a class (PutStatic index) is none = operation_turn u laws a class (PutStatic index) is none tt (parts.rows a.in_planned.one)
-  as_it_is_turn measure one other a class (GetField index) is none = operation_turn u laws a class (GetField index) is none tt (parts.rows a.in_planned.one)
-  as_it_is_turn measure one other a class (PutField index) is none = operation_turn u laws a class (PutField index) is none tt (parts.rows a.in_planned.one)
-  as_it_is_turn measure one other a class (Invoke opcode index count) is none = operation_turn u laws a class (Invoke opcode index count) is none tt (parts.rows a.in_planned.one)
-  as_it_is_turn measure one other a class (Dynamic index) is none = operation_turn u laws a class (Dynamic index) is none tt (parts.rows a.in_planned.one)
-  as_it_is_turn measure one other a class (New index) is none = operation_turn u laws a class (New index) is none tt (parts.rows a.in_planned.one)
-  as_it_is_turn measure one other a class (NewArray code) is none = operation_turn u laws a class (NewArray code) is none tt (parts.rows a.in_planned.one)
-  as_it_is_turn measure one other a class (NewRefArray index) is none = operation_turn u laws a class (NewRefArray index) is none tt (parts.rows a.in_planned.one)
-  as_it_is_turn measure one other a class (NewMulti index dimensions) is none = operation_turn u laws a class (NewMulti index dimensions) is none tt (parts.rows a.in_planned.one)
-  as_it_is_turn measure one other a class Length is none = operation_turn u laws a class Length is none tt (parts.rows a.in_planned.one)
-  as_it_is_turn measure one other a class Throw is none = operation_turn u laws a class Throw is none tt (parts.rows a.in_planned.one)
-  as_it_is_turn measure one other a class (Cast index) is none = operation_turn u laws a class (Cast index) is none tt (parts.rows a.in_planned.one)
-  as_it_is_turn measure one other a class (InstanceOf index) is none = operation_turn u laws a class (InstanceOf index) is none tt (parts.rows a.in_planned.one)
-  as_it_is_turn measure one other a class Enter is none = operation_turn u laws a class Enter is none tt (parts.rows a.in_planned.one)
-  as_it_is_turn measure one other a class Leave is none = operation_turn u laws a class Leave is none tt (parts.rows a.in_planned.one)
+  as_it_is_turn measure one other a class (Const imm) is none = operation_turn u laws a class (Const imm) is none tt (rows a.in_planned.one)
+  as_it_is_turn measure one other a class (Ldc index) is none = operation_turn u laws a class (Ldc index) is none tt (rows a.in_planned.one)
+  as_it_is_turn measure one other a class (Ldc2 index) is none = operation_turn u laws a class (Ldc2 index) is none tt (rows a.in_planned.one)
+  as_it_is_turn measure one other a class (ArrayLoad opcode) is none = operation_turn u laws a class (ArrayLoad opcode) is none tt (rows a.in_planned.one)
+  as_it_is_turn measure one other a class (ArrayStore opcode) is none = operation_turn u laws a class (ArrayStore opcode) is none tt (rows a.in_planned.one)
+  as_it_is_turn measure one other a class (Pure opcode) is none = operation_turn u laws a class (Pure opcode) is none tt (rows a.in_planned.one)
+  as_it_is_turn measure one other a class (Divide opcode) is none = operation_turn u laws a class (Divide opcode) is none tt (rows a.in_planned.one)
+  as_it_is_turn measure one other a class (FloatAsk opcode) is none = operation_turn u laws a class (FloatAsk opcode) is none tt (rows a.in_planned.one)
+  as_it_is_turn measure one other a class (GetStatic index) is none = operation_turn u laws a class (GetStatic index) is none tt (rows a.in_planned.one)
+  as_it_is_turn measure one other a class (PutStatic index) is none = operation_turn u laws a class (PutStatic index) is none tt (rows a.in_planned.one)
+  as_it_is_turn measure one other a class (GetField index) is none = operation_turn u laws a class (GetField index) is none tt (rows a.in_planned.one)
+  as_it_is_turn measure one other a class (PutField index) is none = operation_turn u laws a class (PutField index) is none tt (rows a.in_planned.one)
+  as_it_is_turn measure one other a class (Invoke opcode index count) is none = operation_turn u laws a class (Invoke opcode index count) is none tt (rows a.in_planned.one)
+  as_it_is_turn measure one other a class (Dynamic index) is none = operation_turn u laws a class (Dynamic index) is none tt (rows a.in_planned.one)
+  as_it_is_turn measure one other a class (New index) is none = operation_turn u laws a class (New index) is none tt (rows a.in_planned.one)
+  as_it_is_turn measure one other a class (NewArray code) is none = operation_turn u laws a class (NewArray code) is none tt (rows a.in_planned.one)
+  as_it_is_turn measure one other a class (NewRefArray index) is none = operation_turn u laws a class (NewRefArray index) is none tt (rows a.in_planned.one)
+  as_it_is_turn measure one other a class (NewMulti index dimensions) is none = operation_turn u laws a class (NewMulti index dimensions) is none tt (rows a.in_planned.one)
+  as_it_is_turn measure one other a class Length is none = operation_turn u laws a class Length is none tt (rows a.in_planned.one)
+  as_it_is_turn measure one other a class Throw is none = operation_turn u laws a class Throw is none tt (rows a.in_planned.one)
+  as_it_is_turn measure one other a class (Cast index) is none = operation_turn u laws a class (Cast index) is none tt (rows a.in_planned.one)
+  as_it_is_turn measure one other a class (InstanceOf index) is none = operation_turn u laws a class (InstanceOf index) is none tt (rows a.in_planned.one)
+  as_it_is_turn measure one other a class Enter is none = operation_turn u laws a class Enter is none tt (rows a.in_planned.one)
+  as_it_is_turn measure one other a class Leave is none = operation_turn u laws a class Leave is none tt (rows a.in_planned.one)
 
   -- So the turns of instructions that are written as they are, and of tests for null, are all there is left beside templates.
   pub planned_parts : ((measure : ℕ) (one other : Run) (a : AtPlanned u measure one other) (class : ℕ) (instr : Instr) (instrs : List WInstr)
