@@ -1,16 +1,15 @@
 -- Where an edge leads in written code: to the make code on it, or to the first block of its point.
-use Rattle.std.proofs.Common.{◌≡◌, ◌+◌, ◌++◌, ℕ, suc, Bool, true, false, List, [], ◌∷◌, drop, length, slice_get, Option, Some, None, refl, sym, ap, subst, ◌∙◌, arith}
-use Rattle.std.proofs.lemmas.Bool.{eq-eqb, false≢true}
+use Rattle.std.proofs.Common.{◌≡◌, ◌+◌, ◌++◌, ℕ, suc, Bool, true, false, List, [], ◌∷◌, length, slice_get, Option, Some, refl, sym, ap, ◌∙◌, arith}
+use Rattle.std.proofs.lemmas.Bool.{eq-eqb}
 use Rattle.std.proofs.lemmas.List.{append_assoc, append_cancel_right, length-append}
-use Rattle.std.proofs.lemmas.Option.{none-some, same_Some}
 use Rattle.flow_code.specs.declared.point.Point.{Point}
 use Rattle.machine_values.specs.Frames.{MethodState}
-use Rattle.making_code.specs.Items.{WTarget, to_handler_pad, to_jump_pad, to_point}
+use Rattle.making_code.specs.Items.{to_handler_pad, to_jump_pad, to_point}
 use Rattle.plan_flow.specs.Laws.WrittenBlocks.{before_blocks, block_finished, blocks_left, blocks_right, first_begins, first_block, first_item, first_of, from_point, made_next, next_part, own_number, pads_of, points_from, starts_at}
 use Rattle.plan_flow.specs.Laws.WrittenPads.{StandsFirst, handler_pad_stands, jump_pad_stands, none_finished, pad_block}
 use Rattle.plan_flow.specs.PlanScope.{PlanScope}
-use Rattle.plan_flow.specs.Written.Blocks.{Block, BlockOf, blocks_of, handler_pad, instruction_block, is_decided, jump_pad, next_block, point_blocks, state_written}
-use Rattle.plan_flow.specs.Written.Finish.{Finished, begins_point, end_of, finish}
+use Rattle.plan_flow.specs.Written.Blocks.{Block, BlockOf, blocks_of, handler_pad, instruction_block, is_decided, jump_pad, next_block, point_blocks}
+use Rattle.plan_flow.specs.Written.Finish.{begins_point}
 use Rattle.plan_flow.specs.Written.Routes.{Route, RouteEdge, edge_by}
 use Rattle.plan_flow.specs.Written.Templates.{to_or_pad}
 use Rattle.plan_flow.specs.Written.WrittenCode.{is_handler_pad, is_jump_pad, start_of, target_number}
@@ -19,8 +18,6 @@ use Rattle.plan_flow.specs.declared.edge.EdgeKind.{EdgeKind}
 use Rattle.plan_flow.specs.declared.edge.EdgeKind.TheVariants as edges
 use Rattle.virtual_state.specs.Laws.Removals.{without_none}
 use Rattle.virtual_state.specs.Sites.{has}
-use Rattle.virtual_state.specs.States.{State}
-use Rattle.virtual_state.specs.Without.{without}
 use Rattle.written_runs.specs.Inner.PlannedFrames.{IsBlock, IsReached, IsTold, blocks_in, of_first, of_handler, of_jump, of_next, scope_in}
 use Rattle.written_runs.specs.Inner.Setup.{Setup}
 use Rattle.written_runs.specs.Laws.Settling.{Onwards, SettleLaws, onwards}
@@ -198,8 +195,7 @@ module _ (u : Setup) (laws : SettleLaws u) {w : WrittenMethod} (then : MethodSta
       ap (λ (n : ℕ). start_of w.form (blocks_in u w) (begins_point n)) to ∙ point_place u w then.place target on.route on.reached,
     )
     of_made (site ∷ sites) some =
-        let stands = jump_pad_stands s w.routes at number point route edge site sites reached.is_point reached.is_route undecided is_jump (by ∙ is) some in
-        (
+        let stands = jump_pad_stands s w.routes at number point route edge site sites reached.is_point reached.is_route undecided is_jump (by ∙ is) some in (
           record {
             number = stands.0;
             block = pad_block s (jump_pad at number) edge (site ∷ sites);
@@ -232,8 +228,7 @@ module _ (u : Setup) (laws : SettleLaws u) {w : WrittenMethod} (then : MethodSta
       ap (λ (n : ℕ). start_of w.form (blocks_in u w) (begins_point n)) to ∙ point_place u w then.place target on.route on.reached,
     )
     of_made (site ∷ sites) some =
-        let stands = handler_pad_stands s w.routes at number point route edge site sites reached.is_point reached.is_route is_handler (by ∙ is) some in
-        (
+        let stands = handler_pad_stands s w.routes at number point route edge site sites reached.is_point reached.is_route is_handler (by ∙ is) some in (
           record {
             number = stands.0;
             block = pad_block s (handler_pad at number) edge (site ∷ sites);

@@ -1,15 +1,11 @@
 -- iinc: its local is plain, since it is a number.
-use Rattle.std.proofs.Common.{◌≡◌, ◌≤◌, ◌<◌, ◌+◌, ◌-◌, ◌++◌, ℕ, zero, suc, Bool, true, false, List, [], ◌∷◌, drop, length, map, slice_get, Option, Some, None, IsTrue, option_and_then, option_map, refl, sym, ap, subst, ◌∙◌, arith}
+use Rattle.std.proofs.Common.{◌≡◌, ◌<◌, ◌+◌, ◌-◌, ◌++◌, ℕ, true, false, List, [], length, slice_get, Option, Some, None, IsTrue, option_and_then, option_map, refl, sym, ap, ◌∙◌, arith}
 use Rattle.std.proofs.lemmas.Bool.{false≢true}
-use Rattle.std.proofs.lemmas.Option.{none-some, same_Some, slice_get-map, slice_get_within}
-use Rattle.class_model.specs.declared.descriptor.Kind.{Kind}
+use Rattle.std.proofs.lemmas.Option.{same_Some, slice_get-map, slice_get_within}
 use Rattle.class_model.specs.declared.descriptor.Kind.TheVariants as kinds
 use Rattle.class_model.specs.declared.frame.VType.{VType}
-use Rattle.class_model.specs.declared.frame.VType.TheVariants as types
-use Rattle.class_model.specs.declared.instr.Instr.{Instr}
-use Rattle.class_model.specs.declared.instr.Instr.TheVariants.{Load, Nop}
 use Rattle.class_model.specs.Frames.{is_top}
-use Rattle.flow_code.specs.ReadTypes.{is_site_object, read_frame, read_type}
+use Rattle.flow_code.specs.ReadTypes.{is_site_object}
 use Rattle.flow_code.specs.declared.point.FlatInstr.{FlatInstr}
 use Rattle.flow_code.specs.declared.point.FlatInstr.TheVariants.{Of}
 use Rattle.flow_code.specs.declared.point.Point.{Point}
@@ -17,87 +13,58 @@ use Rattle.machine_values.specs.Frames.{MethodState}
 use Rattle.machine_values.specs.Values.{has_kind}
 use Rattle.machine_values.specs.declared.value.Value.{Value}
 use Rattle.machine_values.specs.declared.value.Value.TheVariants.{Ref}
-use Rattle.member_link.specs.BodyTyping.{RowHolds}
-use Rattle.member_link.specs.Bodies.{item_row}
-use Rattle.member_link.specs.Machine.Codes.{item_op, number_at}
 use Rattle.member_link.specs.Machine.Locals.{local_value}
-use Rattle.member_link.specs.Machine.Ops.{Op, load_local, no_operation}
-use Rattle.member_link.specs.Machine.Performing.{resumed}
 use Rattle.member_link.specs.Machine.Programs.{Program}
 use Rattle.member_link.specs.Machine.Runs.{Run}
-use Rattle.member_link.specs.Machine.Stepping.{ends_stuck, load_step, op_step, with_top}
-use Rattle.member_link.specs.Machine.Worlds.{World, stuck}
-use Rattle.member_link.specs.Rows.LocalRows.{HoldsKind}
-use Rattle.member_link.specs.Rows.Operands.{IsOfKind}
-use Rattle.member_link.specs.Rows.Readings.{row_by}
+use Rattle.member_link.specs.Machine.Stepping.{ends_stuck, op_step}
+use Rattle.member_link.specs.Machine.Worlds.{World}
 use Rattle.plan_flow.specs.PlanRows.{PlanRow, Source, from_place}
 use Rattle.plan_flow.specs.PlanScope.{PlanScope}
-use Rattle.plan_flow.specs.PlanSlots.{held, readable}
+use Rattle.plan_flow.specs.PlanSlots.{readable}
 use Rattle.plan_flow.specs.PlanTable.{falls_on, moving, row_at}
 use Rattle.plan_flow.specs.ReadyForPlans.{KeepsType, from_its_new, from_its_type, place_types}
 use Rattle.plan_flow.specs.Written.Blocks.{state_written}
-use Rattle.plan_flow.specs.Written.Routes.{Route}
-use Rattle.plan_flow.specs.Written.Templates.{nothing_of}
 use Rattle.plan_flow.specs.Written.WrittenPrograms.{WrittenMethod}
-use Rattle.same_runs.specs.Flats.{flat_item, flat_points, instr_scope}
 use Rattle.same_runs.specs.Laws.BothBegin.{counted}
-use Rattle.same_runs.specs.Laws.CaughtUp.{less}
-use Rattle.same_runs.specs.Laws.Moves.{same_kind}
-use Rattle.same_runs.specs.QuietMoves.{moved_by, pushed}
-use Rattle.same_runs.specs.Renamings.{SameValue, and_value, no_values}
-use Rattle.same_runs.specs.TypedFlats.{reading_of}
+use Rattle.same_runs.specs.QuietMoves.{moved_by}
+use Rattle.same_runs.specs.Renamings.{SameValue}
 use Rattle.virtual_state.specs.States.{State}
 use Rattle.virtual_state.specs.declared.slot.Slot.{Slot}
 use Rattle.virtual_state.specs.declared.slot.Slot.TheVariants.{Plain, Virt, Unusable}
-use Rattle.written_runs.specs.Inner.PlannedFrames.{KeptIn, scope_in}
+use Rattle.written_runs.specs.Inner.PlannedFrames.{scope_in}
 use Rattle.written_runs.specs.Inner.Setup.{Setup, first}
 use Rattle.written_runs.specs.Laws.Carried.Knowing.{CarriedLaws}
-use Rattle.written_runs.specs.Laws.Carried.MoveTurns.{moves_next}
 use Rattle.written_runs.specs.Laws.Carried.NullTests.{no_top}
-use Rattle.written_runs.specs.Laws.Carried.OperandFits.{nothing_plain, plain_read}
-use Rattle.written_runs.specs.Laws.Carried.Operands.{AreReal}
 use Rattle.written_runs.specs.Laws.Carried.Planned.{carried_here, known_here, knowing_here, own_start}
 use Rattle.written_runs.specs.Laws.Carried.PlannedEdges.{slots_long, unusable_is_top}
-use Rattle.written_runs.specs.Laws.Carried.Points.{IsNoJump}
-use Rattle.written_runs.specs.Laws.Carried.Rows.{PlainRow}
 use Rattle.written_runs.specs.Laws.Carried.Slots.{got_left}
-use Rattle.written_runs.specs.Laws.Carried.Turns.{not_stuck_here, turned_here}
 use Rattle.written_runs.specs.Laws.Carried.Waiting.{AtCarried}
-use Rattle.written_runs.specs.Laws.Carried.Works.{at_first, at_first_is, many_slots, own}
+use Rattle.written_runs.specs.Laws.Carried.Works.{many_slots}
 use Rattle.written_runs.specs.Laws.Halfway.{Halfway}
-use Rattle.written_runs.specs.Laws.PlannedTurns.{AtPlanned, written_at}
+use Rattle.written_runs.specs.Laws.PlannedTurns.{AtPlanned}
 use Rattle.written_runs.specs.Laws.Settling.{SettleLaws}
 use Rattle.written_runs.specs.Laws.Simulation.{KeepsTurn}
 use Rattle.written_runs.specs.Laws.Templates.Stacks.{drop_at, get_in_take}
 use Rattle.written_runs.specs.VirtualObjects.{local_slots, stack_slots}
-use Rattle.written_runs.specs.WrittenRuns.{IsReadyMethod}
 use Rattle.written_runs.specs.Laws.Carried.CarriedOps.{OpOf, kind_is_no_top, no_real, not_stuck_there, typed_row, value_there}
-use Rattle.std.proofs.Common.{◌≢◌, ℤ, reverse, slice_set, take}
-use Rattle.std.proofs.lemmas.List.{length-map}
-use Rattle.class_model.specs.declared.instr.Instr.TheVariants.{Iinc, Store}
-use Rattle.flow_code.specs.WrittenUnits.{written_units}
-use Rattle.machine_values.specs.Values.{blank_of_kind, is_wide_value}
+use Rattle.std.proofs.Common.{ℤ}
+use Rattle.class_model.specs.declared.instr.Instr.TheVariants.{Iinc}
 use Rattle.machine_values.specs.declared.value.Value.TheVariants.{Double, Float, Int, Long, Null}
-use Rattle.member_link.specs.Machine.Locals.{incremented, stored, width_of}
-use Rattle.member_link.specs.Machine.Stepping.{increment_step, next_with, store_step}
+use Rattle.member_link.specs.Machine.Locals.{incremented, stored}
+use Rattle.member_link.specs.Machine.Stepping.{increment_step}
 use Rattle.plan_flow.specs.Must.{row_of_point}
 use Rattle.plan_flow.specs.PlanSlots.{is_open, slot_from}
-use Rattle.plan_flow.specs.PlanTable.{held_locals, operand, store_row}
+use Rattle.plan_flow.specs.PlanTable.{held_locals}
 use Rattle.same_runs.specs.Laws.Moves.{same_width}
-use Rattle.same_runs.specs.Laws.Objects.{set_other}
-use Rattle.same_runs.specs.Laws.Stored.{IsStored, set_count, set_in, stored_is, stores}
-use Rattle.same_runs.specs.QuietMoves.{kept as kept_by, popped}
-use Rattle.same_runs.specs.Renamings.{SameValues, same_int}
-use Rattle.written_runs.specs.Laws.Carried.Operands.{HaveOperands, have_operands}
+use Rattle.same_runs.specs.Laws.Stored.{stored_is, stores}
+use Rattle.same_runs.specs.QuietMoves.{kept as kept_by}
+use Rattle.same_runs.specs.Renamings.{same_int}
 use Rattle.written_runs.specs.Laws.Carried.PlannedEdges.{EdgeThere}
-use Rattle.written_runs.specs.Laws.Carried.Rows.{leaves_of, real_operands, reverse_get}
-use Rattle.written_runs.specs.Laws.Carried.Slots.{LeavesStack, edge_slots, got_right, leaves_stack}
+use Rattle.written_runs.specs.Laws.Carried.Slots.{LeavesStack, edge_slots}
 use Rattle.written_runs.specs.Laws.Carried.StoreTurns.{many_flat, many_locals, next_edge, next_row, sources, stores_next}
-use Rattle.written_runs.specs.Laws.Carried.Works.{many_stack}
 use Rattle.written_runs.specs.Laws.Templates.Stacks.{held_at, held_length}
 use Rattle.plan_flow.specs.PlanScope.{local_types}
 use Rattle.plan_flow.specs.PlanSlots.{changed}
-use Rattle.same_runs.specs.Laws.Stored.{width_low}
 use Rattle.std.specs.Int.{int_wrapping_add, w32}
 
 module _ (u : Setup) (laws : CarriedLaws u) {measure : ℕ} {one other : Run} (a : AtPlanned u measure one other) (class : ℕ) (local : ℕ) (amount : ℤ)

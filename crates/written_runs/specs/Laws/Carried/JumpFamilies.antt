@@ -1,8 +1,8 @@
 -- Conditional jumps: the topmost operands decide, the same where they are the same, and the opposite jump is taken where the jump is not.
-use Rattle.std.proofs.Common.{◌≡◌, ◌≤◌, ◌<◌, ◌+◌, ◌-◌, ◌++◌, ◌==◌, ◌&&◌, not, nat_le, ℕ, zero, suc, ℤ, pos, negsuc, int_lt, int_le, Bool, true, false, List, [], ◌∷◌, drop, length, take, Option, Some, None, option_map, if◌then◌else◌, refl, sym, ap, subst, ◌∙◌, arith}
+use Rattle.std.proofs.Common.{◌≡◌, ◌≤◌, ◌+◌, ◌-◌, ◌==◌, ◌&&◌, not, nat_le, ℕ, zero, suc, ℤ, pos, int_lt, int_le, Bool, true, false, List, [], ◌∷◌, drop, length, take, Option, Some, None, option_map, if◌then◌else◌, refl, sym, ap, subst, ◌∙◌, arith}
 use Rattle.std.proofs.lemmas.Bool.{leb-true}
 use Rattle.std.proofs.lemmas.Int.{ints}
-use Rattle.std.proofs.lemmas.Option.{none-some, same_Some}
+use Rattle.std.proofs.lemmas.Option.{none-some}
 use Rattle.class_model.specs.declared.opcodes.TheConstants.{IFEQ, IFLE, IFNONNULL, IFNULL, IF_ACMPEQ, IF_ACMPNE, IF_ICMPEQ, IF_ICMPLE}
 use Rattle.machine_values.specs.Frames.{MethodState}
 use Rattle.machine_values.specs.declared.frame.RunFrame.{RunFrame}
@@ -146,11 +146,13 @@ int_opposes opcode stack between = by stack where
   by : (all : List Value) → IsBetween IFEQ IFLE (opposite opcode) × (jump_of_int (opposite opcode) all ≡ negated (jump_of_int opcode all))
   by (Int n ∷ rest) =
       let next = (other n).0 in
-      let back : IFEQ + next - IFEQ ≡ next = omega arith in
-      (in_form, ap (λ (o : ℕ). with_rest rest (holds_for (o - IFEQ) n (pos 0))) (is_opposite n)
-      ∙ ap (λ (o : ℕ). with_rest rest (holds_for o n (pos 0))) back
-      ∙ ap (with_rest rest) (other n).4
-      ∙ with_rest_not rest (holds_for (opcode - IFEQ) n (pos 0)))
+      let back : IFEQ + next - IFEQ ≡ next = omega arith in (
+        in_form,
+        ap (λ (o : ℕ). with_rest rest (holds_for (o - IFEQ) n (pos 0))) (is_opposite n)
+            ∙ ap (λ (o : ℕ). with_rest rest (holds_for o n (pos 0))) back
+            ∙ ap (with_rest rest) (other n).4
+            ∙ with_rest_not rest (holds_for (opcode - IFEQ) n (pos 0)),
+      )
   by [] = (in_form, refl)
   by (Long n ∷ rest) = (in_form, refl)
   by (Float n ∷ rest) = (in_form, refl)
@@ -235,11 +237,13 @@ ints_opposes opcode stack between = by stack where
   by : (all : List Value) → IsBetween IF_ICMPEQ IF_ICMPLE (opposite opcode) × (jump_of_ints (opposite opcode) all ≡ negated (jump_of_ints opcode all))
   by (Int also ∷ Int one ∷ rest) =
       let next = (other one also).0 in
-      let back : IF_ICMPEQ + next - IF_ICMPEQ ≡ next = omega arith in
-      (in_form, ap (λ (o : ℕ). with_rest rest (holds_for (o - IF_ICMPEQ) one also)) (is_opposite one also)
-      ∙ ap (λ (o : ℕ). with_rest rest (holds_for o one also)) back
-      ∙ ap (with_rest rest) (other one also).4
-      ∙ with_rest_not rest (holds_for (opcode - IF_ICMPEQ) one also))
+      let back : IF_ICMPEQ + next - IF_ICMPEQ ≡ next = omega arith in (
+        in_form,
+        ap (λ (o : ℕ). with_rest rest (holds_for (o - IF_ICMPEQ) one also)) (is_opposite one also)
+            ∙ ap (λ (o : ℕ). with_rest rest (holds_for o one also)) back
+            ∙ ap (with_rest rest) (other one also).4
+            ∙ with_rest_not rest (holds_for (opcode - IF_ICMPEQ) one also),
+      )
   by [] = (in_form, refl)
   by (Int n ∷ []) = (in_form, refl)
   by (Int also ∷ Long n ∷ rest) = (in_form, refl)

@@ -1,33 +1,29 @@
 -- Conditional jumps on plain operands: both frames jump, or both go on.
-use Rattle.std.proofs.Common.{◌≡◌, ◌≤◌, ◌<◌, ◌+◌, ◌-◌, ◌++◌, ◌&&◌, not, nat_le, ℕ, zero, suc, Bool, true, false, List, [], ◌∷◌, drop, length, map, slice_get, take, Option, Some, None, option_and_then, option_map, if◌then◌else◌, refl, sym, ap, subst, ◌∙◌, arith}
+use Rattle.std.proofs.Common.{◌≡◌, ◌≤◌, ◌<◌, ◌+◌, ◌-◌, ◌&&◌, not, nat_le, ℕ, suc, Bool, true, false, List, [], ◌∷◌, drop, length, map, slice_get, take, Option, Some, None, option_and_then, if◌then◌else◌, refl, sym, ap, ◌∙◌, arith}
 use Rattle.std.proofs.lemmas.Option.{none-some, same_Some}
 use Rattle.class_model.specs.Instructions.{targets}
 use Rattle.class_model.specs.declared.instr.Instr.{Instr}
-use Rattle.class_tree.specs.Headers.{Name}
 use Rattle.flow_code.specs.declared.point.FlatInstr.{FlatInstr}
 use Rattle.flow_code.specs.declared.point.FlatInstr.TheVariants.{Of}
 use Rattle.flow_code.specs.declared.point.Point.{Point}
 use Rattle.machine_values.specs.Frames.{MethodState}
 use Rattle.machine_values.specs.declared.frame.RunFrame.{RunFrame}
 use Rattle.machine_values.specs.declared.value.Value.{Value}
-use Rattle.making_code.specs.Items.{WItem, WTarget, carried, plain, to_jump_pad, to_point}
-use Rattle.member_link.specs.Bodies.{falls_through}
+use Rattle.making_code.specs.Items.{WItem, WTarget, carried, to_jump_pad, to_point}
 use Rattle.member_link.specs.Machine.Codes.{if_between, instr_op, item_op}
 use Rattle.member_link.specs.Machine.Locals.{Jump, with_rest}
-use Rattle.member_link.specs.Machine.Ops.{Op, jump_to, meaningless}
-use Rattle.member_link.specs.Machine.Programs.{Code, Links, Point as RunPoint, Program}
+use Rattle.member_link.specs.Machine.Ops.{Op, meaningless}
+use Rattle.member_link.specs.Machine.Programs.{Links, Point as RunPoint, Program}
 use Rattle.member_link.specs.Machine.Runs.{Run}
 use Rattle.member_link.specs.Machine.Stepping.{ends_stuck, jump_step, op_step, with_top}
-use Rattle.member_link.specs.Machine.Worlds.{World, stuck}
 use Rattle.member_link.specs.RowScope.{RowScope}
 use Rattle.plan_flow.specs.Laws.WrittenBlocks.{first_item, own_number}
 use Rattle.plan_flow.specs.Must.{row_of_point}
-use Rattle.plan_flow.specs.PlanRows.{PlanRow, RowEdge}
+use Rattle.plan_flow.specs.PlanRows.{PlanRow}
 use Rattle.plan_flow.specs.PlanScope.{PlanScope}
-use Rattle.plan_flow.specs.PlanSlots.{changed, edge_locals, edge_objects, edge_stack, held, is_open, slots_from}
+use Rattle.plan_flow.specs.PlanSlots.{held, is_open}
 use Rattle.plan_flow.specs.PlanTable.{operand, targets_at}
 use Rattle.plan_flow.specs.Written.Blocks.{is_decided, state_written}
-use Rattle.plan_flow.specs.Written.Routes.{RouteEdge}
 use Rattle.plan_flow.specs.Written.Templates.{jump_target, jump_targets, to_or_pad}
 use Rattle.plan_flow.specs.Written.WrittenCode.{Form, carried_scope, in_form, jumping_to, opposite, opposite_instr, short, target_number, wide, written_op, written_point}
 use Rattle.plan_flow.specs.Written.WrittenPrograms.{WrittenMethod}
@@ -39,11 +35,10 @@ use Rattle.same_runs.specs.Renamings.{Names}
 use Rattle.same_runs.specs.SameMoves.{SameJumps, have_jump, no_jump}
 use Rattle.virtual_state.specs.States.{State}
 use Rattle.virtual_state.specs.declared.slot.Slot.TheVariants.{Virt}
-use Rattle.virtual_state.specs.declared.slot.VObject.{VObject}
 use Rattle.written_runs.specs.Inner.PlannedFrames.{Known, blocks_in, scope_in}
 use Rattle.written_runs.specs.Inner.Setup.{Setup, first}
 use Rattle.written_runs.specs.Laws.Carried.EdgeBlocks.{EdgeBlock, jump_block_at, next_block_at}
-use Rattle.written_runs.specs.Laws.Carried.JumpEdges.{also_at, code_here, have_here, all_slots, many_here, moves_edge, not_stuck_so, number_here, own_here, point_here, then_at}
+use Rattle.written_runs.specs.Laws.Carried.JumpEdges.{code_here, have_here, all_slots, many_here, moves_edge, not_stuck_so, number_here, own_here, point_here, then_at}
 use Rattle.written_runs.specs.Laws.Carried.JumpFamilies.{IsBetween, JumpFamily, decided, negated}
 use Rattle.written_runs.specs.Laws.Carried.JumpPoints.{goto_item, its_item, jump_item_there, next_behind, one_item, over_item, two_items}
 use Rattle.written_runs.specs.Laws.Carried.Knowing.{CarriedLaws}

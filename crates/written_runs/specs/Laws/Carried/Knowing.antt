@@ -1,9 +1,7 @@
 -- What other parts of the proof give of instructions that are written as they are.
 use Rattle.std.proofs.Common.{◌≡◌, ℕ, List, ◌∷◌, slice_get, Some}
 use Rattle.class_model.specs.declared.class_file.MethodAt.{MethodAt}
-use Rattle.class_model.specs.declared.instr.Instr.{Instr}
 use Rattle.flow_code.specs.ReadTypes.{read_frame}
-use Rattle.flow_code.specs.declared.point.FlatInstr.TheVariants.{Of}
 use Rattle.flow_code.specs.declared.point.Point.{Point}
 use Rattle.machine_values.specs.Frames.{MethodState}
 use Rattle.machine_values.specs.declared.frame.RunFrame.{RunFrame}

@@ -1,15 +1,13 @@
 -- The test of a local for null: where it holds null both raise the exception, the second behind a load and a jump that is not taken; else both go on.
-use Rattle.std.proofs.Common.{◌≡◌, ◌⊎◌, ◌≤◌, ◌<◌, ◌+◌, ◌-◌, ◌*◌, ◌++◌, nat_le, ℕ, zero, suc, Bool, true, false, List, [], ◌∷◌, drop, length, map, reverse, slice_get, take, Option, Some, None, option_and_then, option_map, IsTrue, refl, sym, ap, subst, ◌∙◌, arith, inl, inr}
-use Rattle.std.proofs.lemmas.Bool.{cases_lt, false≢true, le-leb}
-use Rattle.std.proofs.lemmas.List.{append-nil, length-append, length-drop, length-map, length-reverse, length-take-le, take_all}
+use Rattle.std.proofs.Common.{◌≡◌, ◌<◌, ◌+◌, ◌-◌, ◌++◌, ℕ, suc, Bool, true, false, List, [], ◌∷◌, length, map, reverse, slice_get, take, Option, Some, None, option_and_then, option_map, refl, sym, ap, subst, ◌∙◌, arith}
+use Rattle.std.proofs.lemmas.Bool.{false≢true, le-leb}
+use Rattle.std.proofs.lemmas.List.{append-nil, length-drop, length-map, length-reverse, length-take-le, take_all}
 use Rattle.std.proofs.lemmas.Option.{none-some, same_Some, slice_get-map, slice_get_within}
 use Rattle.class_model.specs.Frames.{is_top}
 use Rattle.class_model.specs.declared.descriptor.Kind.TheVariants as kinds
 use Rattle.class_model.specs.declared.frame.VType.{VType}
 use Rattle.class_model.specs.declared.frame.VType.TheVariants as types
-use Rattle.class_model.specs.declared.instr.Imm.TheVariants as imms
-use Rattle.class_model.specs.declared.instr.Instr.TheVariants.{Const, IfNull, Throw}
-use Rattle.class_model.specs.declared.opcodes.TheConstants.{IFNONNULL}
+use Rattle.class_model.specs.declared.instr.Instr.TheVariants.{Throw}
 use Rattle.flow_code.specs.FlatCode.{FlatCode}
 use Rattle.flow_code.specs.ReadTypes.{read_frame, read_type}
 use Rattle.flow_code.specs.declared.point.FlatInstr.{FlatInstr}
@@ -17,38 +15,35 @@ use Rattle.flow_code.specs.declared.point.FlatInstr.TheVariants.{NullTest}
 use Rattle.flow_code.specs.declared.point.Point.{Point}
 use Rattle.machine_values.specs.Frames.{MethodState}
 use Rattle.machine_values.specs.Values.{has_kind}
-use Rattle.machine_values.specs.declared.frame.RunFrame.{RunFrame}
 use Rattle.machine_values.specs.declared.frame.RunFrame.TheVariants.{Method}
 use Rattle.machine_values.specs.declared.value.Value.{Value}
 use Rattle.machine_values.specs.declared.value.Value.TheVariants.{Int, Long, Float, Double, Null, Ref}
-use Rattle.making_code.specs.Items.{WItem, ahead, item, load, plain}
-use Rattle.making_code.specs.Units.{own}
+use Rattle.making_code.specs.Items.{WItem, item, plain}
 use Rattle.member_link.specs.BodyTyping.{RowHolds}
 use Rattle.member_link.specs.Bodies.{item_row}
 use Rattle.member_link.specs.Machine.Codes.{item_op, number_at, renumbered}
 use Rattle.member_link.specs.Machine.Locals.{local_value}
-use Rattle.member_link.specs.Machine.Ops.{jump_by_null, load_local, no_operation, push_value, test_local, throw_reference}
+use Rattle.member_link.specs.Machine.Ops.{test_local}
 use Rattle.member_link.specs.Machine.Performing.{raised}
-use Rattle.member_link.specs.Machine.Programs.{Code, Point as RunPoint, Program, code_at, point_at}
+use Rattle.member_link.specs.Machine.Programs.{Code, Point as RunPoint, Program, point_at}
 use Rattle.member_link.specs.Machine.Runs.{Run, turn}
-use Rattle.member_link.specs.Machine.Stepping.{ends_stuck, next_with, test_step, with_top}
+use Rattle.member_link.specs.Machine.Stepping.{next_with, test_step}
 use Rattle.member_link.specs.Machine.Throwables.{null_pointer}
-use Rattle.member_link.specs.Scope.{Scope, scope_at}
+use Rattle.member_link.specs.Scope.{scope_at}
 use Rattle.plan_flow.specs.Laws.WrittenBlocks.{block_finished, first_item, next_starts, own_number, own_of}
 use Rattle.plan_flow.specs.Must.{row_of_point}
-use Rattle.plan_flow.specs.PlanRows.{PlanRow, Source, in_each_state, where_plain}
+use Rattle.plan_flow.specs.PlanRows.{PlanRow, where_plain}
 use Rattle.plan_flow.specs.PlanScope.{PlanScope}
 use Rattle.plan_flow.specs.PlanSlots.{held, is_open, readable}
 use Rattle.plan_flow.specs.PlanTable.{falls_on, moving, row_at}
 use Rattle.plan_flow.specs.Written.Blocks.{blocks_of, instruction_block, state_written}
-use Rattle.plan_flow.specs.Written.Finish.{End, Finished, end_items, goto_end, no_end, nop_end}
+use Rattle.plan_flow.specs.Written.Finish.{End, Finished, end_items, no_end, nop_end}
 use Rattle.plan_flow.specs.Written.Routes.{Route}
 use Rattle.plan_flow.specs.Written.Templates.{catches_at as written_catches, items_at, null_test}
 use Rattle.plan_flow.specs.Written.WrittenCode.{block_items, written_code, written_point}
 use Rattle.plan_flow.specs.Written.WrittenPrograms.{WrittenMethod}
 use Rattle.plan_flow.specs.declared.edge.EdgeKind.TheVariants as edges
-use Rattle.same_runs.specs.Flats.{flat_item, flat_point, flat_points, instr_scope}
-use Rattle.same_runs.specs.TypedFlats.{read_row}
+use Rattle.same_runs.specs.Flats.{flat_item, flat_points, instr_scope}
 use Rattle.same_runs.specs.Laws.BothBegin.{counted}
 use Rattle.virtual_state.specs.States.{State}
 use Rattle.virtual_state.specs.declared.slot.Slot.{Slot}

@@ -1,5 +1,5 @@
 -- Arithmetic: no operand of it is a reference, so its operands are plain.
-use Rattle.std.proofs.Common.{◌≡◌, ◌≤◌, ◌<◌, ◌+◌, ◌-◌, ◌++◌, ◌==◌, ◌&&◌, ℕ, zero, suc, Bool, true, false, List, [], ◌∷◌, length, map, reverse, slice_get, take, Option, Some, None, if◌then◌else◌, refl, sym, ap, subst, ◌∙◌, arith}
+use Rattle.std.proofs.Common.{◌≡◌, ◌≤◌, ◌<◌, ◌==◌, ℕ, zero, suc, Bool, true, false, List, [], ◌∷◌, length, slice_get, Option, Some, None, if◌then◌else◌, refl, sym, ap, subst, ◌∙◌, arith}
 use Rattle.std.specs.List.{AllByRecursion, list_any}
 use Rattle.std.proofs.lemmas.Bool.{eqb-true}
 use Rattle.std.proofs.lemmas.Option.{none-some, same_Some}
@@ -14,9 +14,9 @@ use Rattle.machine_values.specs.declared.value.Value.TheVariants.{Int, Long, Flo
 use Rattle.member_link.specs.Machine.Arithmetic.{Meaning, MeaningRow, divide_meanings, int_to_long, long_to_int, longs_to_int, meaning_in, of_int, of_ints, of_long, of_long_and_int, of_longs, operands_of, pure_meanings, result_by}
 use Rattle.member_link.specs.Machine.Codes.{instr_op}
 use Rattle.member_link.specs.Machine.Completions.{Asked, asks, ends}
-use Rattle.member_link.specs.Machine.Ops.{Op, division, float_arithmetic, pure_arithmetic}
+use Rattle.member_link.specs.Machine.Ops.{division, float_arithmetic, pure_arithmetic}
 use Rattle.member_link.specs.Machine.Programs.{Program}
-use Rattle.member_link.specs.Machine.Work.{arithmetic_work, arity, division_work, float_work, of_result, work}
+use Rattle.member_link.specs.Machine.Work.{arithmetic_work, arity, float_work, of_result}
 use Rattle.member_link.specs.Machine.Worlds.{Memory, stuck}
 use Rattle.member_link.specs.RowScope.{RowScope}
 use Rattle.member_link.specs.Rows.ArithmeticRows.{Operation, divide_operations, float_operations, operation_in, pure_operations}
@@ -27,9 +27,9 @@ use Rattle.plan_flow.specs.Written.Blocks.{state_written}
 use Rattle.plan_flow.specs.Written.Routes.{Route}
 use Rattle.same_runs.specs.SameWorlds.{IsThrowing}
 use Rattle.virtual_state.specs.States.{State}
-use Rattle.written_runs.specs.Laws.Carried.Rows.{IsFolderObject, PlainRow}
-use Rattle.written_runs.specs.Laws.Carried.SimpleFits.{FitsHere, OpFits, asking_row, moving_row, throws_each, works_to}
-use Rattle.written_runs.specs.Laws.Carried.StuckFits.{GetsStuck, stuck_on_each}
+use Rattle.written_runs.specs.Laws.Carried.Rows.{PlainRow}
+use Rattle.written_runs.specs.Laws.Carried.SimpleFits.{FitsHere, OpFits, asking_row, moving_row, throws_each}
+use Rattle.written_runs.specs.Laws.Carried.StuckFits.{stuck_on_each}
 
 -- ---- results
 
@@ -129,14 +129,14 @@ found_meaning : (operations : List Operation) (rows : List MeaningRow) (opcode :
 found_meaning operations [] opcode meaning all is = absurd (none-some meaning is)
 found_meaning operations (row ∷ rows) opcode meaning all is =
     by (row.opcode == opcode) refl (found_meaning operations rows opcode meaning all.1) where
-  by : (same : Bool) → (row.opcode == opcode) ≡ same
-      → (meaning_in rows opcode ≡ Some meaning → row_operands (operation_in operations opcode) ≡ operands_of (Some meaning))
-      → row_operands (operation_in operations opcode) ≡ operands_of (Some meaning)
-  by true here rest =
-      let found : Some row.meaning ≡ Some meaning = rw (here) at is in
-      ap (λ (n : ℕ). row_operands (operation_in operations n)) (sym (eqb-true row.opcode opcode here)) ∙ all.0
-      ∙ ap operands_of found
-  by false apart rest = let found : meaning_in rows opcode ≡ Some meaning = rw (apart) at is in rest found
+      by : (same : Bool) → (row.opcode == opcode) ≡ same
+          → (meaning_in rows opcode ≡ Some meaning → row_operands (operation_in operations opcode) ≡ operands_of (Some meaning))
+          → row_operands (operation_in operations opcode) ≡ operands_of (Some meaning)
+      by true here rest =
+          let found : Some row.meaning ≡ Some meaning = rw (here) at is in
+          ap (λ (n : ℕ). row_operands (operation_in operations n)) (sym (eqb-true row.opcode opcode here)) ∙ all.0
+          ∙ ap operands_of found
+      by false apart rest = let found : meaning_in rows opcode ≡ Some meaning = rw (apart) at is in rest found
 
 pure_rows : AllByRecursion (TakesAsMany pure_operations) pure_meanings
 pure_rows = (refl, (refl, (refl, (refl, (refl, (refl, (refl, (refl, (refl, (refl, (refl, (refl, (refl, (refl, (refl, (refl, (refl, (refl, (refl, (refl, (refl, (refl, (refl, (refl, (refl, (refl, tt))))))))))))))))))))))))))
@@ -170,7 +170,7 @@ data TakesNumbers : List Kind → Type 0 where
   takes_two : (kind other : Kind) → IsNumber kind → IsNumber other → TakesNumbers (kind ∷ other ∷ [])
 
 float_rows : AllByRecursion (λ (o : Operation). TakesNumbers o.takes) float_operations
-float_rows = 
+float_rows =
     (takes_two _ _ tt tt, (takes_two _ _ tt tt, (takes_one _ tt, (takes_one _ tt, (takes_one _ tt, (takes_one _ tt, (takes_one _ tt, (takes_one _ tt, (takes_one _ tt, (takes_one _ tt, (takes_one _ tt, (takes_one _ tt, (takes_one _ tt, (takes_one _ tt, (takes_two _ _ tt tt, (takes_two _ _ tt tt, tt))))))))))))))))
 
 found_operation : (operations : List Operation) (opcode : ℕ) (operation : Operation)
@@ -180,12 +180,12 @@ found_operation : (operations : List Operation) (opcode : ℕ) (operation : Oper
 found_operation [] opcode operation all is = absurd (none-some operation is)
 found_operation (first ∷ operations) opcode operation all is =
     by (list_any (λ o. o == opcode) first.opcodes) refl (found_operation operations opcode operation all.1) where
-  by : (here : Bool) → list_any (λ o. o == opcode) first.opcodes ≡ here
-      → (operation_in operations opcode ≡ Some operation → TakesNumbers operation.takes)
-      → TakesNumbers operation.takes
-  by true here rest =
-      let found : Some first ≡ Some operation = rw (here) at is in subst (λ (o : Operation). TakesNumbers o.takes) (same_Some first operation found) all.0
-  by false apart rest = let found : operation_in operations opcode ≡ Some operation = rw (apart) at is in rest found
+      by : (here : Bool) → list_any (λ o. o == opcode) first.opcodes ≡ here
+          → (operation_in operations opcode ≡ Some operation → TakesNumbers operation.takes)
+          → TakesNumbers operation.takes
+      by true here rest =
+          let found : Some first ≡ Some operation = rw (here) at is in subst (λ (o : Operation). TakesNumbers o.takes) (same_Some first operation found) all.0
+      by false apart rest = let found : operation_in operations opcode ≡ Some operation = rw (apart) at is in rest found
 
 no_reference : (kind : Kind) (reference : ℕ) → IsNumber kind → has_kind kind (Ref reference) ≡ false
 no_reference kinds.Int reference is = refl

@@ -1,10 +1,9 @@
 -- Where control may go on from a reached point: each edge of the point's row that is open in the state there is one of its route, with the state
 -- behind it.
-use Rattle.std.proofs.Common.{◌≡◌, ◌+◌, ◌++◌, ◌==◌, ℕ, zero, suc, Bool, true, false, List, [], ◌∷◌, filter, slice_get, Option, Some, None, IsTrue, refl, sym, ap, subst, ◌∙◌, arith}
+use Rattle.std.proofs.Common.{◌≡◌, ◌+◌, ◌++◌, ℕ, zero, suc, Bool, true, false, List, [], ◌∷◌, slice_get, Option, Some, None, refl, sym, ap, subst, ◌∙◌, arith}
 use Rattle.std.specs.List.{AllByRecursion, find}
 use Rattle.std.proofs.lemmas.Bool.{eq-eqb, eqb-true, false≢true}
 use Rattle.std.proofs.lemmas.Option.{none-some, same_Some}
-use Rattle.flow_code.specs.FlatCode.{point_at}
 use Rattle.flow_code.specs.declared.handlers.FlatHandler.{FlatHandler}
 use Rattle.flow_code.specs.declared.point.Point.{Point}
 use Rattle.plan_flow.specs.Effect.{AreEdges, IsEffectIn, IsStateBehind}
@@ -106,12 +105,12 @@ jump_behind : (r : PlanRow) (number first : ℕ) (targets : List ℕ) (rows : Li
 jump_behind r number first targets [] all = tt
 jump_behind r number first targets (row ∷ rows) all = (
   let next : number + 1 + all.0.target ≡ number + suc all.0.target = omega arith in
-  record {
-    target = suc all.0.target;
-    to = all.0.to;
-    is_target = all.0.is_target;
-    is = all.0.is ∙ ap (λ (n : ℕ). record { by = edges.Jump n; to = all.0.to; guard = r.jump }) next;
-  },
+      record {
+        target = suc all.0.target;
+        to = all.0.to;
+        is_target = all.0.is_target;
+        is = all.0.is ∙ ap (λ (n : ℕ). record { by = edges.Jump n; to = all.0.to; guard = r.jump }) next;
+      },
   jump_behind r number first targets rows all.1,
 )
 
@@ -119,12 +118,12 @@ jumps_are : (r : PlanRow) (number : ℕ) (targets : List ℕ) → AllByRecursion
 jumps_are r number [] = tt
 jumps_are r number (to ∷ targets) = (
   let here : number ≡ number + 0 = omega arith in
-  record {
-    target = 0;
-    to = to;
-    is_target = refl;
-    is = ap (λ (n : ℕ). record { by = edges.Jump n; to = to; guard = r.jump }) here;
-  },
+      record {
+        target = 0;
+        to = to;
+        is_target = refl;
+        is = ap (λ (n : ℕ). record { by = edges.Jump n; to = to; guard = r.jump }) here;
+      },
   jump_behind r number to targets (jump_edges r (number + 1) targets) (jumps_are r (number + 1) targets),
 )
 
@@ -141,12 +140,12 @@ handling_behind : (guard : Guard) (number : ℕ) (first : FlatHandler) (handlers
 handling_behind guard number first handlers [] all = tt
 handling_behind guard number first handlers (row ∷ rows) all = (
   let next : number + 1 + all.0.place ≡ number + suc all.0.place = omega arith in
-  record {
-    place = suc all.0.place;
-    handler = all.0.handler;
-    is_handler = all.0.is_handler;
-    is = all.0.is ∙ ap (λ (n : ℕ). record { by = edges.Handler n; to = all.0.handler.to; guard = guard }) next;
-  },
+      record {
+        place = suc all.0.place;
+        handler = all.0.handler;
+        is_handler = all.0.is_handler;
+        is = all.0.is ∙ ap (λ (n : ℕ). record { by = edges.Handler n; to = all.0.handler.to; guard = guard }) next;
+      },
   handling_behind guard number first handlers rows all.1,
 )
 
@@ -155,12 +154,12 @@ handlers_are : (guard : Guard) (number : ℕ) (handlers : List FlatHandler)
 handlers_are guard number [] = tt
 handlers_are guard number (handler ∷ handlers) = (
   let here : number ≡ number + 0 = omega arith in
-  record {
-    place = 0;
-    handler = handler;
-    is_handler = refl;
-    is = ap (λ (n : ℕ). record { by = edges.Handler n; to = handler.to; guard = guard }) here;
-  },
+      record {
+        place = 0;
+        handler = handler;
+        is_handler = refl;
+        is = ap (λ (n : ℕ). record { by = edges.Handler n; to = handler.to; guard = guard }) here;
+      },
   handling_behind guard number handler handlers (handler_edges guard (number + 1) handlers) (handlers_are guard (number + 1) handlers),
 )
 

@@ -1,9 +1,9 @@
 -- What a valid plan gives at a reached point, along each edge that control may take from it.
-use Rattle.std.proofs.Common.{◌≡◌, ◌≤◌, ◌<◌, ◌+◌, ◌-◌, ◌++◌, ℕ, zero, suc, Bool, true, false, List, [], ◌∷◌, drop, length, map, slice_get, take, Option, Some, None, option_map, refl, sym, ap, subst, ◌∙◌, arith}
+use Rattle.std.proofs.Common.{◌≡◌, ◌<◌, ◌+◌, ℕ, zero, suc, Bool, true, false, List, [], ◌∷◌, length, map, slice_get, take, Option, Some, None, option_map, refl, sym, ap, subst, ◌∙◌, arith}
 use Rattle.std.specs.List.{AllByRecursion}
 use Rattle.std.specs.Option.{option_flatten}
 use Rattle.std.proofs.lemmas.List.{length-append, length-map}
-use Rattle.std.proofs.lemmas.Option.{none-some, same_Some, slice_get-map, slice_get_past, slice_get_within}
+use Rattle.std.proofs.lemmas.Option.{none-some, same_Some, slice_get-map, slice_get_within}
 use Rattle.class_model.specs.Frames.{is_top}
 use Rattle.class_model.specs.declared.class_file.MethodAt.{MethodAt}
 use Rattle.class_model.specs.declared.descriptor.Kind.{Kind}
@@ -15,18 +15,17 @@ use Rattle.flow_code.specs.FlatCode.{point_at}
 use Rattle.flow_code.specs.declared.handlers.FlatHandler.{FlatHandler}
 use Rattle.flow_code.specs.declared.point.Point.{Point}
 use Rattle.plan_flow.specs.Effect.{IsEffectIn}
-use Rattle.plan_flow.specs.Laws.RoutedPlans.{EdgeLeads, HasOneEffect, IsRouteOf, leads_of, route_of}
+use Rattle.plan_flow.specs.Laws.RoutedPlans.{EdgeLeads, IsRouteOf, leads_of, route_of}
 use Rattle.plan_flow.specs.Must.{IsMustIn, IsMustOf, row_of_point}
 use Rattle.plan_flow.specs.PlanRows.{Guard, RowEdge, from_place}
 use Rattle.plan_flow.specs.PlanScope.{PlanScope, local_types, stack_types}
 use Rattle.plan_flow.specs.PlanSlots.{edge_locals, edge_stack, is_open}
 use Rattle.plan_flow.specs.PlanTable.{edges_of, falls_on, targets_at}
-use Rattle.plan_flow.specs.Plans.{IsStateAt, IsValidAt, planned, state_left, unusable_places}
+use Rattle.plan_flow.specs.Plans.{IsValidAt, planned, state_left, unusable_places}
 use Rattle.plan_flow.specs.ReadyForPlans.{KeepsAlong, place_types}
 use Rattle.plan_flow.specs.Written.Blocks.{state_written}
-use Rattle.plan_flow.specs.Written.Routes.{AreEdgeRoutes, IsRoute, Route, RouteEdge, edge_by, is_kind}
+use Rattle.plan_flow.specs.Written.Routes.{IsRoute, Route, is_kind}
 use Rattle.plan_flow.specs.Written.WrittenPrograms.{WrittenMethod}
-use Rattle.plan_flow.specs.declared.edge.EdgeKind.{EdgeKind}
 use Rattle.plan_flow.specs.declared.edge.EdgeKind.TheVariants as edges
 use Rattle.virtual_state.specs.Laws.Fields.{unusable_made}
 use Rattle.virtual_state.specs.Sites.{has}

@@ -1,8 +1,8 @@
 -- Operations without operands, and those for whose operands their row asks: what the row says of them.
-use Rattle.std.proofs.Common.{◌≡◌, ◌⊎◌, ◌≤◌, ◌<◌, ◌+◌, ◌-◌, ◌++◌, ◌==◌, ◌&&◌, ℕ, zero, suc, Bool, true, false, List, [], ◌∷◌, length, map, reverse, slice_get, take, Option, Some, None, IsTrue, option_map, if◌then◌else◌, refl, sym, ap, subst, ◌∙◌, arith, inl, inr}
+use Rattle.std.proofs.Common.{◌≡◌, ◌⊎◌, ◌≤◌, ◌<◌, ◌+◌, ◌-◌, ◌==◌, ℕ, zero, suc, Bool, true, false, List, [], ◌∷◌, length, map, reverse, slice_get, take, Option, Some, None, IsTrue, option_map, if◌then◌else◌, refl, sym, ap, subst, ◌∙◌, arith, inl, inr}
 use Rattle.std.proofs.lemmas.Bool.{cases_lt, eqb-true}
 use Rattle.std.proofs.lemmas.List.{append-nil}
-use Rattle.std.proofs.lemmas.Option.{none-some, same_Some}
+use Rattle.std.proofs.lemmas.Option.{none-some}
 use Rattle.class_model.specs.Descriptors.{parameters_of}
 use Rattle.class_model.specs.Pool.{Constants, constant_at}
 use Rattle.class_model.specs.PoolChecks.{class_at, descriptor_at, name_at, utf8_at}
@@ -17,7 +17,6 @@ use Rattle.class_model.specs.declared.pool.Const.{Const as PoolConst}
 use Rattle.class_model.specs.declared.pool.Const.TheVariants as consts
 use Rattle.class_tree.specs.Headers.{Name}
 use Rattle.flow_code.specs.ReadTypes.{is_site_object}
-use Rattle.flow_code.specs.declared.point.FlatInstr.{FlatInstr}
 use Rattle.flow_code.specs.declared.point.FlatInstr.TheVariants.{Of}
 use Rattle.flow_code.specs.declared.point.Point.{Point}
 use Rattle.machine_values.specs.declared.object.Constant.{Constant}
@@ -29,10 +28,10 @@ use Rattle.member_link.specs.Bodies.{falls_through}
 use Rattle.member_link.specs.Machine.CallSteps.{is_object_init}
 use Rattle.member_link.specs.Machine.Codes.{call_op, constant_op, dynamic_op, handle_of, initialises, instr_op, naming, or_meaningless, referring, special_start, value_of_imm}
 use Rattle.member_link.specs.Machine.Completions.{Completion, ends, gives, throws}
-use Rattle.member_link.specs.Machine.FieldSteps.{get_static_work, got_static, static_number}
+use Rattle.member_link.specs.Machine.FieldSteps.{get_static_work, static_number}
 use Rattle.member_link.specs.Machine.ObjectSteps.{new_object_work, throw_work}
-use Rattle.member_link.specs.Machine.Ops.{Op, call_dynamic, call_interface, call_special, call_static, call_virtual, get_static, meaningless, new_object, push_constant, push_value, put_static, throw_reference}
-use Rattle.member_link.specs.Machine.Programs.{Links, Program, field_of as field_in, folder_number, has_flag}
+use Rattle.member_link.specs.Machine.Ops.{Op, call_dynamic, call_interface, call_special, call_static, call_virtual, get_static, meaningless, new_object, push_constant, push_value, put_static}
+use Rattle.member_link.specs.Machine.Programs.{Program, field_of as field_in, folder_number, has_flag}
 use Rattle.class_model.specs.Members.{STATIC}
 use Rattle.class_tree.specs.Names.{throwable}
 use Rattle.member_link.specs.Machine.Shapes.{shape_conforms}

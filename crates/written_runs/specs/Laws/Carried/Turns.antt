@@ -1,10 +1,9 @@
 -- A turn of both where a planned frame is on top: the two runs are related behind it.
-use Rattle.std.proofs.Common.{◌≡◌, ◌≢◌, ◌+◌, ℕ, false, List, [], ◌∷◌, slice_get, Some, Option, refl, sym, ap, subst, ◌∙◌}
+use Rattle.std.proofs.Common.{◌≡◌, ◌≢◌, ℕ, false, List, ◌∷◌, Some, Option, refl, sym, ap, subst, ◌∙◌}
 use Rattle.machine_values.specs.Frames.{MethodState}
 use Rattle.machine_values.specs.declared.frame.RunFrame.{RunFrame}
 use Rattle.machine_values.specs.declared.frame.RunFrame.TheVariants.{Method}
 use Rattle.member_link.specs.Machine.Programs.{Point as RunPoint, Program, point_at}
-use Rattle.member_link.specs.Machine.Ops.{Op}
 use Rattle.member_link.specs.Machine.Runs.{Run, turn, turn_by}
 use Rattle.member_link.specs.Machine.Stepping.{is_library_turn, op_step, point_step, step}
 use Rattle.member_link.specs.Machine.Worlds.{World, stuck}
