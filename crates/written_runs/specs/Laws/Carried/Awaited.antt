@@ -164,7 +164,8 @@ module _ (u : Setup) (laws : CarriedLaws u) {virtuals : Virtuals} {known : Known
       → GoesFewer u virtuals known names (Method (resumed f values) ∷ ones) (Method (resumed g also) ∷ others)
   planned_resumes values also are so no_jump =
       goes_with_more (record { keeps = λ virtual. nat_le (suc virtual.frame) height; is = refl })
-      (goes_along u laws (instruction_of c) kept_owned kept_below edge so.taken so.given so.leaves (resumed f values) (resumed g also) moves refl refl refl refl refl block.0
+      (goes_along u laws (instruction_of c) kept_owned kept_below edge so.taken so.given so.leaves (resumed f values)
+      (resumed g also) moves refl refl refl refl refl block.0
       (ap (λ (n : ℕ). n + 1) own.place ∙ sym (next_place u c.w f.place c.point c.route c.of_instruction.reached c.carried no_jump) ∙ block.1)
       (names_themselves names) lower) where
         own : AtOwn u c.w f.place c.point c.route g

@@ -367,7 +367,8 @@ module _ {P : Program} {s : PlanScope} {at : ℕ} {point target : Point} {before
         ∙ here))
 
   -- so was an entry of the stack, if it is none of those that are given
-  value_was : (place : ℕ) (value : Value) → place < left_count → slice_get (reverse then.stack) place ≡ Some value → slice_get (reverse f.stack) place ≡ Some value
+  value_was : (place : ℕ) (value : Value) → place < left_count → slice_get (reverse then.stack) place ≡ Some value → slice_get (reverse f.stack) place
+      ≡ Some value
   value_was place value low is =
       got_before left_count (reverse f.stack) place value
       (sym (got_left lowest moves.ones place (let long = values_long in omega (arith, low, long)))

@@ -182,7 +182,8 @@ module _ (u : Setup) (laws : CarriedLaws u) (measure : ℕ) {one other : Run} {f
     stepped : op_step P (counted one) f rest (point_here u laws measure h c).op
         ≡ with_top (counted one) rest (record f { place = if taken then number_here u laws measure h c to else f.place + 1; stack = left })
     stepped =
-        ap (op_step P (counted one) f rest) (op_here ∙ ap (λ (b : Bool). if b then family.make opcode (number_here u laws measure h c to) else meaningless) between)
+        ap (op_step P (counted one) f rest) (op_here
+        ∙ ap (λ (b : Bool). if b then family.make opcode (number_here u laws measure h c to) else meaningless) between)
         ∙ family.steps P (counted one) f rest opcode (number_here u laws measure h c to)
         ∙ ap (jump_step (counted one) f rest (number_here u laws measure h c to)) decides
 
@@ -201,7 +202,8 @@ module _ (u : Setup) (laws : CarriedLaws u) (measure : ℕ) {one other : Run} {f
         ap (λ (found : Option RunPoint). option_and_then (moves (code_here u laws measure h c) 0) (moved_at g found))
         (item_at (its ∷ []) (one_item u c.w f.place c.point c.route c.of_instruction.reached c.carried undecided form) 0 g.place its refl (omega arith))
         ∙ ap (λ (o : Op). option_and_then (moves (code_here u laws measure h c) 0) (moved_by g o))
-        (ap (λ (all : List ℕ). written_op s (own_here u laws measure h c).host u.constructor all (carried c.carried.class c.carried.instr)) (target_is (0 + g.place))
+        (ap (λ (all : List ℕ). written_op s (own_here u laws measure h c).host u.constructor all (carried c.carried.class c.carried.instr)) (target_is
+        (0 + g.place))
         ∙ host_op c.carried.instr opcode to is (item_of (0 + g.place)))
         ∙ ap (option_and_then (moves (code_here u laws measure h c) 0)) (jump_moves opcode (item_of (0 + g.place)) taken between decides_also)
 
@@ -261,7 +263,11 @@ module _ (u : Setup) (laws : CarriedLaws u) (measure : ℕ) {one other : Run} {f
           ≡ with_top (counted one) rest (then_at u laws measure h c family.taken enough real to)
       steps =
           stepped
-          ∙ ap (λ (b : Bool). with_top (counted one) rest (record f { place = if b then number_here u laws measure h c to else f.place + 1; stack = left })) is_taken
+          ∙ ap (λ (b : Bool). with_top (counted one) rest (record f {
+            place =
+                if b then number_here u laws measure h c to else f.place + 1;
+            stack = left;
+          })) is_taken
           ∙ ap (λ (n : ℕ). with_top (counted one) rest (record f { place = n; stack = left }))
           (number_stays u.classes (own_here u laws measure h c).host c.w.flat to edge.target edge.is_target)
           ∙ ap (λ (stack : List Value). with_top (counted one) rest (record f { place = to; stack = stack })) so.1
@@ -275,7 +281,11 @@ module _ (u : Setup) (laws : CarriedLaws u) (measure : ℕ) {one other : Run} {f
           moves_edge u laws measure h c family.taken enough real edge leaves (item_of (0 + (g.place + 1))) (block (0 + (g.place + 1))).0
           (block (0 + (g.place + 1))).1 steps 1
           (first_moved form 1
-          ∙ ap (λ (b : Bool). moves (code_here u laws measure h c) 1 (record g { place = if not b then 0 + g.place + 2 else g.place + 1; stack = left_also })) is_taken
+          ∙ ap (λ (b : Bool). moves (code_here u laws measure h c) 1 (record g {
+            place =
+                if not b then 0 + g.place + 2 else g.place + 1;
+            stack = left_also;
+          })) is_taken
           ∙ goto_moved form)
 
     next_turn_on : taken ≡ false → KeepsTurn u measure one other
@@ -285,7 +295,12 @@ module _ (u : Setup) (laws : CarriedLaws u) (measure : ℕ) {one other : Run} {f
           next_there u settle c.w h.g.at c.is_written (laws.rows_fit h.g.at c.w c.is_written) c.of_instruction.reached row.falls
           (ap (λ (r : PlanRow). is_open before r.next) row.is_row ∙ row.opens)
 
-      leaves : LeavesLocals s f.place c.point before (record { by = edges.Next; to = f.place + 1; guard = (row_of_point s f.place c.point).next }) family.taken []
+      leaves : LeavesLocals s f.place c.point before (record {
+        by =
+            edges.Next;
+        to = f.place + 1;
+        guard = (row_of_point s f.place c.point).next;
+      }) family.taken []
       leaves = leaves_of row (let many = many_here u laws measure h c in let few = enough in omega (arith, many, few))
 
       block : (block : EdgeBlock u c.w (f.place + 1) edge.of_row.edge) × (next_start ≡ first_item c.w.form (blocks_in u c.w) block.number)
@@ -297,7 +312,11 @@ module _ (u : Setup) (laws : CarriedLaws u) (measure : ℕ) {one other : Run} {f
           ≡ with_top (counted one) rest (then_at u laws measure h c family.taken enough real (f.place + 1))
       steps =
           stepped
-          ∙ ap (λ (b : Bool). with_top (counted one) rest (record f { place = if b then number_here u laws measure h c to else f.place + 1; stack = left })) not_taken
+          ∙ ap (λ (b : Bool). with_top (counted one) rest (record f {
+            place =
+                if b then number_here u laws measure h c to else f.place + 1;
+            stack = left;
+          })) not_taken
           ∙ ap (λ (stack : List Value). with_top (counted one) rest (record f { place = f.place + 1; stack = stack })) so.1
 
       starts : (items : List WItem) → in_form c.w.form (its ∷ []) ≡ items → next_start ≡ g.place + length items
@@ -317,7 +336,11 @@ module _ (u : Setup) (laws : CarriedLaws u) (measure : ℕ) {one other : Run} {f
           (let begins = starts (over ∷ goto_item its ∷ []) (wide_items form) in
           let same : 0 + g.place + 2 ≡ next_start = omega (arith, begins) in same ∙ block.1) steps 0
           (first_moved form 0
-          ∙ ap (λ (b : Bool). moves (code_here u laws measure h c) 0 (record g { place = if not b then 0 + g.place + 2 else g.place + 1; stack = left_also })) not_taken)
+          ∙ ap (λ (b : Bool). moves (code_here u laws measure h c) 0 (record g {
+            place =
+                if not b then 0 + g.place + 2 else g.place + 1;
+            stack = left_also;
+          })) not_taken)
 
     decided_turn : KeepsTurn u measure one other
     decided_turn = by taken refl where
@@ -331,7 +354,8 @@ module _ (u : Setup) (laws : CarriedLaws u) (measure : ℕ) {one other : Run} {f
     by_jump : IsBetween family.low family.high opcode → (jump : Jump) → family.jump_of opcode f.stack ≡ jump → KeepsTurn u measure one other
     by_jump between None none =
         absurd (not_stuck_so u laws measure h c (ends_stuck (counted one))
-        (ap (op_step P (counted one) f rest) (op_here ∙ ap (λ (b : Bool). if b then family.make opcode (number_here u laws measure h c to) else meaningless) between)
+        (ap (op_step P (counted one) f rest) (op_here
+        ∙ ap (λ (b : Bool). if b then family.make opcode (number_here u laws measure h c to) else meaningless) between)
         ∙ family.steps P (counted one) f rest opcode (number_here u laws measure h c to)
         ∙ ap (jump_step (counted one) f rest (number_here u laws measure h c to)) none) refl)
     by_jump between (Some jump) some = decided_turn between jump.0 jump.1 some

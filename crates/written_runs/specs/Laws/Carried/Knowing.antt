@@ -44,6 +44,7 @@ pub record CarriedLaws (u : Setup) : Type 0 where
       → scope_at u.classes at ≡ Some host
       → IsReached w place point route
       → IsCarried u w place point route
-      → WorksOnOperands (item_op u.links (number_at (flat_points u.classes host w.flat)) (instr_scope u.classes host w.flat point.instr) (flat_item point.instr))
+      → WorksOnOperands (item_op u.links (number_at (flat_points u.classes host w.flat)) (instr_scope u.classes host w.flat point.instr)
+      (flat_item point.instr))
       → IsInBoth (first u) (second u)
       (item_op u.links (number_at (flat_points u.classes host w.flat)) (instr_scope u.classes host w.flat point.instr) (flat_item point.instr))

@@ -202,7 +202,8 @@ module _ (u : Setup) (laws : CarriedLaws u) {virtuals : Virtuals} {known : Known
       → KeepStack more (take (entry_count - taken) (stack_slots c.point before)) (take (entry_count - taken) (reverse f.stack)) moves.lower
       → GoesFewer u virtuals known more (Method then ∷ rest) (Method also ∷ rest_also)
   goes_along edge taken given leaves then also moves at held at_also held_also place block place_also grows lower =
-      goes_planned u virtuals known edge.of_row.edge.state (planned_along edge taken given leaves then also moves at held at_also held_also place block place_also grows lower) at
+      goes_planned u virtuals known edge.of_row.edge.state
+      (planned_along edge taken given leaves then also moves at held at_also held_also place block place_also grows lower) at
       grows owned (subst (λ (m : MethodAt). Stands u virtuals known (is_awaited u m) names rest rest_also) (sym at_also) below)
 
   -- a unit that is usable behind was usable before
@@ -352,7 +353,8 @@ pub carried_catches : (u : Setup) (laws : CarriedLaws u) {virtuals : Virtuals} {
     → ThrowsThere (scope_in u c.w) f.place c.point c.route
     → IsNoJump c.carried.instr
     → SameCatches (GoesFewer u virtuals known) names f g rest rest_also (catches_at (first u) f) (catches_at (second u) g)
-carried_catches u laws {virtuals = virtuals} {known = known} {names = names} {f = f} {g = g} {rest = rest} {rest_also = rest_also} c owned below throws no_jump =
+carried_catches u laws {virtuals =
+    virtuals} {known = known} {names = names} {f = f} {g = g} {rest = rest} {rest_also = rest_also} c owned below throws no_jump =
     subst (λ (ones : List Catch). SameCatches (GoesFewer u virtuals known) names f g rest rest_also ones (catches_at (second u) g))
     (sym (first_catches u laws (instruction_of c) owned below throws (0 + g.place)))
     (subst (SameCatches (GoesFewer u virtuals known) names f g rest rest_also _)

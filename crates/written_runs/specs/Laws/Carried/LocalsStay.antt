@@ -44,7 +44,8 @@ module _ {P : Program} {s : PlanScope} {at : ℕ} {point target : Point} {before
       let mapped = length-map (local_slots point before) as_read in
       ap length (held_edge leaves leads) ∙ omega (arith, many, cut, mapped)
 
-  local_was : (unit site : ℕ) → slice_get (edge_slots s at point before row) unit ≡ Some (Virt site) → slice_get (local_slots point before) unit ≡ Some (Virt site)
+  local_was : (unit site : ℕ) → slice_get (edge_slots s at point before row) unit ≡ Some (Virt site) → slice_get (local_slots point before) unit
+      ≡ Some (Virt site)
   local_was unit site is =
       read_virtual (local_slots point before) unit site (ap (λ (slots : List Slot). slice_get slots unit) (sym (held_edge leaves leads)) ∙ is)
 

@@ -158,7 +158,8 @@ items_virtual s at point state route local site is virtual = rw (is, virtual) re
 no_leaving : (point : Point) (route : Route) (local : ℕ) → point.instr ≡ NullTest local → leaves_to point route ≡ None
 no_leaving point route local is = rw (is) refl
 
-test_in_form : (form : Form) (at : ℕ) (point : Point) (route : Route) (local : ℕ) → in_form form (null_test at point route local ++ []) ≡ null_test at point route local
+test_in_form : (form : Form) (at : ℕ) (point : Point) (route : Route) (local : ℕ) → in_form form (null_test at point route local ++ [])
+    ≡ null_test at point route local
 test_in_form short at point route local = refl
 test_in_form wide at point route local = refl
 
@@ -368,7 +369,8 @@ module _ (u : Setup) (laws : CarriedLaws u) {measure : ℕ} {one other : Run} (a
   goes_on reference place found moved is_moved at_next =
       turns_by_moves u settle measure one other
       (moves_on u laws.turns measure h then (moved_to place) edge.of_row.edge.state
-      (planned_along u laws {known = a.t.along.known} c owned h.below edge 0 [] leaves then (moved_to place) (moves_there place) refl refl refl refl refl block.0
+      (planned_along u laws {known =
+      a.t.along.known} c owned h.below edge 0 [] leaves then (moved_to place) (moves_there place) refl refl refl refl refl block.0
       (at_next ∙ block.1) (names_themselves h.names) lower) refl refl
       (turned ∙ ap (λ (value : Option Value). record one { world = test_step P (counted one) f a.ones value }) found) code moved at_block.is_code is_moved
       (λ none. let within = slice_get_within w.flat.points f.place point reached.is_point in let weighs = a.low in omega (arith, within, weighs)))
@@ -394,7 +396,8 @@ module _ (u : Setup) (laws : CarriedLaws u) {measure : ℕ} {one other : Run} (a
         next_starts w.form (blocks_in u w) (own_number s w.routes f.place route) (own_finished u w f.place point route)
         (block_finished w.flat (blocks_of s w.routes) (own_number s w.routes f.place route) (instruction_block s f.place point route)
         (own_of s w.routes f.place point route reached.is_point reached.is_route))
-        ∙ ap (λ (one_end : End). own_start u w f.place route + length (in_form w.form ((instruction_block s f.place point route).items ++ end_items one_end))) ends
+        ∙ ap (λ (one_end : End). own_start u w f.place route + length (in_form w.form
+        ((instruction_block s f.place point route).items ++ end_items one_end))) ends
         ∙ ap (λ (all : List WItem). own_start u w f.place route + length (in_form w.form (all ++ end_items end))) no_items
         ∙ ap (λ (all : List WItem). own_start u w f.place route + length all) written
         ∙ ap (λ (n : ℕ). n + length items) (sym h.place_also)
@@ -556,10 +559,12 @@ module _ (u : Setup) (laws : CarriedLaws u) {measure : ℕ} {one other : Run} (a
       rest_owned = owned_below (top_owned u laws.turns measure h)
 
       unwinds : (more : Names) → NamesMore h.names more
-          → Unwinds P Q (GoesFewer u h.virtuals a.t.along.known) (GoesFewer u h.virtuals a.t.along.known) more (Method f ∷ a.ones) (Method thrower ∷ h.rest_also)
+          → Unwinds P Q (GoesFewer u h.virtuals a.t.along.known) (GoesFewer u h.virtuals a.t.along.known) more (Method f ∷ a.ones)
+          (Method thrower ∷ h.rest_also)
       unwinds more grows =
           in_both ends (held_more grows h.held)
-          (subst (λ (catches : List Catch). SameCatches (GoesFewer u h.virtuals a.t.along.known) more f thrower a.ones h.rest_also catches (catches_at Q thrower))
+          (subst (λ (catches : List Catch). SameCatches (GoesFewer u h.virtuals a.t.along.known) more f thrower a.ones h.rest_also catches
+          (catches_at Q thrower))
           (sym (first_catches u laws {known = a.t.along.known} (instruction_more grows c) owned (names_grown grows h.below) throws (0 + third)))
           (subst (SameCatches (GoesFewer u h.virtuals a.t.along.known) more f thrower a.ones h.rest_also _) (sym (catches_are Q thrower at_point throw_there))
           (catches_moved third h.g.stack
@@ -598,7 +603,8 @@ module _ (u : Setup) (laws : CarriedLaws u) {measure : ℕ} {one other : Run} (a
           not_stuck_here u laws.turns measure h (test_step P (counted one) f a.ones found)
           (turned ∙ ap (λ (value : Option Value). record one { world = test_step P (counted one) f a.ones value }) there) halts
 
-      null_of : (also : Value) → slice_get h.g.locals local ≡ Some (Some also) → SameValue h.names Null also → local_value kinds.Ref h.g.locals local ≡ Some Null
+      null_of : (also : Value) → slice_get h.g.locals local ≡ Some (Some also) → SameValue h.names Null also → local_value kinds.Ref h.g.locals local
+          ≡ Some Null
       null_of (Int number_also) is_also same = elim same [ ]
       null_of (Long number_also) is_also same = elim same [ ]
       null_of (Float bits) is_also same = elim same [ ]

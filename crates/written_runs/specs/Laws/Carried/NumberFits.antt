@@ -139,7 +139,70 @@ found_meaning operations (row ∷ rows) opcode meaning all is =
       by false apart rest = let found : meaning_in rows opcode ≡ Some meaning = rw (apart) at is in rest found
 
 pure_rows : AllByRecursion (TakesAsMany pure_operations) pure_meanings
-pure_rows = (refl, (refl, (refl, (refl, (refl, (refl, (refl, (refl, (refl, (refl, (refl, (refl, (refl, (refl, (refl, (refl, (refl, (refl, (refl, (refl, (refl, (refl, (refl, (refl, (refl, (refl, tt))))))))))))))))))))))))))
+pure_rows = (
+  refl,
+  (
+    refl,
+    (
+      refl,
+      (
+        refl,
+        (
+          refl,
+          (
+            refl,
+            (
+              refl,
+              (
+                refl,
+                (
+                  refl,
+                  (
+                    refl,
+                    (
+                      refl,
+                      (
+                        refl,
+                        (
+                          refl,
+                          (
+                            refl,
+                            (
+                              refl,
+                              (
+                                refl,
+                                (
+                                  refl,
+                                  (
+                                    refl,
+                                    (
+                                      refl,
+                                      (
+                                        refl,
+                                        (
+                                          refl,
+                                          (refl, (refl, (refl, (refl, (refl, tt))))),
+                                        ),
+                                      ),
+                                    ),
+                                  ),
+                                ),
+                              ),
+                            ),
+                          ),
+                        ),
+                      ),
+                    ),
+                  ),
+                ),
+              ),
+            ),
+          ),
+        ),
+      ),
+    ),
+  ),
+)
 
 divide_rows : AllByRecursion (TakesAsMany divide_operations) divide_meanings
 divide_rows = (refl, (refl, (refl, (refl, tt))))
@@ -170,8 +233,52 @@ data TakesNumbers : List Kind → Type 0 where
   takes_two : (kind other : Kind) → IsNumber kind → IsNumber other → TakesNumbers (kind ∷ other ∷ [])
 
 float_rows : AllByRecursion (λ (o : Operation). TakesNumbers o.takes) float_operations
-float_rows =
-    (takes_two _ _ tt tt, (takes_two _ _ tt tt, (takes_one _ tt, (takes_one _ tt, (takes_one _ tt, (takes_one _ tt, (takes_one _ tt, (takes_one _ tt, (takes_one _ tt, (takes_one _ tt, (takes_one _ tt, (takes_one _ tt, (takes_one _ tt, (takes_one _ tt, (takes_two _ _ tt tt, (takes_two _ _ tt tt, tt))))))))))))))))
+float_rows = (
+  takes_two _ _ tt tt,
+  (
+    takes_two _ _ tt tt,
+    (
+      takes_one _ tt,
+      (
+        takes_one _ tt,
+        (
+          takes_one _ tt,
+          (
+            takes_one _ tt,
+            (
+              takes_one _ tt,
+              (
+                takes_one _ tt,
+                (
+                  takes_one _ tt,
+                  (
+                    takes_one _ tt,
+                    (
+                      takes_one _ tt,
+                      (
+                        takes_one _ tt,
+                        (
+                          takes_one _ tt,
+                          (
+                            takes_one _ tt,
+                            (
+                              takes_two _ _ tt tt,
+                              (takes_two _ _ tt tt, tt),
+                            ),
+                          ),
+                        ),
+                      ),
+                    ),
+                  ),
+                ),
+              ),
+            ),
+          ),
+        ),
+      ),
+    ),
+  ),
+)
 
 found_operation : (operations : List Operation) (opcode : ℕ) (operation : Operation)
     → AllByRecursion (λ (o : Operation). TakesNumbers o.takes) operations

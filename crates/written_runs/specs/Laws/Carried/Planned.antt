@@ -232,7 +232,8 @@ module _ (u : Setup) (settle : SettleLaws u) {measure : ℕ} {one other : Run} (
 
   -- an instruction of which no template is written is written as it is
   abbrev pub is_carried : (class : ℕ) (instr : Instr) → point.instr ≡ Of class instr → written_at a class instr ≡ None → IsCarried u w a.f.place point route
-  is_carried class instr is none = record { class = class; instr = instr; is_instr = is; items = items_carried s a.f.place point (state_written route) route class instr is none }
+  is_carried class instr is none =
+      record { class = class; instr = instr; is_instr = is; items = items_carried s a.f.place point (state_written route) route class instr is none }
 
   abbrev pub carried_here : (class : ℕ) (instr : Instr) → point.instr ≡ Of class instr → written_at a class instr ≡ None
       → AtCarried u knowing_here.virtuals known_here knowing_here.names (length a.ones) a.f knowing_here.g

@@ -159,7 +159,9 @@ module _ (u : Setup) (laws : SettleLaws u) (w : WrittenMethod) (host : MethodAt)
         ∙ slice_get-map is_top point.typed.locals unit
         ∙ ap (option_map is_top) is_type where
           low : unit < length (map is_top point.typed.locals)
-          low = let within = slice_get_within point.typed.locals unit type is_type in let long = length-map point.typed.locals is_top in omega (arith, within, long)
+          low =
+              let within =
+              slice_get_within point.typed.locals unit type is_type in let long = length-map point.typed.locals is_top in omega (arith, within, long)
 
   -- ---- edges
 

@@ -332,7 +332,8 @@ module _ (P : Program) (s : PlanScope) (at : ℕ) (point : Point) (route : Route
   pub fits_throw : FitsInstr Throw
   fits_throw here works enough not_stuck = record {
     real =
-        real_operands point (state_written route) 1 (length stack) here.many here.slots enough (λ place site low virtual. asks_each here 1 [] refl place site low virtual);
+        real_operands point (state_written route) 1 (length stack) here.many here.slots enough
+        (λ place site low virtual. asks_each here 1 [] refl place site low virtual);
     given = λ ones after is. absurd (throw_gives _ ones after is);
     throws = λ throwing. throws_each here 1 [] (handed_over point.typed 1) refl;
   } where

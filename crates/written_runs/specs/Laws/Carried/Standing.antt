@@ -43,7 +43,8 @@ own_block_number u w at point route number block reached (of_first one found onw
       sym (own_first s w.routes one onwards none)
       ∙ ap (λ (n : ℕ). own_number s w.routes n onwards) here
       ∙ ap (own_number s w.routes at) same_route
-  by (site ∷ sites) some same = let of : (first_block s one found onwards (site ∷ sites)).of ≡ (instruction_block s at point route).of = ap (λ (b : Block). b.of) same in absurd (cc of)
+  by (site ∷ sites) some same =
+      let of : (first_block s one found onwards (site ∷ sites)).of ≡ (instruction_block s at point route).of = ap (λ (b : Block). b.of) same in absurd (cc of)
 own_block_number u w at point route number block reached (of_own one found onwards there) is =
     let s = scope_in u w in
     let here : one ≡ at = ap (λ (b : Block). b.at) is in

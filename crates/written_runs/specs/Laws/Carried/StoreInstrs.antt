@@ -153,7 +153,8 @@ module _ (u : Setup) (laws : CarriedLaws u) {measure : ℕ} {one other : Run} (a
       ∙ set_in (held_locals point.typed) local (from_place (operand point.typed 0))
       (let many = held_length 0 (length point.typed.locals) in omega (arith, many, low))
 
-  slot_here : local < length point.typed.locals → (slot : Slot) → slice_get (edge_slots s f.place point before (next_row u laws measure h c tt)) local ≡ Some slot
+  slot_here : local < length point.typed.locals → (slot : Slot) → slice_get (edge_slots s f.place point before (next_row u laws measure h c tt)) local
+      ≡ Some slot
       → slot ≡ Plain
   slot_here low slot there =
       same_Some slot Plain
@@ -240,7 +241,8 @@ module _ (u : Setup) (laws : CarriedLaws u) {measure : ℕ} {one other : Run} (a
             ∙ ap (slice_get (place_types point.typed)) (is_place ∙ sym at_operand) ∙ there) at_top is_site
         of_source _ (from_its_new new) same = absurd (cc same)
 
-  step_is : op_step P (counted one) f a.ones (OpOf u laws a class (Store kind local) is none tt point.instr) ≡ store_step (counted one) f a.ones kind local f.stack
+  step_is : op_step P (counted one) f a.ones (OpOf u laws a class (Store kind local) is none tt point.instr)
+      ≡ store_step (counted one) f a.ones kind local f.stack
   step_is = ap (λ (i : FlatInstr). op_step P (counted one) f a.ones (OpOf u laws a class (Store kind local) is none tt i)) is
 
   stuck_so : (world : World) → store_step (counted one) f a.ones kind local f.stack ≡ ends_stuck world → KeepsTurn u measure one other

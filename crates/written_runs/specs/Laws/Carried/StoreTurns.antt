@@ -95,7 +95,8 @@ module _ (u : Setup) (laws : CarriedLaws u) (measure : ℕ) {one other : Run} {f
       units_conform conforms.locals ∙ length-map c.point.typed.locals (read_type c.w.flat)
 
   pub many_flat : length c.point.typed.locals ≡ c.w.flat.locals
-  many_flat = all_at (λ (p : Point). length p.typed.locals ≡ c.w.flat.locals) c.w.flat.points f.place c.point ready.for_plans.widths c.of_instruction.reached.is_point
+  many_flat =
+      all_at (λ (p : Point). length p.typed.locals ≡ c.w.flat.locals) c.w.flat.points f.place c.point ready.for_plans.widths c.of_instruction.reached.is_point
 
   abbrev pub next_edge : falls_on c.point.instr ≡ true → is_open before (row_of_point s f.place c.point).next ≡ true
       → EdgeThere s f.place c.point c.route next_row
@@ -108,7 +109,8 @@ module _ (u : Setup) (laws : CarriedLaws u) (measure : ℕ) {one other : Run} {f
       (many_sources : length sources ≡ length c.point.typed.locals)
       (source_was : (unit : ℕ) → local ≢ unit → unit < length c.point.typed.locals → slice_get sources unit ≡ Some (from_place unit))
       (slot_here : (slot : Slot) → slice_get (edge_slots s f.place c.point before next_row) local ≡ Some slot → slot ≡ Plain)
-      (second : (type : VType) → is_wide_value value ≡ true → slice_get (next_edge falls opens).target.typed.locals (local + 1) ≡ Some type → is_top type ≡ true)
+      (second : (type : VType) → is_wide_value value ≡ true → slice_get (next_edge falls opens).target.typed.locals (local + 1) ≡ Some type → is_top type
+      ≡ true)
       (uninit_here : (type : VType) → slice_get (next_edge falls opens).target.typed.locals local ≡ Some type → IsTrue (is_site_object s.flat type)
       → (reference : ℕ) × (value ≡ Ref reference))
       (steps : op_step P (counted one) f rest (op u laws measure h c no_jump)

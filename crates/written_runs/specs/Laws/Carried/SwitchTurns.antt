@@ -182,7 +182,8 @@ module _ (u : Setup) (laws : CarriedLaws u) (measure : ℕ) {one other : Run} {f
   point_there =
       let zeroth : g.place ≡ g.place + 0 = omega arith in
       ap (slice_get (code_here u laws measure h c).points) zeroth
-      ∙ jump_item_there u c.w f.place c.point c.route c.of_instruction.reached c.carried undecided (own_here u laws measure h c) (its ∷ []) alone_here 0 its refl
+      ∙ jump_item_there u c.w f.place c.point c.route c.of_instruction.reached c.carried undecided (own_here u laws measure h c)
+      (its ∷ []) alone_here 0 its refl
       ∙ ap (λ (n : ℕ). Some (written_point s (own_here u laws measure h c).host u.constructor c.w.form (blocks_in u c.w) (0 + n) its)) (sym zeroth)
 
   -- ---- by a key
@@ -212,7 +213,8 @@ module _ (u : Setup) (laws : CarriedLaws u) (measure : ℕ) {one other : Run} {f
     item_is : switch_by numbers key ≡ target_number c.w.form (blocks_in u c.w) (0 + g.place) (jump_target f.place c.route found.0 to)
     item_is =
         let zeroth : 0 + found.0 ≡ found.0 = omega arith in
-        same_Some (switch_by numbers key) (target_number c.w.form (blocks_in u c.w) (0 + g.place) (jump_target f.place c.route (0 + found.0) to)) (sym found.2 ∙ slice_get-map (target_number c.w.form (blocks_in u c.w) (0 + g.place)) its.targets found.0
+        same_Some (switch_by numbers key) (target_number c.w.form (blocks_in u c.w) (0 + g.place) (jump_target f.place c.route (0 + found.0) to))
+        (sym found.2 ∙ slice_get-map (target_number c.w.form (blocks_in u c.w) (0 + g.place)) its.targets found.0
         ∙ ap (option_map (target_number c.w.form (blocks_in u c.w) (0 + g.place)))
         (jump_target_at f.place c.route 0 found.0 (targets_at c.point.instr) to to_there))
         ∙ ap (λ (n : ℕ). target_number c.w.form (blocks_in u c.w) (0 + g.place) (jump_target f.place c.route n to)) zeroth

@@ -283,12 +283,14 @@ module _ (u : Setup) (laws : CarriedLaws u) (rows : (w : WrittenMethod) → Open
   as_it_is_turn measure one other a class (PutStatic index) is none = operation_turn u laws a class (PutStatic index) is none tt (rows a.in_planned.one)
   as_it_is_turn measure one other a class (GetField index) is none = operation_turn u laws a class (GetField index) is none tt (rows a.in_planned.one)
   as_it_is_turn measure one other a class (PutField index) is none = operation_turn u laws a class (PutField index) is none tt (rows a.in_planned.one)
-  as_it_is_turn measure one other a class (Invoke opcode index count) is none = operation_turn u laws a class (Invoke opcode index count) is none tt (rows a.in_planned.one)
+  as_it_is_turn measure one other a class (Invoke opcode index count) is none =
+      operation_turn u laws a class (Invoke opcode index count) is none tt (rows a.in_planned.one)
   as_it_is_turn measure one other a class (Dynamic index) is none = operation_turn u laws a class (Dynamic index) is none tt (rows a.in_planned.one)
   as_it_is_turn measure one other a class (New index) is none = operation_turn u laws a class (New index) is none tt (rows a.in_planned.one)
   as_it_is_turn measure one other a class (NewArray code) is none = operation_turn u laws a class (NewArray code) is none tt (rows a.in_planned.one)
   as_it_is_turn measure one other a class (NewRefArray index) is none = operation_turn u laws a class (NewRefArray index) is none tt (rows a.in_planned.one)
-  as_it_is_turn measure one other a class (NewMulti index dimensions) is none = operation_turn u laws a class (NewMulti index dimensions) is none tt (rows a.in_planned.one)
+  as_it_is_turn measure one other a class (NewMulti index dimensions) is none =
+      operation_turn u laws a class (NewMulti index dimensions) is none tt (rows a.in_planned.one)
   as_it_is_turn measure one other a class Length is none = operation_turn u laws a class Length is none tt (rows a.in_planned.one)
   as_it_is_turn measure one other a class Throw is none = operation_turn u laws a class Throw is none tt (rows a.in_planned.one)
   as_it_is_turn measure one other a class (Cast index) is none = operation_turn u laws a class (Cast index) is none tt (rows a.in_planned.one)

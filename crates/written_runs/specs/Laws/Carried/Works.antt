@@ -200,8 +200,10 @@ module _ (u : Setup) (laws : CarriedLaws u) (measure : ℕ) {one other : Run} {f
         → SameValues more ones others
         → GoesFewer u h.virtuals known more (Method (resumed (less taken f) ones) ∷ rest) (Method (resumed (less taken h.g) others) ∷ h.rest_also)
     given more memory ones others is grows are =
-        goes_along u laws (instruction_of c) owned h.below edge taken so.given so.leaves (resumed (less taken f) ones) (resumed (less taken h.g) others) moves refl refl refl
-        refl refl block.0 (ap (λ (n : ℕ). n + 1) own.place ∙ sym (next_place u c.w f.place c.point c.route c.of_instruction.reached c.carried no_jump) ∙ block.1)
+        goes_along u laws (instruction_of c) owned h.below edge taken so.given so.leaves (resumed (less taken f) ones) (resumed
+        (less taken h.g) others) moves refl refl refl
+        refl refl block.0 (ap (λ (n : ℕ). n + 1) own.place ∙ sym (next_place u c.w f.place c.point c.route c.of_instruction.reached c.carried no_jump)
+        ∙ block.1)
         grows
         (subst (λ (n : ℕ). KeepStack more (take (n - taken) (stack_slots c.point before)) (take (n - taken) (reverse f.stack)) (reverse (drop taken h.g.stack)))
         many_stack (have grows).lower) where

@@ -66,7 +66,8 @@ worth_constant pool (Some (consts.InterfaceMethodref owner member)) = means_noth
 worth_constant pool (Some (consts.NameAndType name desc)) = means_nothing refl
 worth_constant pool (Some (consts.InvokeDynamic bootstrap member)) = means_nothing refl
 
-worth_call : (links : Links) (scope : RowScope) (opcode : ℕ) (found : Option Reference) → IsWorth (or_meaningless (option_map (call_op links scope opcode) found))
+worth_call : (links : Links) (scope : RowScope) (opcode : ℕ) (found : Option Reference)
+    → IsWorth (or_meaningless (option_map (call_op links scope opcode) found))
 worth_call links scope opcode None = means_nothing refl
 worth_call links scope opcode (Some r) =
     by (opcode == INVOKEVIRTUAL) refl (opcode == INVOKESPECIAL) refl (opcode == INVOKESTATIC) refl (opcode == INVOKEINTERFACE) refl where
