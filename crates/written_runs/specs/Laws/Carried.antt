@@ -7,6 +7,7 @@ pub mod CastFits
 pub mod EdgeBlocks
 pub mod FieldFits
 pub mod IncrementTurns
+pub mod InitFits
 pub mod JumpEdges
 pub mod JumpFamilies
 pub mod JumpInstrs

@@ -40,6 +40,7 @@ use Rattle.member_link.specs.Machine.Worlds.{Memory, is_begun, stuck}
 use Rattle.member_link.specs.References.{Reference}
 use Rattle.member_link.specs.RowScope.{RowScope}
 use Rattle.member_link.specs.Signatures.{reference_of, result_of}
+use Rattle.member_link.specs.Rows.MemberRows.{receiver}
 use Rattle.plan_flow.specs.Must.{IsMustOf, row_of_point}
 use Rattle.plan_flow.specs.PlanRows.{PlanRow, Position, Source, any_object, in_each_state, no_change, plain_value}
 use Rattle.plan_flow.specs.PlanScope.{PlanScope, member_of, pool_of, site_at}
@@ -105,6 +106,15 @@ asked_operands f (suc count) number low = by (cases_lt number count) (asked_oper
 
 -- ---- at an instruction
 
+-- what is known of a call of java/lang/Object's constructor
+pub record InitHere (s : PlanScope) (point : Point) (opcode : ℕ) (r : Reference) (stack : List Value) : Type 0 where
+  pub special : opcode ≡ INVOKESPECIAL
+  pub no_parameters : parameters_of r.desc ≡ []
+  pub refers : (value : Value)
+      → slice_get stack 0 ≡ Some value
+      → is_site_object s.flat (receiver point.typed r.desc) ≡ false
+      → (reference : ℕ) × (value ≡ Ref reference)
+
 -- what is known of a point whose instruction is written as it is
 pub record FitsHere (P : Program) (s : PlanScope) (at : ℕ) (point : Point) (route : Route) (class : ℕ) (instr : Instr) (scope : RowScope) (memory : Memory)
     (stack : List Value)
@@ -125,6 +135,12 @@ pub record FitsHere (P : Program) (s : PlanScope) (at : ℕ) (point : Point) (ro
       → slice_get stack number ≡ Some value
       → IsTrue (is_site_object s.flat type)
       → (reference : ℕ) × (value ≡ Ref reference)
+  -- java/lang/Object's constructor is called by invokespecial, without arguments, of an object that is there
+  pub inits : (opcode index count : ℕ) (r : Reference)
+      → instr ≡ Invoke opcode index count
+      → member_of s class index ≡ Some r
+      → is_object_init r ≡ true
+      → InitHere s point opcode r stack
 
 -- what an operation comes to there
 abbrev pub works_to : Program → Memory → List Value → Op → Completion

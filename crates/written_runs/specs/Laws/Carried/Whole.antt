@@ -32,6 +32,7 @@ use Rattle.written_runs.specs.Inner.Setup.{Setup, first}
 use Rattle.written_runs.specs.Laws.Carried.Knowing.{CarriedLaws}
 use Rattle.written_runs.specs.Laws.Carried.IncrementTurns.{increment_turn}
 use Rattle.written_runs.specs.Laws.Carried.StoreInstrs.{store_turn}
+use Rattle.written_runs.specs.Laws.Carried.InitFits.{fits_object_init}
 use Rattle.written_runs.specs.Laws.Carried.JumpInstrs.{if_null_turn, if_same_turn, if_turn, if_two_turn}
 use Rattle.written_runs.specs.Laws.Carried.LoadTurns.{load_turn}
 use Rattle.written_runs.specs.Laws.Carried.NopTurns.{nop_turn}
@@ -67,61 +68,52 @@ FitsOf P s instr =
     → FitsHere P s at point route class instr scope memory stack
     → OpFits P s at point route memory stack (instr_op P.links number scope instr)
 
--- What is left to show of rows: of java/lang/Object's constructor, which is called of an object that is not virtual.
-pub record OpenRows (P : Program) (s : PlanScope) : Type 0 where
-  pub object_init : (opcode index count class : ℕ) (r : Reference)
-      → member_of s class index ≡ Some r
-      → is_object_init r ≡ true
-      → (at : ℕ) (point : Point) (route : Route) (scope : RowScope) (memory : Memory) (stack : List Value) (number : ℕ → ℕ)
-      → FitsHere P s at point route class (Invoke opcode index count) scope memory stack
-      → OpFits P s at point route memory stack (instr_op P.links number scope (Invoke opcode index count))
-
-fits_of : {P : Program} {s : PlanScope} → OpenRows P s → (instr : Instr) → IsOperation instr → FitsOf P s instr
-fits_of rows Nop is = absurd is
-fits_of rows (Load kind local) is = absurd is
-fits_of rows (Store kind local) is = absurd is
-fits_of rows (Iinc local by) is = absurd is
-fits_of rows (Shuffle opcode) is = absurd is
-fits_of rows (If opcode to) is = absurd is
-fits_of rows (If2 opcode to) is = absurd is
-fits_of rows (IfSame opcode to) is = absurd is
-fits_of rows (IfNull opcode to) is = absurd is
-fits_of rows (Goto to) is = absurd is
-fits_of rows (Table low other to) is = absurd is
-fits_of rows (Lookup other pairs) is = absurd is
-fits_of rows (Return kind) is = absurd is
-fits_of {P = P} {s = s} rows (Const imm) is =
+fits_of : (P : Program) (s : PlanScope) (instr : Instr) → IsOperation instr → FitsOf P s instr
+fits_of P s Nop is = absurd is
+fits_of P s (Load kind local) is = absurd is
+fits_of P s (Store kind local) is = absurd is
+fits_of P s (Iinc local by) is = absurd is
+fits_of P s (Shuffle opcode) is = absurd is
+fits_of P s (If opcode to) is = absurd is
+fits_of P s (If2 opcode to) is = absurd is
+fits_of P s (IfSame opcode to) is = absurd is
+fits_of P s (IfNull opcode to) is = absurd is
+fits_of P s (Goto to) is = absurd is
+fits_of P s (Table low other to) is = absurd is
+fits_of P s (Lookup other pairs) is = absurd is
+fits_of P s (Return kind) is = absurd is
+fits_of P s (Const imm) is =
     λ at point route class scope memory stack number. fits_const P s at point route class scope memory stack number imm
-fits_of {P = P} {s = s} rows (Ldc index) is =
+fits_of P s (Ldc index) is =
     λ at point route class scope memory stack number. fits_ldc P s at point route class scope memory stack number index
-fits_of {P = P} {s = s} rows (Ldc2 index) is =
+fits_of P s (Ldc2 index) is =
     λ at point route class scope memory stack number. fits_ldc2 P s at point route class scope memory stack number index
-fits_of {P = P} {s = s} rows (ArrayLoad opcode) is =
+fits_of P s (ArrayLoad opcode) is =
     λ at point route class scope memory stack number. fits_array_load P s at point route class scope memory stack number opcode
-fits_of {P = P} {s = s} rows (ArrayStore opcode) is =
+fits_of P s (ArrayStore opcode) is =
     λ at point route class scope memory stack number. fits_array_store P s at point route class scope memory stack number opcode
-fits_of {P = P} {s = s} rows (Pure opcode) is =
+fits_of P s (Pure opcode) is =
     λ at point route class scope memory stack number. fits_pure P s at point route class scope memory stack number opcode
-fits_of {P = P} {s = s} rows (Divide opcode) is =
+fits_of P s (Divide opcode) is =
     λ at point route class scope memory stack number. fits_divide P s at point route class scope memory stack number opcode
-fits_of {P = P} {s = s} rows (FloatAsk opcode) is =
+fits_of P s (FloatAsk opcode) is =
     λ at point route class scope memory stack number. fits_float_ask P s at point route class scope memory stack number opcode
-fits_of {P = P} {s = s} rows (GetStatic index) is =
+fits_of P s (GetStatic index) is =
     λ at point route class scope memory stack number. fits_get_static P s at point route class scope memory stack number index
-fits_of {P = P} {s = s} rows (PutStatic index) is =
+fits_of P s (PutStatic index) is =
     λ at point route class scope memory stack number. fits_put_static P s at point route class scope memory stack number index
-fits_of {P = P} {s = s} rows (GetField index) is =
+fits_of P s (GetField index) is =
     λ at point route class scope memory stack number. fits_get_field P s at point route class scope memory stack number index
-fits_of {P = P} {s = s} rows (PutField index) is =
+fits_of P s (PutField index) is =
     λ at point route class scope memory stack number. fits_put_field P s at point route class scope memory stack number index
-fits_of {P = P} {s = s} rows (Invoke opcode index count) is =
+fits_of P s (Invoke opcode index count) is =
     λ at point route class scope memory stack number here. by_member class (member_of s class index) refl at point route scope memory stack number here where
       of_init : (class : ℕ) (r : Reference) → member_of s class index ≡ Some r → (init : Bool) → is_object_init r ≡ init
           → (at : ℕ) (point : Point) (route : Route) (scope : RowScope) (memory : Memory) (stack : List Value) (number : ℕ → ℕ)
           → FitsHere P s at point route class (Invoke opcode index count) scope memory stack
           → OpFits P s at point route memory stack (instr_op P.links number scope (Invoke opcode index count))
       of_init class r member true init at point route scope memory stack number here =
-          rows.object_init opcode index count class r member init at point route scope memory stack number here
+          fits_object_init P s at point route class scope memory stack number opcode index count r member init here
       of_init class r member false init at point route scope memory stack number here =
           fits_invoke P s at point route class scope memory stack number opcode index count
           (λ found is_found. ap is_object_init (same_found found is_found) ∙ init) here where
@@ -137,27 +129,27 @@ fits_of {P = P} {s = s} rows (Invoke opcode index count) is =
           (λ found is_found. absurd (cc (sym is_found ∙ member))) here
       by_member class (Some r) member at point route scope memory stack number here =
           of_init class r member (is_object_init r) refl at point route scope memory stack number here
-fits_of {P = P} {s = s} rows (Dynamic index) is =
+fits_of P s (Dynamic index) is =
     λ at point route class scope memory stack number. fits_dynamic P s at point route class scope memory stack number index
-fits_of {P = P} {s = s} rows (New index) is =
+fits_of P s (New index) is =
     λ at point route class scope memory stack number. fits_new P s at point route class scope memory stack number index
-fits_of {P = P} {s = s} rows (NewArray code) is =
+fits_of P s (NewArray code) is =
     λ at point route class scope memory stack number. fits_new_array P s at point route class scope memory stack number code
-fits_of {P = P} {s = s} rows (NewRefArray index) is =
+fits_of P s (NewRefArray index) is =
     λ at point route class scope memory stack number. fits_new_ref_array P s at point route class scope memory stack number index
-fits_of {P = P} {s = s} rows (NewMulti index dimensions) is =
+fits_of P s (NewMulti index dimensions) is =
     λ at point route class scope memory stack number. fits_new_multi P s at point route class scope memory stack number index dimensions
-fits_of {P = P} {s = s} rows Length is =
+fits_of P s Length is =
     λ at point route class scope memory stack number. fits_length P s at point route class scope memory stack number
-fits_of {P = P} {s = s} rows Throw is =
+fits_of P s Throw is =
     λ at point route class scope memory stack number. fits_throw P s at point route class scope memory stack number
-fits_of {P = P} {s = s} rows (Cast index) is =
+fits_of P s (Cast index) is =
     λ at point route class scope memory stack number. fits_cast P s at point route class scope memory stack number index
-fits_of {P = P} {s = s} rows (InstanceOf index) is =
+fits_of P s (InstanceOf index) is =
     λ at point route class scope memory stack number. fits_instance_of P s at point route class scope memory stack number index
-fits_of {P = P} {s = s} rows Enter is =
+fits_of P s Enter is =
     λ at point route class scope memory stack number. fits_enter P s at point route class scope memory stack number
-fits_of {P = P} {s = s} rows Leave is =
+fits_of P s Leave is =
     λ at point route class scope memory stack number. fits_leave P s at point route class scope memory stack number
 
 -- ---- the turn
@@ -188,7 +180,7 @@ module _ (u : Setup) (laws : CarriedLaws u) {measure : ℕ} {one other : Run} (a
   abbrev c : AtCarried u h.virtuals (known_here u settle a) h.names (length a.ones) a.f h.g
   c = carried_here u settle a class instr is none
 
-  module _ (operation : IsOperation instr) (rows : OpenRows P s) where
+  module _ (operation : IsOperation instr) where
     abbrev no_jump : IsNoJump c.carried.instr
     no_jump = straight_on instr operation
 
@@ -214,6 +206,17 @@ module _ (u : Setup) (laws : CarriedLaws u) {measure : ℕ} {one other : Run} (a
       uninit = λ place type value is_type is_value is_site.
           h.tells.uninit_stack (length point.typed.stack - (place + 1)) type value is_type
           (ap (λ (n : ℕ). slice_get (reverse a.f.stack) (n - (place + 1))) (sym many) ∙ reverse_get a.f.stack place value is_value) is_site;
+      inits = λ opcode index count r shape member init.
+          let called : a.settled.point.instr ≡ Of class (Invoke opcode index count) = is ∙ ap (Of class) shape in
+          let told =
+          laws.object_inits h.g.at w a.f.place point class opcode index count r h.is_written a.settled.of_instruction.reached.is_point called member init in
+          record {
+            special = told.0;
+            no_parameters = told.1;
+            refers = λ value top not_site.
+                laws.init_refers one.world a.f a.ones w point class opcode index count r value h.typed h.stands (ap u.written h.at ∙ h.is_written)
+                a.settled.of_instruction.reached.is_point called member init not_site top;
+          };
     }
 
     -- by the instruction that stands there
@@ -223,7 +226,7 @@ module _ (u : Setup) (laws : CarriedLaws u) {measure : ℕ} {one other : Run} (a
     fits_there : OpFits P s a.f.place point route one.world.memory a.f.stack (OpOf point.instr)
     fits_there =
         subst (λ (i : FlatInstr). OpFits P s a.f.place point route one.world.memory a.f.stack (OpOf i)) (sym is)
-        (fits_of rows instr operation a.f.place point route class scope one.world.memory a.f.stack number here)
+        (fits_of P s instr operation a.f.place point route class scope one.world.memory a.f.stack number here)
 
     worth_there : IsWorth (OpOf point.instr)
     worth_there = subst (λ (i : FlatInstr). IsWorth (OpOf i)) (sym is) (worth u.links number scope instr operation)
@@ -252,7 +255,7 @@ module _ (u : Setup) (laws : CarriedLaws u) {measure : ℕ} {one other : Run} (a
 
 -- ---- all
 
-module _ (u : Setup) (laws : CarriedLaws u) (rows : (w : WrittenMethod) → OpenRows (first u) (scope_in u w)) where
+module _ (u : Setup) (laws : CarriedLaws u) where
   -- An instruction that is written as it is.
   pub as_it_is_turn : (measure : ℕ) (one other : Run) (a : AtPlanned u measure one other) (class : ℕ) (instr : Instr)
       → a.settled.point.instr ≡ Of class instr
@@ -271,32 +274,32 @@ module _ (u : Setup) (laws : CarriedLaws u) (rows : (w : WrittenMethod) → Open
   as_it_is_turn measure one other a class (Table low default to) is none = table_turn u laws a class low default to is
   as_it_is_turn measure one other a class (Lookup default pairs) is none = lookup_turn u laws a class default pairs is
   as_it_is_turn measure one other a class (Return kind) is none = return_turn u laws a class kind is
-  as_it_is_turn measure one other a class (Const imm) is none = operation_turn u laws a class (Const imm) is none tt (rows a.in_planned.one)
-  as_it_is_turn measure one other a class (Ldc index) is none = operation_turn u laws a class (Ldc index) is none tt (rows a.in_planned.one)
-  as_it_is_turn measure one other a class (Ldc2 index) is none = operation_turn u laws a class (Ldc2 index) is none tt (rows a.in_planned.one)
-  as_it_is_turn measure one other a class (ArrayLoad opcode) is none = operation_turn u laws a class (ArrayLoad opcode) is none tt (rows a.in_planned.one)
-  as_it_is_turn measure one other a class (ArrayStore opcode) is none = operation_turn u laws a class (ArrayStore opcode) is none tt (rows a.in_planned.one)
-  as_it_is_turn measure one other a class (Pure opcode) is none = operation_turn u laws a class (Pure opcode) is none tt (rows a.in_planned.one)
-  as_it_is_turn measure one other a class (Divide opcode) is none = operation_turn u laws a class (Divide opcode) is none tt (rows a.in_planned.one)
-  as_it_is_turn measure one other a class (FloatAsk opcode) is none = operation_turn u laws a class (FloatAsk opcode) is none tt (rows a.in_planned.one)
-  as_it_is_turn measure one other a class (GetStatic index) is none = operation_turn u laws a class (GetStatic index) is none tt (rows a.in_planned.one)
-  as_it_is_turn measure one other a class (PutStatic index) is none = operation_turn u laws a class (PutStatic index) is none tt (rows a.in_planned.one)
-  as_it_is_turn measure one other a class (GetField index) is none = operation_turn u laws a class (GetField index) is none tt (rows a.in_planned.one)
-  as_it_is_turn measure one other a class (PutField index) is none = operation_turn u laws a class (PutField index) is none tt (rows a.in_planned.one)
+  as_it_is_turn measure one other a class (Const imm) is none = operation_turn u laws a class (Const imm) is none tt
+  as_it_is_turn measure one other a class (Ldc index) is none = operation_turn u laws a class (Ldc index) is none tt
+  as_it_is_turn measure one other a class (Ldc2 index) is none = operation_turn u laws a class (Ldc2 index) is none tt
+  as_it_is_turn measure one other a class (ArrayLoad opcode) is none = operation_turn u laws a class (ArrayLoad opcode) is none tt
+  as_it_is_turn measure one other a class (ArrayStore opcode) is none = operation_turn u laws a class (ArrayStore opcode) is none tt
+  as_it_is_turn measure one other a class (Pure opcode) is none = operation_turn u laws a class (Pure opcode) is none tt
+  as_it_is_turn measure one other a class (Divide opcode) is none = operation_turn u laws a class (Divide opcode) is none tt
+  as_it_is_turn measure one other a class (FloatAsk opcode) is none = operation_turn u laws a class (FloatAsk opcode) is none tt
+  as_it_is_turn measure one other a class (GetStatic index) is none = operation_turn u laws a class (GetStatic index) is none tt
+  as_it_is_turn measure one other a class (PutStatic index) is none = operation_turn u laws a class (PutStatic index) is none tt
+  as_it_is_turn measure one other a class (GetField index) is none = operation_turn u laws a class (GetField index) is none tt
+  as_it_is_turn measure one other a class (PutField index) is none = operation_turn u laws a class (PutField index) is none tt
   as_it_is_turn measure one other a class (Invoke opcode index count) is none =
-      operation_turn u laws a class (Invoke opcode index count) is none tt (rows a.in_planned.one)
-  as_it_is_turn measure one other a class (Dynamic index) is none = operation_turn u laws a class (Dynamic index) is none tt (rows a.in_planned.one)
-  as_it_is_turn measure one other a class (New index) is none = operation_turn u laws a class (New index) is none tt (rows a.in_planned.one)
-  as_it_is_turn measure one other a class (NewArray code) is none = operation_turn u laws a class (NewArray code) is none tt (rows a.in_planned.one)
-  as_it_is_turn measure one other a class (NewRefArray index) is none = operation_turn u laws a class (NewRefArray index) is none tt (rows a.in_planned.one)
+      operation_turn u laws a class (Invoke opcode index count) is none tt
+  as_it_is_turn measure one other a class (Dynamic index) is none = operation_turn u laws a class (Dynamic index) is none tt
+  as_it_is_turn measure one other a class (New index) is none = operation_turn u laws a class (New index) is none tt
+  as_it_is_turn measure one other a class (NewArray code) is none = operation_turn u laws a class (NewArray code) is none tt
+  as_it_is_turn measure one other a class (NewRefArray index) is none = operation_turn u laws a class (NewRefArray index) is none tt
   as_it_is_turn measure one other a class (NewMulti index dimensions) is none =
-      operation_turn u laws a class (NewMulti index dimensions) is none tt (rows a.in_planned.one)
-  as_it_is_turn measure one other a class Length is none = operation_turn u laws a class Length is none tt (rows a.in_planned.one)
-  as_it_is_turn measure one other a class Throw is none = operation_turn u laws a class Throw is none tt (rows a.in_planned.one)
-  as_it_is_turn measure one other a class (Cast index) is none = operation_turn u laws a class (Cast index) is none tt (rows a.in_planned.one)
-  as_it_is_turn measure one other a class (InstanceOf index) is none = operation_turn u laws a class (InstanceOf index) is none tt (rows a.in_planned.one)
-  as_it_is_turn measure one other a class Enter is none = operation_turn u laws a class Enter is none tt (rows a.in_planned.one)
-  as_it_is_turn measure one other a class Leave is none = operation_turn u laws a class Leave is none tt (rows a.in_planned.one)
+      operation_turn u laws a class (NewMulti index dimensions) is none tt
+  as_it_is_turn measure one other a class Length is none = operation_turn u laws a class Length is none tt
+  as_it_is_turn measure one other a class Throw is none = operation_turn u laws a class Throw is none tt
+  as_it_is_turn measure one other a class (Cast index) is none = operation_turn u laws a class (Cast index) is none tt
+  as_it_is_turn measure one other a class (InstanceOf index) is none = operation_turn u laws a class (InstanceOf index) is none tt
+  as_it_is_turn measure one other a class Enter is none = operation_turn u laws a class Enter is none tt
+  as_it_is_turn measure one other a class Leave is none = operation_turn u laws a class Leave is none tt
 
   -- So the turns of instructions that are written as they are, and of tests for null, are all there is left beside templates.
   pub planned_parts : ((measure : ℕ) (one other : Run) (a : AtPlanned u measure one other) (class : ℕ) (instr : Instr) (instrs : List WInstr)
