@@ -6,6 +6,8 @@ pub mod CarriedOps
 pub mod CastFits
 pub mod EdgeBlocks
 pub mod FieldFits
+pub mod IncrementTurns
+pub mod InitFits
 pub mod JumpEdges
 pub mod JumpFamilies
 pub mod JumpInstrs
@@ -31,6 +33,7 @@ pub mod Rows
 pub mod SimpleFits
 pub mod Slots
 pub mod Standing
+pub mod StoreInstrs
 pub mod StoreOver
 pub mod StoreTurns
 pub mod StuckFits

@@ -1,9 +1,9 @@
 -- Frames of which the topmost arrive at the block of an edge, or wait at an instruction that is written as it is: they go together, with the
 -- virtual objects that are left.
-use Rattle.std.proofs.Common.{◌≡◌, ◌⊎◌, ◌≤◌, ◌<◌, ◌+◌, ◌-◌, ◌++◌, ℕ, suc, Bool, false, List, [], ◌∷◌, drop, length, reverse, slice_get, take, Some, None, IsTrue, refl, sym, ap, subst, ◌∙◌, arith, inl, inr}
-use Rattle.std.proofs.lemmas.Bool.{cases_lt, cases_order, false≢true}
-use Rattle.std.proofs.lemmas.List.{length-append, length-reverse, reverse-append}
-use Rattle.std.proofs.lemmas.Option.{none-some, same_Some, slice_get_within}
+use Rattle.std.proofs.Common.{◌≡◌, ◌⊎◌, ◌≤◌, ◌<◌, ◌+◌, ◌++◌, ℕ, List, [], ◌∷◌, length, reverse, slice_get, Some, sym, ap, subst, ◌∙◌, arith, inl, inr}
+use Rattle.std.proofs.lemmas.Bool.{cases_lt, false≢true}
+use Rattle.std.proofs.lemmas.List.{length-reverse, reverse-append}
+use Rattle.std.proofs.lemmas.Option.{same_Some, slice_get_within}
 use Rattle.class_model.specs.declared.class_file.MethodAt.{MethodAt}
 use Rattle.flow_code.specs.declared.point.Point.{Point}
 use Rattle.machine_values.specs.Frames.{MethodState}
@@ -12,7 +12,6 @@ use Rattle.machine_values.specs.declared.frame.RunFrame.TheVariants.{Method}
 use Rattle.plan_flow.specs.Laws.WrittenBlocks.{first_item}
 use Rattle.plan_flow.specs.Written.Routes.{RouteEdge}
 use Rattle.plan_flow.specs.Written.WrittenPrograms.{WrittenMethod}
-use Rattle.same_runs.specs.Laws.Names.{names_themselves}
 use Rattle.same_runs.specs.Renamings.{Names, NamesMore, SameHeld}
 use Rattle.virtual_state.specs.States.{State, is_present}
 use Rattle.written_runs.specs.Inner.PlannedFrames.{InPlanned, Keeps, Known, arrives, blocks_in, scope_in}
@@ -21,7 +20,7 @@ use Rattle.written_runs.specs.Inner.Standing.{Stands, is_awaited, planned_stand,
 use Rattle.written_runs.specs.Laws.Carried.Behind.{kept_are_fewer, kept_is_present, kept_of, same_below_kept}
 use Rattle.written_runs.specs.Laws.Carried.EdgeBlocks.{EdgeBlock}
 use Rattle.written_runs.specs.Laws.Carried.Slots.{got_left, got_right}
-use Rattle.written_runs.specs.Laws.FewerVirtuals.{AllOwned, AreFewer, GoesFewer, HasOwner, OwnedBelow, was_before}
+use Rattle.written_runs.specs.Laws.FewerVirtuals.{AllOwned, AreFewer, GoesFewer, HasOwner, was_before}
 use Rattle.written_runs.specs.Laws.StandingMore.{stands_more}
 use Rattle.written_runs.specs.VirtualObjects.{Tells, Virtual, Virtuals}
 

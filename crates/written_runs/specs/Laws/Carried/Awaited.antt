@@ -1,7 +1,6 @@
 -- A planned frame that waits below others: where something thrown reaches it, it lands in a handler in both, and behind a result it arrives at the
 -- block behind its instruction.
-use Rattle.std.proofs.Common.{◌≡◌, ◌≤◌, ◌<◌, ◌+◌, ◌-◌, ◌++◌, ◌&&◌, nat_le, ℕ, suc, Bool, true, false, List, [], ◌∷◌, drop, filter, length, reverse, slice_get, take, Some, IsTrue, refl, sym, ap, subst, ◌∙◌, arith}
-use Rattle.std.proofs.lemmas.Bool.{le-leb, leb-true}
+use Rattle.std.proofs.Common.{◌≡◌, ◌+◌, ◌-◌, ◌++◌, ◌&&◌, nat_le, ℕ, suc, Bool, true, false, List, [], ◌∷◌, filter, length, reverse, slice_get, take, Some, refl, sym, ap, subst, ◌∙◌, arith}
 use Rattle.std.proofs.lemmas.List.{length-reverse, reverse-append, reverse-reverse, take_all}
 use Rattle.class_model.specs.declared.frame.VType.{VType}
 use Rattle.flow_code.specs.declared.point.Point.{Point}
@@ -42,7 +41,7 @@ use Rattle.written_runs.specs.Laws.FewerVirtuals.{AllOwned, AreFewer, GoesFewer,
 use Rattle.written_runs.specs.Laws.OwnFrames.{WaitsPlanned}
 use Rattle.written_runs.specs.Laws.Settling.{SettleLaws}
 use Rattle.written_runs.specs.Laws.StandingMore.{SameOfFrame, keeps_more, stands_more, tells_same}
-use Rattle.written_runs.specs.VirtualObjects.{Virtual, Virtuals, stack_slots}
+use Rattle.written_runs.specs.VirtualObjects.{Virtuals, stack_slots}
 
 -- ---- fewer of fewer
 
@@ -165,7 +164,8 @@ module _ (u : Setup) (laws : CarriedLaws u) {virtuals : Virtuals} {known : Known
       → GoesFewer u virtuals known names (Method (resumed f values) ∷ ones) (Method (resumed g also) ∷ others)
   planned_resumes values also are so no_jump =
       goes_with_more (record { keeps = λ virtual. nat_le (suc virtual.frame) height; is = refl })
-      (goes_along u laws (instruction_of c) kept_owned kept_below edge so.taken so.given so.leaves (resumed f values) (resumed g also) moves refl refl refl refl refl block.0
+      (goes_along u laws (instruction_of c) kept_owned kept_below edge so.taken so.given so.leaves (resumed f values)
+      (resumed g also) moves refl refl refl refl refl block.0
       (ap (λ (n : ℕ). n + 1) own.place ∙ sym (next_place u c.w f.place c.point c.route c.of_instruction.reached c.carried no_jump) ∙ block.1)
       (names_themselves names) lower) where
         own : AtOwn u c.w f.place c.point c.route g

@@ -1,75 +1,51 @@
 -- What is known where a planned frame's instruction is written as it is: its typed row, its operation, and that it is not stuck.
-use Rattle.std.proofs.Common.{◌≡◌, ◌≤◌, ◌<◌, ◌+◌, ◌-◌, ◌++◌, ℕ, zero, suc, Bool, true, false, List, [], ◌∷◌, drop, length, map, slice_get, Option, Some, None, IsTrue, option_and_then, option_map, refl, sym, ap, subst, ◌∙◌, arith}
-use Rattle.std.proofs.lemmas.Bool.{false≢true}
-use Rattle.std.proofs.lemmas.Option.{none-some, same_Some, slice_get_within}
+use Rattle.std.proofs.Common.{◌≡◌, ◌≤◌, ℕ, zero, suc, Bool, true, false, List, [], ◌∷◌, drop, length, slice_get, Option, Some, None, refl, sym, ap, subst, ◌∙◌, arith}
+use Rattle.std.proofs.lemmas.Option.{none-some, same_Some}
 use Rattle.class_model.specs.declared.descriptor.Kind.{Kind}
 use Rattle.class_model.specs.declared.descriptor.Kind.TheVariants as kinds
 use Rattle.class_model.specs.declared.frame.VType.{VType}
 use Rattle.class_model.specs.declared.frame.VType.TheVariants as types
 use Rattle.class_model.specs.declared.instr.Instr.{Instr}
-use Rattle.class_model.specs.declared.instr.Instr.TheVariants.{Load, Nop}
 use Rattle.class_model.specs.Frames.{is_top}
-use Rattle.flow_code.specs.ReadTypes.{is_site_object, read_frame, read_type}
+use Rattle.flow_code.specs.ReadTypes.{read_frame}
 use Rattle.flow_code.specs.declared.point.FlatInstr.{FlatInstr}
 use Rattle.flow_code.specs.declared.point.FlatInstr.TheVariants.{Of}
 use Rattle.flow_code.specs.declared.point.Point.{Point}
 use Rattle.machine_values.specs.Frames.{MethodState}
 use Rattle.machine_values.specs.Values.{has_kind}
 use Rattle.machine_values.specs.declared.value.Value.{Value}
-use Rattle.machine_values.specs.declared.value.Value.TheVariants.{Ref}
 use Rattle.member_link.specs.BodyTyping.{RowHolds}
 use Rattle.member_link.specs.Bodies.{item_row}
 use Rattle.member_link.specs.Machine.Codes.{item_op, number_at}
 use Rattle.member_link.specs.Machine.Locals.{local_value}
-use Rattle.member_link.specs.Machine.Ops.{Op, load_local, no_operation}
-use Rattle.member_link.specs.Machine.Performing.{resumed}
+use Rattle.member_link.specs.Machine.Ops.{Op}
 use Rattle.member_link.specs.Machine.Programs.{Program}
 use Rattle.member_link.specs.Machine.Runs.{Run}
-use Rattle.member_link.specs.Machine.Stepping.{ends_stuck, load_step, op_step, with_top}
+use Rattle.member_link.specs.Machine.Stepping.{op_step}
 use Rattle.member_link.specs.Machine.Worlds.{World, stuck}
-use Rattle.member_link.specs.Rows.LocalRows.{HoldsKind}
 use Rattle.member_link.specs.Rows.Operands.{IsOfKind}
 use Rattle.member_link.specs.Rows.Readings.{row_by}
-use Rattle.plan_flow.specs.PlanRows.{PlanRow, Source, from_place}
 use Rattle.plan_flow.specs.PlanScope.{PlanScope}
-use Rattle.plan_flow.specs.PlanSlots.{held, readable}
-use Rattle.plan_flow.specs.PlanTable.{falls_on, moving, row_at}
-use Rattle.plan_flow.specs.ReadyForPlans.{KeepsType, from_its_type, place_types}
 use Rattle.plan_flow.specs.Written.Blocks.{state_written}
 use Rattle.plan_flow.specs.Written.Routes.{Route}
-use Rattle.plan_flow.specs.Written.Templates.{nothing_of}
 use Rattle.plan_flow.specs.Written.WrittenPrograms.{WrittenMethod}
 use Rattle.same_runs.specs.Flats.{flat_item, flat_points, instr_scope}
 use Rattle.same_runs.specs.Laws.BothBegin.{counted}
-use Rattle.same_runs.specs.Laws.CaughtUp.{less}
-use Rattle.same_runs.specs.Laws.Moves.{same_kind}
-use Rattle.same_runs.specs.QuietMoves.{moved_by, pushed}
-use Rattle.same_runs.specs.Renamings.{SameValue, and_value, no_values}
 use Rattle.same_runs.specs.TypedFlats.{reading_of}
 use Rattle.virtual_state.specs.States.{State}
 use Rattle.virtual_state.specs.declared.slot.Slot.{Slot}
-use Rattle.virtual_state.specs.declared.slot.Slot.TheVariants.{Plain, Virt, Unusable}
-use Rattle.written_runs.specs.Inner.PlannedFrames.{KeptIn, scope_in}
+use Rattle.written_runs.specs.Inner.PlannedFrames.{scope_in}
 use Rattle.written_runs.specs.Inner.Setup.{Setup, first}
 use Rattle.written_runs.specs.Laws.Carried.Knowing.{CarriedLaws}
-use Rattle.written_runs.specs.Laws.Carried.MoveTurns.{moves_next}
-use Rattle.written_runs.specs.Laws.Carried.NullTests.{no_top}
-use Rattle.written_runs.specs.Laws.Carried.OperandFits.{nothing_plain, plain_read}
 use Rattle.written_runs.specs.Laws.Carried.Operands.{AreReal}
 use Rattle.written_runs.specs.Laws.Carried.Planned.{carried_here, known_here, knowing_here, own_start}
-use Rattle.written_runs.specs.Laws.Carried.PlannedEdges.{slots_long, unusable_is_top}
 use Rattle.written_runs.specs.Laws.Carried.Points.{IsNoJump}
-use Rattle.written_runs.specs.Laws.Carried.Rows.{PlainRow}
-use Rattle.written_runs.specs.Laws.Carried.Slots.{got_left}
 use Rattle.written_runs.specs.Laws.Carried.Turns.{not_stuck_here, turned_here}
 use Rattle.written_runs.specs.Laws.Carried.Waiting.{AtCarried}
-use Rattle.written_runs.specs.Laws.Carried.Works.{at_first, at_first_is, many_slots, own}
+use Rattle.written_runs.specs.Laws.Carried.Works.{at_first, at_first_is, own}
 use Rattle.written_runs.specs.Laws.Halfway.{Halfway}
 use Rattle.written_runs.specs.Laws.PlannedTurns.{AtPlanned, written_at}
 use Rattle.written_runs.specs.Laws.Settling.{SettleLaws}
-use Rattle.written_runs.specs.Laws.Simulation.{KeepsTurn}
-use Rattle.written_runs.specs.Laws.Templates.Stacks.{drop_at, get_in_take}
-use Rattle.written_runs.specs.VirtualObjects.{local_slots, stack_slots}
 use Rattle.written_runs.specs.WrittenRuns.{IsReadyMethod}
 use Rattle.member_link.specs.Scope.{Scope}
 

@@ -1,10 +1,9 @@
 -- A cast: its operand is plain, since nothing is written where it is virtual, and it gives what it takes.
-use Rattle.std.proofs.Common.{◌≡◌, ◌≤◌, ◌<◌, ◌+◌, ◌-◌, ◌++◌, ℕ, zero, suc, Bool, true, false, List, [], ◌∷◌, length, map, reverse, slice_get, take, Option, Some, None, IsTrue, refl, sym, ap, subst, ◌∙◌, arith}
+use Rattle.std.proofs.Common.{◌≡◌, ◌≤◌, ◌+◌, ◌-◌, ℕ, zero, suc, Bool, true, false, List, [], ◌∷◌, length, reverse, slice_get, take, Option, Some, None, IsTrue, refl, sym, ap, subst, ◌∙◌, arith}
 use Rattle.std.proofs.lemmas.Option.{none-some, same_Some}
 use Rattle.class_model.specs.Pool.{Constants}
 use Rattle.class_model.specs.PoolChecks.{class_at}
 use Rattle.class_model.specs.declared.frame.VType.{VType}
-use Rattle.class_model.specs.declared.instr.Instr.{Instr}
 use Rattle.class_model.specs.declared.instr.Instr.TheVariants.{Cast}
 use Rattle.class_tree.specs.Headers.{Name}
 use Rattle.flow_code.specs.ReadTypes.{is_site_object}
@@ -16,23 +15,22 @@ use Rattle.machine_values.specs.declared.value.Value.TheVariants.{Int, Long, Flo
 use Rattle.member_link.specs.Machine.Codes.{instr_op, naming}
 use Rattle.member_link.specs.Machine.Completions.{ends, gives, raises}
 use Rattle.member_link.specs.Machine.ObjectSteps.{check_cast_work}
-use Rattle.member_link.specs.Machine.Ops.{Op, check_cast}
+use Rattle.member_link.specs.Machine.Ops.{check_cast}
 use Rattle.member_link.specs.Machine.Programs.{Program}
 use Rattle.member_link.specs.Machine.Shapes.{is_instance}
 use Rattle.member_link.specs.Machine.Throwables.{class_cast}
 use Rattle.member_link.specs.Machine.Worlds.{Memory, stuck}
 use Rattle.member_link.specs.RowScope.{RowScope}
-use Rattle.plan_flow.specs.PlanRows.{PlanRow, Source, from_place}
+use Rattle.plan_flow.specs.PlanRows.{Source, from_place}
 use Rattle.plan_flow.specs.PlanScope.{PlanScope, pool_of}
 use Rattle.plan_flow.specs.PlanSlots.{held}
 use Rattle.plan_flow.specs.PlanTable.{cast_row, instr_row, operand}
 use Rattle.plan_flow.specs.ReadyForPlans.{KeepsType, from_its_type, place_types}
 use Rattle.plan_flow.specs.Written.Blocks.{state_written}
 use Rattle.plan_flow.specs.Written.Routes.{Route}
-use Rattle.plan_flow.specs.Written.Templates.{nothing_of}
 use Rattle.virtual_state.specs.States.{State}
 use Rattle.virtual_state.specs.declared.slot.Slot.{Slot}
-use Rattle.virtual_state.specs.declared.slot.Slot.TheVariants.{Plain, Virt}
+use Rattle.virtual_state.specs.declared.slot.Slot.TheVariants.{Plain}
 use Rattle.written_runs.specs.Laws.Carried.OperandFits.{guarded_row, nothing_plain, one_on_top, only_first, plain_read, throws_where_plain}
 use Rattle.written_runs.specs.Laws.Carried.Rows.{PlainRow, gives_of, real_operands}
 use Rattle.written_runs.specs.Laws.Carried.SimpleFits.{FitsHere, OpFits, falls_is, none_meant, works_to}

@@ -78,9 +78,13 @@ module _ (u : Setup) (w : WrittenMethod) where
       → start_of w.form (blocks_in u w) (begins_point to) ≡ first_item w.form (blocks_in u w) (length (blocks_left (scope_in u w) w.routes to))
   point_place to point route reached =
       let first = first_of (scope_in u w) w.routes to point route reached.is_point reached.is_route in
-      let there = block_finished w.flat (blocks_of (scope_in u w) w.routes) (length (blocks_left (scope_in u w) w.routes to)) (first_block (scope_in u w) to point route route.made) first.is_there in
-      let zeroth : 0 + first_item w.form (blocks_in u w) (length (blocks_left (scope_in u w) w.routes to)) ≡ first_item w.form (blocks_in u w) (length (blocks_left (scope_in u w) w.routes to)) = omega arith in
-      starts_at w.form (begins_point to) (blocks_in u w) 0 (length (blocks_left (scope_in u w) w.routes to)) _ there (first_begins (scope_in u w) to point route route.made)
+      let there =
+      block_finished w.flat (blocks_of (scope_in u w) w.routes) (length (blocks_left (scope_in u w) w.routes to)) (first_block
+      (scope_in u w) to point route route.made) first.is_there in
+      let zeroth : 0 + first_item w.form (blocks_in u w) (length (blocks_left (scope_in u w) w.routes to))
+      ≡ first_item w.form (blocks_in u w) (length (blocks_left (scope_in u w) w.routes to)) = omega arith in
+      starts_at w.form (begins_point to) (blocks_in u w) 0 (length (blocks_left (scope_in u w) w.routes to)) _ there (first_begins
+      (scope_in u w) to point route route.made)
       (none_finished w.flat (begins_point to) (blocks_of (scope_in u w) w.routes) (length (blocks_left (scope_in u w) w.routes to)) first.none_before)
       ∙ zeroth
 

@@ -1,5 +1,5 @@
 -- Loads and stores of instance fields: their object is plain, since a template is written where it is virtual, and so is the value that is stored.
-use Rattle.std.proofs.Common.{◌≡◌, ◌≤◌, ◌<◌, ◌+◌, ◌-◌, ◌++◌, ℕ, zero, suc, true, List, [], ◌∷◌, length, map, slice_get, Option, Some, None, option_and_then, refl, sym, ap, subst, ◌∙◌, arith}
+use Rattle.std.proofs.Common.{◌≡◌, ◌+◌, ℕ, zero, suc, List, [], ◌∷◌, length, map, slice_get, Option, Some, None, option_and_then, refl, sym, ap, subst, ◌∙◌}
 use Rattle.std.proofs.lemmas.Option.{none-some, same_Some}
 use Rattle.class_model.specs.declared.frame.VType.{VType}
 use Rattle.class_model.specs.declared.instr.Instr.{Instr}
@@ -7,15 +7,13 @@ use Rattle.class_model.specs.declared.instr.Instr.TheVariants.{GetField, PutFiel
 use Rattle.flow_code.specs.declared.point.Point.{Point}
 use Rattle.machine_values.specs.declared.value.Value.{Value}
 use Rattle.member_link.specs.Machine.Codes.{initialises, instr_op}
-use Rattle.member_link.specs.Machine.Completions.{ends}
-use Rattle.member_link.specs.Machine.Ops.{Op, get_field, put_field}
+use Rattle.member_link.specs.Machine.Ops.{get_field, put_field}
 use Rattle.member_link.specs.Machine.Programs.{Links, Program}
-use Rattle.member_link.specs.Machine.Worlds.{Memory, stuck}
+use Rattle.member_link.specs.Machine.Worlds.{Memory}
 use Rattle.member_link.specs.References.{Reference}
 use Rattle.member_link.specs.RowScope.{RowScope}
 use Rattle.plan_flow.specs.Must.{by_position}
-use Rattle.plan_flow.specs.PlanRows.{Change, PlanRow, Position, Source, from_field, no_change, object_put_into}
-use Rattle.plan_flow.specs.PlanRows as rows
+use Rattle.plan_flow.specs.PlanRows.{PlanRow, Position, Source, from_field, object_put_into}
 use Rattle.plan_flow.specs.PlanScope.{PlanScope, field_of, member_of}
 use Rattle.plan_flow.specs.PlanSlots.{changed, field_of_slot, held, put_in, slots_from}
 use Rattle.plan_flow.specs.PlanTable.{get_field_row, instr_row, library_operands, operand, positions, put_field_row}

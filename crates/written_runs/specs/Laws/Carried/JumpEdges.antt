@@ -1,5 +1,5 @@
 -- A jump of a planned frame, by one edge: both frames arrive at the edge's target, less the operands of the jump.
-use Rattle.std.proofs.Common.{◌≡◌, ◌≤◌, ◌+◌, ◌-◌, ◌++◌, ℕ, suc, false, List, [], ◌∷◌, drop, length, map, reverse, slice_get, take, Option, Some, None, option_and_then, refl, sym, ap, subst, ◌∙◌, arith}
+use Rattle.std.proofs.Common.{◌≡◌, ◌≤◌, ◌+◌, ◌-◌, ℕ, suc, List, [], ◌∷◌, drop, length, reverse, take, Some, refl, sym, ap, subst, ◌∙◌, arith}
 use Rattle.std.proofs.lemmas.List.{append-nil, length-drop, length-map, length-reverse, length-take-le}
 use Rattle.std.proofs.lemmas.Option.{none-some}
 use Rattle.flow_code.specs.ReadTypes.{read_type}
@@ -7,30 +7,26 @@ use Rattle.flow_code.specs.declared.point.Point.{Point}
 use Rattle.machine_values.specs.Frames.{MethodState}
 use Rattle.machine_values.specs.declared.frame.RunFrame.{RunFrame}
 use Rattle.machine_values.specs.declared.frame.RunFrame.TheVariants.{Method}
-use Rattle.machine_values.specs.declared.value.Value.{Value}
 use Rattle.member_link.specs.Machine.Codes.{number_at, run_point}
-use Rattle.member_link.specs.Machine.Ops.{Op}
 use Rattle.member_link.specs.Machine.Programs.{Code, Point as RunPoint, Program, point_at}
 use Rattle.member_link.specs.Machine.Runs.{Run, turn}
 use Rattle.member_link.specs.Machine.Stepping.{op_step, with_top}
 use Rattle.member_link.specs.Machine.Worlds.{World, stuck}
 use Rattle.member_link.specs.Scope.{scope_at}
 use Rattle.plan_flow.specs.Laws.WrittenBlocks.{first_item}
-use Rattle.plan_flow.specs.Must.{row_of_point}
-use Rattle.plan_flow.specs.PlanRows.{RowEdge, Source}
+use Rattle.plan_flow.specs.PlanRows.{RowEdge}
 use Rattle.plan_flow.specs.PlanScope.{PlanScope}
 use Rattle.plan_flow.specs.Written.Blocks.{state_written}
 use Rattle.plan_flow.specs.Written.WrittenCode.{written_code}
 use Rattle.plan_flow.specs.Written.WrittenPrograms.{WrittenMethod}
-use Rattle.plan_flow.specs.declared.edge.EdgeKind.TheVariants as edges
 use Rattle.same_runs.specs.Flats.{flat_point, flat_points}
 use Rattle.same_runs.specs.Laws.BothBegin.{counted}
 use Rattle.same_runs.specs.Laws.Names.{names_themselves}
 use Rattle.same_runs.specs.QuietMoves.{moves}
-use Rattle.same_runs.specs.Renamings.{SameValues, no_values}
+use Rattle.same_runs.specs.Renamings.{no_values}
 use Rattle.virtual_state.specs.States.{State}
 use Rattle.written_runs.specs.Inner.PlannedFrames.{KeepStack, Known, blocks_in, scope_in}
-use Rattle.written_runs.specs.Inner.Setup.{Setup, first, second}
+use Rattle.written_runs.specs.Inner.Setup.{Setup, first}
 use Rattle.written_runs.specs.Laws.Carried.Behind.{MovesAlong}
 use Rattle.written_runs.specs.Laws.Carried.EdgeBlocks.{EdgeBlock}
 use Rattle.written_runs.specs.Laws.Carried.Knowing.{CarriedLaws}

@@ -1,8 +1,8 @@
 -- Conditional jumps that are written as they are: of ints, whose operands are no objects, and comparisons of references and with null, for which a
 -- template is written where an operand is virtual.
-use Rattle.std.proofs.Common.{◌≡◌, ◌≤◌, ◌<◌, ◌+◌, ◌-◌, ◌++◌, ◌==◌, ◌||◌, ℕ, ℤ, zero, suc, Bool, true, false, List, [], ◌∷◌, length, slice_get, Option, Some, None, if◌then◌else◌, refl, sym, ap, subst, ◌∙◌, arith}
+use Rattle.std.proofs.Common.{◌≡◌, ◌==◌, ◌||◌, ℕ, ℤ, Bool, true, false, List, [], ◌∷◌, length, slice_get, Some, None, refl, sym, ap, ◌∙◌}
 use Rattle.std.proofs.lemmas.Bool.{false≢true}
-use Rattle.std.proofs.lemmas.Option.{none-some, same_Some}
+use Rattle.std.proofs.lemmas.Option.{none-some}
 use Rattle.class_model.specs.declared.instr.Instr.{Instr}
 use Rattle.class_model.specs.declared.instr.Instr.TheVariants.{If, If2, IfNull, IfSame}
 use Rattle.class_model.specs.declared.opcodes.TheConstants.{IFNULL, IF_ACMPEQ}
@@ -16,20 +16,20 @@ use Rattle.member_link.specs.Machine.Runs.{Run}
 use Rattle.plan_flow.specs.Must.{row_of_point}
 use Rattle.plan_flow.specs.PlanRows.{PlanRow, where_may_be_same, where_may_differ, where_plain}
 use Rattle.plan_flow.specs.PlanScope.{PlanScope}
-use Rattle.plan_flow.specs.PlanSlots.{held, is_open, is_plain, may_be_same, may_differ}
-use Rattle.plan_flow.specs.PlanTable.{falls_on, moving, null_row, operand, row_at, same_row}
+use Rattle.plan_flow.specs.PlanSlots.{held, is_open, is_plain}
+use Rattle.plan_flow.specs.PlanTable.{falls_on, moving, operand, row_at}
 use Rattle.plan_flow.specs.Written.Blocks.{is_decided, state_written}
 use Rattle.plan_flow.specs.Written.Routes.{Route}
 use Rattle.plan_flow.specs.Written.Templates.{is_virtual, null_template, same_template}
 use Rattle.plan_flow.specs.Written.WrittenPrograms.{WrittenMethod}
 use Rattle.virtual_state.specs.States.{State}
 use Rattle.virtual_state.specs.declared.slot.Slot.{Slot}
-use Rattle.virtual_state.specs.declared.slot.Slot.TheVariants.{Plain, Virt, Unusable}
+use Rattle.virtual_state.specs.declared.slot.Slot.TheVariants.{Plain, Virt}
 use Rattle.written_runs.specs.Inner.PlannedFrames.{scope_in}
 use Rattle.written_runs.specs.Inner.Setup.{Setup}
 use Rattle.written_runs.specs.Laws.Carried.JumpEdges.{many_here}
 use Rattle.written_runs.specs.Laws.Carried.JumpFamilies.{int_jumps, ints_jumps, null_jumps, references_jumps}
-use Rattle.written_runs.specs.Laws.Carried.JumpTurns.{IsShape, jump_turn}
+use Rattle.written_runs.specs.Laws.Carried.JumpTurns.{jump_turn}
 use Rattle.written_runs.specs.Laws.Carried.Knowing.{CarriedLaws}
 use Rattle.written_runs.specs.Laws.Carried.OperandFits.{IsOfTwo, is_first, is_second, of_two, only_first, plain_read}
 use Rattle.written_runs.specs.Laws.Carried.Planned.{carried_here, known_here, knowing_here, met_there, own_start}

@@ -1,20 +1,20 @@
 -- What stands in the written code for a conditional jump on plain operands: the jump itself, or the opposite one over a goto.
-use Rattle.std.proofs.Common.{◌≡◌, ◌+◌, ◌++◌, ℕ, suc, false, List, [], ◌∷◌, drop, length, map, slice_get, Option, Some, None, option_and_then, option_map, refl, sym, ap, subst, ◌∙◌, arith}
+use Rattle.std.proofs.Common.{◌≡◌, ◌+◌, ◌++◌, ℕ, suc, false, List, [], ◌∷◌, drop, length, slice_get, Option, Some, None, option_and_then, refl, sym, ap, ◌∙◌}
 use Rattle.class_model.specs.declared.instr.Instr.{Instr}
 use Rattle.class_model.specs.declared.instr.Instr.TheVariants.{Goto}
 use Rattle.flow_code.specs.declared.point.Point.{Point}
 use Rattle.machine_values.specs.Frames.{MethodState}
 use Rattle.making_code.specs.Items.{WItem, ahead, carried, plain}
-use Rattle.member_link.specs.Machine.Programs.{Code, Point as RunPoint, point_at}
+use Rattle.member_link.specs.Machine.Programs.{Code}
 use Rattle.plan_flow.specs.Laws.WrittenBlocks.{block_finished, first_item, next_starts, own_number, own_of}
 use Rattle.plan_flow.specs.Written.Blocks.{Block, blocks_of, instruction_block, is_decided, leaves_to}
-use Rattle.plan_flow.specs.Written.Finish.{End, Finished, end_items, end_of, finish, is_empty, no_end}
+use Rattle.plan_flow.specs.Written.Finish.{End, Finished, end_items, finish, is_empty}
 use Rattle.plan_flow.specs.Written.Routes.{Route}
 use Rattle.making_code.specs.Opposites.{opposite_instr}
 use Rattle.plan_flow.specs.Written.WrittenCode.{Form, block_items, in_form, over_goto, short, wide, written_code, written_point}
 use Rattle.plan_flow.specs.Written.WrittenPrograms.{WrittenMethod}
 use Rattle.written_runs.specs.Inner.PlannedFrames.{IsCarried, IsReached, blocks_in, scope_in}
-use Rattle.written_runs.specs.Inner.Setup.{Setup, second}
+use Rattle.written_runs.specs.Inner.Setup.{Setup}
 use Rattle.written_runs.specs.Laws.Carried.Points.{carried_item}
 use Rattle.written_runs.specs.Laws.Carried.Standing.{AtOwn, item_there, own_finished}
 use Rattle.written_runs.specs.Laws.Settling.{ends_plain}

@@ -1,33 +1,29 @@
 -- Conditional jumps on plain operands: both frames jump, or both go on.
-use Rattle.std.proofs.Common.{◌≡◌, ◌≤◌, ◌<◌, ◌+◌, ◌-◌, ◌++◌, ◌&&◌, not, nat_le, ℕ, zero, suc, Bool, true, false, List, [], ◌∷◌, drop, length, map, slice_get, take, Option, Some, None, option_and_then, option_map, if◌then◌else◌, refl, sym, ap, subst, ◌∙◌, arith}
+use Rattle.std.proofs.Common.{◌≡◌, ◌≤◌, ◌<◌, ◌+◌, ◌-◌, ◌&&◌, not, nat_le, ℕ, suc, Bool, true, false, List, [], ◌∷◌, drop, length, map, slice_get, take, Option, Some, None, option_and_then, if◌then◌else◌, refl, sym, ap, ◌∙◌, arith}
 use Rattle.std.proofs.lemmas.Option.{none-some, same_Some}
 use Rattle.class_model.specs.Instructions.{targets}
 use Rattle.class_model.specs.declared.instr.Instr.{Instr}
-use Rattle.class_tree.specs.Headers.{Name}
 use Rattle.flow_code.specs.declared.point.FlatInstr.{FlatInstr}
 use Rattle.flow_code.specs.declared.point.FlatInstr.TheVariants.{Of}
 use Rattle.flow_code.specs.declared.point.Point.{Point}
 use Rattle.machine_values.specs.Frames.{MethodState}
 use Rattle.machine_values.specs.declared.frame.RunFrame.{RunFrame}
 use Rattle.machine_values.specs.declared.value.Value.{Value}
-use Rattle.making_code.specs.Items.{WItem, WTarget, carried, plain, to_jump_pad, to_point}
-use Rattle.member_link.specs.Bodies.{falls_through}
+use Rattle.making_code.specs.Items.{WItem, WTarget, carried, to_jump_pad, to_point}
 use Rattle.member_link.specs.Machine.Codes.{if_between, instr_op, item_op}
 use Rattle.member_link.specs.Machine.Locals.{Jump, with_rest}
-use Rattle.member_link.specs.Machine.Ops.{Op, jump_to, meaningless}
-use Rattle.member_link.specs.Machine.Programs.{Code, Links, Point as RunPoint, Program}
+use Rattle.member_link.specs.Machine.Ops.{Op, meaningless}
+use Rattle.member_link.specs.Machine.Programs.{Links, Point as RunPoint, Program}
 use Rattle.member_link.specs.Machine.Runs.{Run}
 use Rattle.member_link.specs.Machine.Stepping.{ends_stuck, jump_step, op_step, with_top}
-use Rattle.member_link.specs.Machine.Worlds.{World, stuck}
 use Rattle.member_link.specs.RowScope.{RowScope}
 use Rattle.plan_flow.specs.Laws.WrittenBlocks.{first_item, own_number}
 use Rattle.plan_flow.specs.Must.{row_of_point}
-use Rattle.plan_flow.specs.PlanRows.{PlanRow, RowEdge}
+use Rattle.plan_flow.specs.PlanRows.{PlanRow}
 use Rattle.plan_flow.specs.PlanScope.{PlanScope}
-use Rattle.plan_flow.specs.PlanSlots.{changed, edge_locals, edge_objects, edge_stack, held, is_open, slots_from}
+use Rattle.plan_flow.specs.PlanSlots.{held, is_open}
 use Rattle.plan_flow.specs.PlanTable.{operand, targets_at}
 use Rattle.plan_flow.specs.Written.Blocks.{is_decided, state_written}
-use Rattle.plan_flow.specs.Written.Routes.{RouteEdge}
 use Rattle.plan_flow.specs.Written.Templates.{jump_target, jump_targets, to_or_pad}
 use Rattle.making_code.specs.Opposites.{opposite, opposite_instr}
 use Rattle.plan_flow.specs.Written.WrittenCode.{Form, carried_scope, in_form, jumping_to, short, target_number, wide, written_op, written_point}
@@ -40,11 +36,10 @@ use Rattle.same_runs.specs.Renamings.{Names}
 use Rattle.same_runs.specs.SameMoves.{SameJumps, have_jump, no_jump}
 use Rattle.virtual_state.specs.States.{State}
 use Rattle.virtual_state.specs.declared.slot.Slot.TheVariants.{Virt}
-use Rattle.virtual_state.specs.declared.slot.VObject.{VObject}
 use Rattle.written_runs.specs.Inner.PlannedFrames.{Known, blocks_in, scope_in}
 use Rattle.written_runs.specs.Inner.Setup.{Setup, first}
 use Rattle.written_runs.specs.Laws.Carried.EdgeBlocks.{EdgeBlock, jump_block_at, next_block_at}
-use Rattle.written_runs.specs.Laws.Carried.JumpEdges.{also_at, code_here, have_here, all_slots, many_here, moves_edge, not_stuck_so, number_here, own_here, point_here, then_at}
+use Rattle.written_runs.specs.Laws.Carried.JumpEdges.{code_here, have_here, all_slots, many_here, moves_edge, not_stuck_so, number_here, own_here, point_here, then_at}
 use Rattle.written_runs.specs.Laws.Carried.JumpFamilies.{IsBetween, JumpFamily, decided, negated}
 use Rattle.written_runs.specs.Laws.Carried.JumpPoints.{goto_item, its_item, jump_item_there, next_behind, one_item, over_item, two_items}
 use Rattle.written_runs.specs.Laws.Carried.Knowing.{CarriedLaws}
@@ -188,7 +183,8 @@ module _ (u : Setup) (laws : CarriedLaws u) (measure : ℕ) {one other : Run} {f
     stepped : op_step P (counted one) f rest (point_here u laws measure h c).op
         ≡ with_top (counted one) rest (record f { place = if taken then number_here u laws measure h c to else f.place + 1; stack = left })
     stepped =
-        ap (op_step P (counted one) f rest) (op_here ∙ ap (λ (b : Bool). if b then family.make opcode (number_here u laws measure h c to) else meaningless) between)
+        ap (op_step P (counted one) f rest) (op_here
+        ∙ ap (λ (b : Bool). if b then family.make opcode (number_here u laws measure h c to) else meaningless) between)
         ∙ family.steps P (counted one) f rest opcode (number_here u laws measure h c to)
         ∙ ap (jump_step (counted one) f rest (number_here u laws measure h c to)) decides
 
@@ -207,7 +203,8 @@ module _ (u : Setup) (laws : CarriedLaws u) (measure : ℕ) {one other : Run} {f
         ap (λ (found : Option RunPoint). option_and_then (moves (code_here u laws measure h c) 0) (moved_at g found))
         (item_at (its ∷ []) (one_item u c.w f.place c.point c.route c.of_instruction.reached c.carried undecided form) 0 g.place its refl (omega arith))
         ∙ ap (λ (o : Op). option_and_then (moves (code_here u laws measure h c) 0) (moved_by g o))
-        (ap (λ (all : List ℕ). written_op s (own_here u laws measure h c).host u.constructor all (carried c.carried.class c.carried.instr)) (target_is (0 + g.place))
+        (ap (λ (all : List ℕ). written_op s (own_here u laws measure h c).host u.constructor all (carried c.carried.class c.carried.instr)) (target_is
+        (0 + g.place))
         ∙ host_op c.carried.instr opcode to is (item_of (0 + g.place)))
         ∙ ap (option_and_then (moves (code_here u laws measure h c) 0)) (jump_moves opcode (item_of (0 + g.place)) taken between decides_also)
 
@@ -267,7 +264,11 @@ module _ (u : Setup) (laws : CarriedLaws u) (measure : ℕ) {one other : Run} {f
           ≡ with_top (counted one) rest (then_at u laws measure h c family.taken enough real to)
       steps =
           stepped
-          ∙ ap (λ (b : Bool). with_top (counted one) rest (record f { place = if b then number_here u laws measure h c to else f.place + 1; stack = left })) is_taken
+          ∙ ap (λ (b : Bool). with_top (counted one) rest (record f {
+            place =
+                if b then number_here u laws measure h c to else f.place + 1;
+            stack = left;
+          })) is_taken
           ∙ ap (λ (n : ℕ). with_top (counted one) rest (record f { place = n; stack = left }))
           (number_stays u.classes (own_here u laws measure h c).host c.w.flat to edge.target edge.is_target)
           ∙ ap (λ (stack : List Value). with_top (counted one) rest (record f { place = to; stack = stack })) so.1
@@ -281,7 +282,11 @@ module _ (u : Setup) (laws : CarriedLaws u) (measure : ℕ) {one other : Run} {f
           moves_edge u laws measure h c family.taken enough real edge leaves (item_of (0 + (g.place + 1))) (block (0 + (g.place + 1))).0
           (block (0 + (g.place + 1))).1 steps 1
           (first_moved form 1
-          ∙ ap (λ (b : Bool). moves (code_here u laws measure h c) 1 (record g { place = if not b then 0 + g.place + 2 else g.place + 1; stack = left_also })) is_taken
+          ∙ ap (λ (b : Bool). moves (code_here u laws measure h c) 1 (record g {
+            place =
+                if not b then 0 + g.place + 2 else g.place + 1;
+            stack = left_also;
+          })) is_taken
           ∙ goto_moved form)
 
     next_turn_on : taken ≡ false → KeepsTurn u measure one other
@@ -291,7 +296,12 @@ module _ (u : Setup) (laws : CarriedLaws u) (measure : ℕ) {one other : Run} {f
           next_there u settle c.w h.g.at c.is_written (laws.rows_fit h.g.at c.w c.is_written) c.of_instruction.reached row.falls
           (ap (λ (r : PlanRow). is_open before r.next) row.is_row ∙ row.opens)
 
-      leaves : LeavesLocals s f.place c.point before (record { by = edges.Next; to = f.place + 1; guard = (row_of_point s f.place c.point).next }) family.taken []
+      leaves : LeavesLocals s f.place c.point before (record {
+        by =
+            edges.Next;
+        to = f.place + 1;
+        guard = (row_of_point s f.place c.point).next;
+      }) family.taken []
       leaves = leaves_of row (let many = many_here u laws measure h c in let few = enough in omega (arith, many, few))
 
       block : (block : EdgeBlock u c.w (f.place + 1) edge.of_row.edge) × (next_start ≡ first_item c.w.form (blocks_in u c.w) block.number)
@@ -303,7 +313,11 @@ module _ (u : Setup) (laws : CarriedLaws u) (measure : ℕ) {one other : Run} {f
           ≡ with_top (counted one) rest (then_at u laws measure h c family.taken enough real (f.place + 1))
       steps =
           stepped
-          ∙ ap (λ (b : Bool). with_top (counted one) rest (record f { place = if b then number_here u laws measure h c to else f.place + 1; stack = left })) not_taken
+          ∙ ap (λ (b : Bool). with_top (counted one) rest (record f {
+            place =
+                if b then number_here u laws measure h c to else f.place + 1;
+            stack = left;
+          })) not_taken
           ∙ ap (λ (stack : List Value). with_top (counted one) rest (record f { place = f.place + 1; stack = stack })) so.1
 
       starts : (items : List WItem) → in_form c.w.form (its ∷ []) ≡ items → next_start ≡ g.place + length items
@@ -323,7 +337,11 @@ module _ (u : Setup) (laws : CarriedLaws u) (measure : ℕ) {one other : Run} {f
           (let begins = starts (over ∷ goto_item its ∷ []) (wide_items form) in
           let same : 0 + g.place + 2 ≡ next_start = omega (arith, begins) in same ∙ block.1) steps 0
           (first_moved form 0
-          ∙ ap (λ (b : Bool). moves (code_here u laws measure h c) 0 (record g { place = if not b then 0 + g.place + 2 else g.place + 1; stack = left_also })) not_taken)
+          ∙ ap (λ (b : Bool). moves (code_here u laws measure h c) 0 (record g {
+            place =
+                if not b then 0 + g.place + 2 else g.place + 1;
+            stack = left_also;
+          })) not_taken)
 
     decided_turn : KeepsTurn u measure one other
     decided_turn = by taken refl where
@@ -337,7 +355,8 @@ module _ (u : Setup) (laws : CarriedLaws u) (measure : ℕ) {one other : Run} {f
     by_jump : IsBetween family.low family.high opcode → (jump : Jump) → family.jump_of opcode f.stack ≡ jump → KeepsTurn u measure one other
     by_jump between None none =
         absurd (not_stuck_so u laws measure h c (ends_stuck (counted one))
-        (ap (op_step P (counted one) f rest) (op_here ∙ ap (λ (b : Bool). if b then family.make opcode (number_here u laws measure h c to) else meaningless) between)
+        (ap (op_step P (counted one) f rest) (op_here
+        ∙ ap (λ (b : Bool). if b then family.make opcode (number_here u laws measure h c to) else meaningless) between)
         ∙ family.steps P (counted one) f rest opcode (number_here u laws measure h c to)
         ∙ ap (jump_step (counted one) f rest (number_here u laws measure h c to)) none) refl)
     by_jump between (Some jump) some = decided_turn between jump.0 jump.1 some

@@ -1,9 +1,18 @@
 -- What other parts of the proof give of instructions that are written as they are.
-use Rattle.std.proofs.Common.{◌≡◌, ℕ, List, ◌∷◌, slice_get, Some}
-use Rattle.class_model.specs.declared.class_file.MethodAt.{MethodAt}
-use Rattle.class_model.specs.declared.instr.Instr.{Instr}
-use Rattle.flow_code.specs.ReadTypes.{read_frame}
+use Rattle.std.proofs.Common.{◌≡◌, ℕ, List, [], ◌∷◌, slice_get, Some, true, false}
+use Rattle.class_model.specs.Descriptors.{parameters_of}
+use Rattle.class_model.specs.declared.instr.Instr.TheVariants.{Invoke}
+use Rattle.class_model.specs.declared.opcodes.TheConstants.{INVOKESPECIAL}
+use Rattle.flow_code.specs.ReadTypes.{is_site_object}
 use Rattle.flow_code.specs.declared.point.FlatInstr.TheVariants.{Of}
+use Rattle.machine_values.specs.declared.value.Value.{Value}
+use Rattle.machine_values.specs.declared.value.Value.TheVariants.{Ref}
+use Rattle.member_link.specs.Machine.CallSteps.{is_object_init}
+use Rattle.member_link.specs.References.{Reference}
+use Rattle.member_link.specs.Rows.MemberRows.{receiver}
+use Rattle.plan_flow.specs.PlanScope.{member_of}
+use Rattle.class_model.specs.declared.class_file.MethodAt.{MethodAt}
+use Rattle.flow_code.specs.ReadTypes.{read_frame}
 use Rattle.flow_code.specs.declared.point.Point.{Point}
 use Rattle.machine_values.specs.Frames.{MethodState}
 use Rattle.machine_values.specs.declared.frame.RunFrame.{RunFrame}
@@ -46,6 +55,28 @@ pub record CarriedLaws (u : Setup) : Type 0 where
       → scope_at u.classes at ≡ Some host
       → IsReached w place point route
       → IsCarried u w place point route
-      → WorksOnOperands (item_op u.links (number_at (flat_points u.classes host w.flat)) (instr_scope u.classes host w.flat point.instr) (flat_item point.instr))
+      → WorksOnOperands (item_op u.links (number_at (flat_points u.classes host w.flat)) (instr_scope u.classes host w.flat point.instr)
+      (flat_item point.instr))
       → IsInBoth (first u) (second u)
       (item_op u.links (number_at (flat_points u.classes host w.flat)) (instr_scope u.classes host w.flat point.instr) (flat_item point.instr))
+  -- java/lang/Object's constructor is called by invokespecial, without arguments
+  pub object_inits : (at : MethodAt) (w : WrittenMethod) (place : ℕ) (point : Point) (class opcode index count : ℕ) (r : Reference)
+      → u.written at ≡ Some w
+      → slice_get w.flat.points place ≡ Some point
+      → point.instr ≡ Of class (Invoke opcode index count)
+      → member_of (scope_in u w) class index ≡ Some r
+      → is_object_init r ≡ true
+      → (opcode ≡ INVOKESPECIAL) × (parameters_of r.desc ≡ [])
+  -- of an object that is there: its type is uninitialised
+  pub init_refers : (world : World) (f : MethodState) (rest : List RunFrame) (w : WrittenMethod) (point : Point) (class opcode index count : ℕ)
+      (r : Reference) (value : Value)
+      → TypedWorld (first u) u.typings world
+      → world.frames ≡ Method f ∷ rest
+      → u.written f.at ≡ Some w
+      → slice_get w.flat.points f.place ≡ Some point
+      → point.instr ≡ Of class (Invoke opcode index count)
+      → member_of (scope_in u w) class index ≡ Some r
+      → is_object_init r ≡ true
+      → is_site_object w.flat (receiver point.typed r.desc) ≡ false
+      → slice_get f.stack 0 ≡ Some value
+      → (reference : ℕ) × (value ≡ Ref reference)

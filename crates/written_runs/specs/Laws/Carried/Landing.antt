@@ -1,12 +1,12 @@
 -- Frames that go together behind an edge on which the locals stay: on to the next point, and where something thrown lands in a handler.
-use Rattle.std.proofs.Common.{◌≡◌, ◌≤◌, ◌<◌, ◌+◌, ◌-◌, ◌++◌, ◌==◌, ℕ, zero, suc, Bool, true, false, List, [], ◌∷◌, drop, length, map, reverse, slice_get, take, Option, Some, None, option_map, refl, sym, ap, subst, ◌∙◌, arith}
+use Rattle.std.proofs.Common.{◌≡◌, ◌<◌, ◌+◌, ◌-◌, ◌++◌, ◌==◌, ℕ, zero, suc, Bool, true, false, List, [], ◌∷◌, length, map, reverse, slice_get, take, Option, Some, option_map, refl, sym, ap, subst, ◌∙◌, arith}
 use Rattle.std.proofs.lemmas.Bool.{eq-eqb, eqb-true, false≢true}
-use Rattle.std.proofs.lemmas.List.{length-append, length-take-le}
+use Rattle.std.proofs.lemmas.List.{length-append}
 use Rattle.std.proofs.lemmas.Option.{none-some, same_Some, slice_get_within}
 use Rattle.class_model.specs.Frames.{is_top}
 use Rattle.class_model.specs.declared.class_file.MethodAt.{MethodAt}
 use Rattle.class_model.specs.declared.frame.VType.{VType}
-use Rattle.class_tree.specs.Headers.{Classes, Name}
+use Rattle.class_tree.specs.Headers.{Classes}
 use Rattle.flow_code.specs.FlatCode.{FlatCode}
 use Rattle.flow_code.specs.declared.handlers.FlatHandler.{FlatHandler}
 use Rattle.flow_code.specs.declared.point.Point.{Point}
@@ -17,28 +17,26 @@ use Rattle.machine_values.specs.declared.value.Value.{Value}
 use Rattle.machine_values.specs.declared.value.Value.TheVariants.{Ref}
 use Rattle.making_code.specs.Items.{WCatch, to_handler_pad, to_point}
 use Rattle.member_link.specs.Machine.Codes.{CodePoint, number_at, renumbered}
-use Rattle.member_link.specs.Machine.Programs.{Catch, Point as RunPoint, number_of_first, point_at}
+use Rattle.member_link.specs.Machine.Programs.{Catch, number_of_first}
 use Rattle.member_link.specs.Machine.Replaced.{map_numbered}
 use Rattle.member_link.specs.Scope.{Scope, scope_at}
 use Rattle.plan_flow.specs.Laws.WrittenBlocks.{first_item}
 use Rattle.plan_flow.specs.Must.{row_of_point}
 use Rattle.plan_flow.specs.PlanRows.{Guard, RowEdge, Source, from_place, plain_value}
 use Rattle.plan_flow.specs.PlanScope.{PlanScope, local_types, stack_types}
-use Rattle.plan_flow.specs.PlanSlots.{edge_locals, edge_stack, is_open}
+use Rattle.plan_flow.specs.PlanSlots.{edge_locals, is_open}
 use Rattle.plan_flow.specs.PlanTable.{held_from}
 use Rattle.plan_flow.specs.ReadyForPlans.{KeepsType, place_types}
 use Rattle.plan_flow.specs.Written.Blocks.{state_written}
-use Rattle.plan_flow.specs.Written.Routes.{Route, RouteEdge, edge_by}
+use Rattle.plan_flow.specs.Written.Routes.{Route}
 use Rattle.plan_flow.specs.Written.Templates.{catches_at as written_catches, catches_from, to_or_pad}
 use Rattle.plan_flow.specs.Written.WrittenCode.{target_number, written_catch}
-use Rattle.plan_flow.specs.Written.WrittenPrograms.{WrittenMethod}
 use Rattle.plan_flow.specs.declared.edge.EdgeKind.TheVariants as edges
 use Rattle.same_runs.specs.Flats.{flat_catch, flat_point, flat_points}
 use Rattle.same_runs.specs.Laws.Names.{held_more}
-use Rattle.same_runs.specs.Renamings.{Names, NamesMore, SameHeld, SameValues, and_value, no_values, same_reference}
+use Rattle.same_runs.specs.Renamings.{Names, NamesMore, SameHeld, and_value, no_values, same_reference}
 use Rattle.same_runs.specs.SameFrames.{SameCatches, and_catch, catches_at, caught, no_catches}
 use Rattle.virtual_state.specs.States.{State}
-use Rattle.virtual_state.specs.declared.slot.Slot.{Slot}
 use Rattle.virtual_state.specs.declared.slot.Slot.TheVariants.{Unusable}
 use Rattle.same_runs.specs.Laws.MethodPoints.{catches_are}
 use Rattle.written_runs.specs.Inner.PlannedFrames.{InPlanned, IsReached, KeepStack, Known, blocks_in, scope_in}
@@ -46,11 +44,11 @@ use Rattle.written_runs.specs.Inner.Setup.{Setup, first, second}
 use Rattle.written_runs.specs.Inner.Standing.{Stands, is_awaited}
 use Rattle.written_runs.specs.Laws.Carried.Arriving.{arrives_planned, goes_planned}
 use Rattle.written_runs.specs.Laws.Carried.Behind.{LocalsOver, MovesAlong, MovesStack, kept_of, keeps_behind, moves_stack, tells_behind}
-use Rattle.written_runs.specs.Laws.Carried.EdgeBlocks.{EdgeBlock, handler_block_at, next_block_at}
+use Rattle.written_runs.specs.Laws.Carried.EdgeBlocks.{EdgeBlock, handler_block_at}
 use Rattle.written_runs.specs.Laws.Carried.Knowing.{CarriedLaws}
-use Rattle.written_runs.specs.Laws.Carried.PlannedEdges.{EdgeThere, handler_there, next_there, slots_long, unusable_is_top}
+use Rattle.written_runs.specs.Laws.Carried.PlannedEdges.{EdgeThere, handler_there, slots_long, unusable_is_top}
 use Rattle.written_runs.specs.Laws.Carried.LocalsStay.{locals_stay}
-use Rattle.written_runs.specs.Laws.Carried.Points.{IsNoJump, first_point_is, next_place, second_point_is}
+use Rattle.written_runs.specs.Laws.Carried.Points.{IsNoJump, first_point_is, second_point_is}
 use Rattle.written_runs.specs.Laws.Carried.Slots.{LeadsAlong, LeavesLocals, LeavesStack, got_left, leaves_stack}
 use Rattle.written_runs.specs.Laws.Carried.Standing.{AtOwn, at_own}
 use Rattle.written_runs.specs.Laws.Carried.Waiting.{AtCarried, AtInstruction, instruction_of}
@@ -204,7 +202,8 @@ module _ (u : Setup) (laws : CarriedLaws u) {virtuals : Virtuals} {known : Known
       → KeepStack more (take (entry_count - taken) (stack_slots c.point before)) (take (entry_count - taken) (reverse f.stack)) moves.lower
       → GoesFewer u virtuals known more (Method then ∷ rest) (Method also ∷ rest_also)
   goes_along edge taken given leaves then also moves at held at_also held_also place block place_also grows lower =
-      goes_planned u virtuals known edge.of_row.edge.state (planned_along edge taken given leaves then also moves at held at_also held_also place block place_also grows lower) at
+      goes_planned u virtuals known edge.of_row.edge.state
+      (planned_along edge taken given leaves then also moves at held at_also held_also place block place_also grows lower) at
       grows owned (subst (λ (m : MethodAt). Stands u virtuals known (is_awaited u m) names rest rest_also) (sym at_also) below)
 
   -- a unit that is usable behind was usable before
@@ -354,7 +353,8 @@ pub carried_catches : (u : Setup) (laws : CarriedLaws u) {virtuals : Virtuals} {
     → ThrowsThere (scope_in u c.w) f.place c.point c.route
     → IsNoJump c.carried.instr
     → SameCatches (GoesFewer u virtuals known) names f g rest rest_also (catches_at (first u) f) (catches_at (second u) g)
-carried_catches u laws {virtuals = virtuals} {known = known} {names = names} {f = f} {g = g} {rest = rest} {rest_also = rest_also} c owned below throws no_jump =
+carried_catches u laws {virtuals =
+    virtuals} {known = known} {names = names} {f = f} {g = g} {rest = rest} {rest_also = rest_also} c owned below throws no_jump =
     subst (λ (ones : List Catch). SameCatches (GoesFewer u virtuals known) names f g rest rest_also ones (catches_at (second u) g))
     (sym (first_catches u laws (instruction_of c) owned below throws (0 + g.place)))
     (subst (SameCatches (GoesFewer u virtuals known) names f g rest rest_also _)

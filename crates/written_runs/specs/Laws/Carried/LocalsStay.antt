@@ -1,12 +1,9 @@
 -- What is known of the local units behind an edge on which they stay.
-use Rattle.std.proofs.Common.{◌≡◌, ◌≢◌, ◌⊎◌, ◌≤◌, ◌<◌, ◌+◌, ◌-◌, ◌++◌, ◌==◌, ◌&&◌, not, ℕ, zero, suc, Bool, true, false, List, [], ◌∷◌, drop, filter, length, map, reverse, slice_get, take, Option, Some, None, option_map, IsTrue, refl, sym, ap, subst, ◌∙◌, arith, inl, inr}
-use Rattle.std.proofs.lemmas.Bool.{cases_lt, eq-eqb, eqb-true, false≢true}
-use Rattle.std.proofs.lemmas.List.{length-append, length-map, length-reverse, length-take-le}
+use Rattle.std.proofs.Common.{◌≡◌, ◌≤◌, ◌<◌, ◌+◌, ℕ, false, List, [], length, slice_get, Option, Some, None, option_map, IsTrue, refl, sym, ap, subst, ◌∙◌, arith}
+use Rattle.std.proofs.lemmas.List.{length-map, length-take-le}
 use Rattle.std.proofs.lemmas.Option.{none-some, same_Some, slice_get-map, slice_get_within}
 use Rattle.class_model.specs.Frames.{is_top}
-use Rattle.class_model.specs.declared.descriptor.FieldType.{FieldType}
 use Rattle.class_model.specs.declared.frame.VType.{VType}
-use Rattle.flow_code.specs.FlatCode.{FlatCode}
 use Rattle.flow_code.specs.ReadTypes.{is_site_object}
 use Rattle.flow_code.specs.WrittenUnits.{written_units}
 use Rattle.flow_code.specs.declared.point.Point.{Point}
@@ -15,29 +12,18 @@ use Rattle.machine_values.specs.declared.value.Value.{Value}
 use Rattle.machine_values.specs.declared.value.Value.TheVariants.{Ref}
 use Rattle.making_code.specs.Units.{field_unit, unit_number}
 use Rattle.member_link.specs.Machine.Programs.{Program}
-use Rattle.plan_flow.specs.Effect.{IsStateBehind}
-use Rattle.plan_flow.specs.Must.{row_of_point}
-use Rattle.plan_flow.specs.PlanRows.{RowEdge, Source, from_new, from_place}
-use Rattle.plan_flow.specs.PlanScope.{PlanScope, local_types, stack_types}
-use Rattle.plan_flow.specs.PlanSlots.{edge_objects, edge_stack}
-use Rattle.plan_flow.specs.PlanTable.{held_from}
-use Rattle.plan_flow.specs.ReadyForPlans.{KeepsAlong, KeepsType, from_its_new, from_its_type, place_types}
+use Rattle.plan_flow.specs.PlanRows.{RowEdge, Source, from_place}
+use Rattle.plan_flow.specs.PlanScope.{PlanScope, local_types}
+use Rattle.plan_flow.specs.ReadyForPlans.{KeepsType, from_its_new, from_its_type, place_types}
 use Rattle.same_runs.specs.Laws.Names.{value_more}
-use Rattle.same_runs.specs.Renamings.{Names, NamesMore, SameValues, and_value}
-use Rattle.virtual_state.specs.Laws.Objects.{found_present, found_site, present_found}
-use Rattle.virtual_state.specs.States.{IsEdge, State, is_present, is_virtual, names as names_site, object_of}
+use Rattle.same_runs.specs.Renamings.{Names, NamesMore}
+use Rattle.virtual_state.specs.States.{State}
 use Rattle.virtual_state.specs.declared.slot.Slot.{Slot}
 use Rattle.virtual_state.specs.declared.slot.Slot.TheVariants.{Plain, Virt, Unusable}
-use Rattle.virtual_state.specs.declared.slot.VObject.{VObject}
-use Rattle.written_runs.specs.Inner.PlannedFrames.{KeepStack, Keeps, KeptIn}
+use Rattle.written_runs.specs.Inner.PlannedFrames.{Keeps, KeptIn}
 use Rattle.written_runs.specs.Laws.Carried.Slots.{LeadsAlong, LeavesLocals, got_left}
-use Rattle.written_runs.specs.Laws.FewerVirtuals.{AreFewer}
-use Rattle.written_runs.specs.Laws.KnownClasses.{slot_names}
-use Rattle.written_runs.specs.Laws.LessVirtual.{still_in, was_in}
-use Rattle.written_runs.specs.Laws.StandingMore.{SameBelow, SameOfFrame}
-use Rattle.written_runs.specs.Laws.Templates.Stacks.{as_read, held_at, held_length, keep_join, keep_read, read_virtual}
-use Rattle.written_runs.specs.VirtualObjects.{HasVirtual, RefersTo, TellFields, Tells, TellsField, TellsObject, Virtual, Virtuals, local_slots, stack_slots, tells_plain, tells_virtual}
-use Rattle.plan_flow.specs.PlanSlots.{edge_locals}
+use Rattle.written_runs.specs.Laws.Templates.Stacks.{as_read, held_at, read_virtual}
+use Rattle.written_runs.specs.VirtualObjects.{Tells, Virtuals, local_slots}
 use Rattle.written_runs.specs.Laws.Carried.Behind.{LocalsOver, MovesAlong}
 use Rattle.written_runs.specs.Laws.Carried.Slots.{edge_slots, held_edge}
 
@@ -58,7 +44,8 @@ module _ {P : Program} {s : PlanScope} {at : ℕ} {point target : Point} {before
       let mapped = length-map (local_slots point before) as_read in
       ap length (held_edge leaves leads) ∙ omega (arith, many, cut, mapped)
 
-  local_was : (unit site : ℕ) → slice_get (edge_slots s at point before row) unit ≡ Some (Virt site) → slice_get (local_slots point before) unit ≡ Some (Virt site)
+  local_was : (unit site : ℕ) → slice_get (edge_slots s at point before row) unit ≡ Some (Virt site) → slice_get (local_slots point before) unit
+      ≡ Some (Virt site)
   local_was unit site is =
       read_virtual (local_slots point before) unit site (ap (λ (slots : List Slot). slice_get slots unit) (sym (held_edge leaves leads)) ∙ is)
 

@@ -1,12 +1,11 @@
 -- Moves on plain operands, in a planned frame: both frames go on at the next point, the second by the same operation.
-use Rattle.std.proofs.Common.{◌≡◌, ◌≤◌, ◌+◌, ◌-◌, ◌++◌, ℕ, suc, false, List, [], ◌∷◌, drop, length, reverse, slice_get, take, Option, Some, None, IsTrue, option_and_then, refl, sym, ap, subst, ◌∙◌, arith}
+use Rattle.std.proofs.Common.{◌≡◌, ◌≤◌, ◌+◌, ◌-◌, ◌++◌, ℕ, suc, List, drop, length, reverse, slice_get, take, Option, Some, IsTrue, option_and_then, refl, sym, ap, subst, ◌∙◌, arith}
 use Rattle.std.proofs.lemmas.List.{length-reverse, length-take-le, reverse-append, reverse-reverse}
 use Rattle.class_model.specs.declared.frame.VType.{VType}
 use Rattle.flow_code.specs.ReadTypes.{is_site_object}
 use Rattle.flow_code.specs.declared.point.Point.{Point}
 use Rattle.machine_values.specs.Frames.{MethodState}
 use Rattle.machine_values.specs.declared.frame.RunFrame.{RunFrame}
-use Rattle.machine_values.specs.declared.frame.RunFrame.TheVariants.{Method}
 use Rattle.machine_values.specs.declared.value.Value.{Value}
 use Rattle.machine_values.specs.declared.value.Value.TheVariants.{Ref}
 use Rattle.member_link.specs.Machine.Performing.{resumed}
@@ -43,13 +42,12 @@ use Rattle.written_runs.specs.Laws.Carried.Points.{IsNoJump, next_place}
 use Rattle.written_runs.specs.Laws.Carried.Rows.{PlainRow, leaves_of}
 use Rattle.written_runs.specs.Laws.Carried.Slots.{LeavesLocals, lowest_left}
 use Rattle.written_runs.specs.Laws.Carried.Turns.{turned_here}
-use Rattle.written_runs.specs.Laws.Carried.Waiting.{AtCarried, AtInstruction, instruction_of}
+use Rattle.written_runs.specs.Laws.Carried.Waiting.{AtCarried, instruction_of}
 use Rattle.written_runs.specs.Laws.Carried.Works.{at_first, at_first_is, at_second, at_second_is, many_slots, many_stack, op, own, owned}
-use Rattle.written_runs.specs.Laws.FewerVirtuals.{AllOwned}
 use Rattle.written_runs.specs.Laws.Halfway.{Halfway}
 use Rattle.written_runs.specs.Laws.Settling.{SettleLaws}
 use Rattle.written_runs.specs.Laws.Simulation.{KeepsTurn}
-use Rattle.written_runs.specs.Laws.Turned.{BehindMoves, turns_by_moves}
+use Rattle.written_runs.specs.Laws.Turned.{turns_by_moves}
 use Rattle.written_runs.specs.VirtualObjects.{stack_slots}
 
 module _ (u : Setup) (laws : CarriedLaws u) (measure : ℕ) {one other : Run} {f : MethodState} {rest : List RunFrame} {w : WrittenMethod} {known : Known}

@@ -1,5 +1,5 @@
 -- A turn of the first run on its frame alone, beside which the second makes moves, jumps and pushes: the runs go together behind it.
-use Rattle.std.proofs.Common.{◌≡◌, ◌≤◌, ◌<◌, ◌+◌, ◌-◌, ℕ, false, List, [], ◌∷◌, length, slice_get, Some, refl, sym, ap, subst, ◌∙◌, arith}
+use Rattle.std.proofs.Common.{◌≡◌, ◌≤◌, ◌<◌, ◌-◌, ℕ, List, [], ◌∷◌, length, Some, refl, sym, subst, arith}
 use Rattle.std.proofs.lemmas.Bool.{false≢true}
 use Rattle.class_model.specs.declared.class_file.MethodAt.{MethodAt}
 use Rattle.flow_code.specs.declared.point.Point.{Point}
@@ -9,7 +9,6 @@ use Rattle.machine_values.specs.declared.frame.RunFrame.TheVariants.{Method}
 use Rattle.member_link.specs.Machine.Programs.{Code, Program, code_at}
 use Rattle.member_link.specs.Machine.Runs.{Run, turn}
 use Rattle.member_link.specs.Machine.Stepping.{with_top}
-use Rattle.member_link.specs.Machine.Worlds.{World}
 use Rattle.plan_flow.specs.Written.WrittenPrograms.{WrittenMethod}
 use Rattle.same_runs.specs.Laws.BothBegin.{counted}
 use Rattle.same_runs.specs.Laws.Compared.{seen_as}

@@ -1,15 +1,13 @@
 -- The test of a local for null: where it holds null both raise the exception, the second behind a load and a jump that is not taken; else both go on.
-use Rattle.std.proofs.Common.{◌≡◌, ◌⊎◌, ◌≤◌, ◌<◌, ◌+◌, ◌-◌, ◌*◌, ◌++◌, nat_le, ℕ, zero, suc, Bool, true, false, List, [], ◌∷◌, drop, length, map, reverse, slice_get, take, Option, Some, None, option_and_then, option_map, IsTrue, refl, sym, ap, subst, ◌∙◌, arith, inl, inr}
-use Rattle.std.proofs.lemmas.Bool.{cases_lt, false≢true, le-leb}
-use Rattle.std.proofs.lemmas.List.{append-nil, length-append, length-drop, length-map, length-reverse, length-take-le, take_all}
+use Rattle.std.proofs.Common.{◌≡◌, ◌<◌, ◌+◌, ◌-◌, ◌++◌, ℕ, suc, Bool, true, false, List, [], ◌∷◌, length, map, reverse, slice_get, take, Option, Some, None, option_and_then, option_map, refl, sym, ap, subst, ◌∙◌, arith}
+use Rattle.std.proofs.lemmas.Bool.{false≢true, le-leb}
+use Rattle.std.proofs.lemmas.List.{append-nil, length-drop, length-map, length-reverse, length-take-le, take_all}
 use Rattle.std.proofs.lemmas.Option.{none-some, same_Some, slice_get-map, slice_get_within}
 use Rattle.class_model.specs.Frames.{is_top}
 use Rattle.class_model.specs.declared.descriptor.Kind.TheVariants as kinds
 use Rattle.class_model.specs.declared.frame.VType.{VType}
 use Rattle.class_model.specs.declared.frame.VType.TheVariants as types
-use Rattle.class_model.specs.declared.instr.Imm.TheVariants as imms
-use Rattle.class_model.specs.declared.instr.Instr.TheVariants.{Const, IfNull, Throw}
-use Rattle.class_model.specs.declared.opcodes.TheConstants.{IFNONNULL}
+use Rattle.class_model.specs.declared.instr.Instr.TheVariants.{Throw}
 use Rattle.flow_code.specs.FlatCode.{FlatCode}
 use Rattle.flow_code.specs.ReadTypes.{read_frame, read_type}
 use Rattle.flow_code.specs.declared.point.FlatInstr.{FlatInstr}
@@ -17,38 +15,35 @@ use Rattle.flow_code.specs.declared.point.FlatInstr.TheVariants.{NullTest}
 use Rattle.flow_code.specs.declared.point.Point.{Point}
 use Rattle.machine_values.specs.Frames.{MethodState}
 use Rattle.machine_values.specs.Values.{has_kind}
-use Rattle.machine_values.specs.declared.frame.RunFrame.{RunFrame}
 use Rattle.machine_values.specs.declared.frame.RunFrame.TheVariants.{Method}
 use Rattle.machine_values.specs.declared.value.Value.{Value}
 use Rattle.machine_values.specs.declared.value.Value.TheVariants.{Int, Long, Float, Double, Null, Ref}
-use Rattle.making_code.specs.Items.{WItem, ahead, item, load, plain}
-use Rattle.making_code.specs.Units.{own}
+use Rattle.making_code.specs.Items.{WItem, item, plain}
 use Rattle.member_link.specs.BodyTyping.{RowHolds}
 use Rattle.member_link.specs.Bodies.{item_row}
 use Rattle.member_link.specs.Machine.Codes.{item_op, number_at, renumbered}
 use Rattle.member_link.specs.Machine.Locals.{local_value}
-use Rattle.member_link.specs.Machine.Ops.{jump_by_null, load_local, no_operation, push_value, test_local, throw_reference}
+use Rattle.member_link.specs.Machine.Ops.{test_local}
 use Rattle.member_link.specs.Machine.Performing.{raised}
-use Rattle.member_link.specs.Machine.Programs.{Code, Point as RunPoint, Program, code_at, point_at}
+use Rattle.member_link.specs.Machine.Programs.{Code, Point as RunPoint, Program, point_at}
 use Rattle.member_link.specs.Machine.Runs.{Run, turn}
-use Rattle.member_link.specs.Machine.Stepping.{ends_stuck, next_with, test_step, with_top}
+use Rattle.member_link.specs.Machine.Stepping.{next_with, test_step}
 use Rattle.member_link.specs.Machine.Throwables.{null_pointer}
-use Rattle.member_link.specs.Scope.{Scope, scope_at}
+use Rattle.member_link.specs.Scope.{scope_at}
 use Rattle.plan_flow.specs.Laws.WrittenBlocks.{block_finished, first_item, next_starts, own_number, own_of}
 use Rattle.plan_flow.specs.Must.{row_of_point}
-use Rattle.plan_flow.specs.PlanRows.{PlanRow, Source, in_each_state, where_plain}
+use Rattle.plan_flow.specs.PlanRows.{PlanRow, where_plain}
 use Rattle.plan_flow.specs.PlanScope.{PlanScope}
 use Rattle.plan_flow.specs.PlanSlots.{held, is_open, readable}
 use Rattle.plan_flow.specs.PlanTable.{falls_on, moving, row_at}
 use Rattle.plan_flow.specs.Written.Blocks.{blocks_of, instruction_block, state_written}
-use Rattle.plan_flow.specs.Written.Finish.{End, Finished, end_items, goto_end, no_end, nop_end}
+use Rattle.plan_flow.specs.Written.Finish.{End, Finished, end_items, no_end, nop_end}
 use Rattle.plan_flow.specs.Written.Routes.{Route}
 use Rattle.plan_flow.specs.Written.Templates.{catches_at as written_catches, items_at, null_test}
 use Rattle.plan_flow.specs.Written.WrittenCode.{block_items, written_code, written_point}
 use Rattle.plan_flow.specs.Written.WrittenPrograms.{WrittenMethod}
 use Rattle.plan_flow.specs.declared.edge.EdgeKind.TheVariants as edges
-use Rattle.same_runs.specs.Flats.{flat_item, flat_point, flat_points, instr_scope}
-use Rattle.same_runs.specs.TypedFlats.{read_row}
+use Rattle.same_runs.specs.Flats.{flat_item, flat_points, instr_scope}
 use Rattle.same_runs.specs.Laws.BothBegin.{counted}
 use Rattle.virtual_state.specs.States.{State}
 use Rattle.virtual_state.specs.declared.slot.Slot.{Slot}
@@ -164,7 +159,8 @@ items_virtual s at point state route local site is virtual = rw (is, virtual) re
 no_leaving : (point : Point) (route : Route) (local : ℕ) → point.instr ≡ NullTest local → leaves_to point route ≡ None
 no_leaving point route local is = rw (is) refl
 
-test_in_form : (form : Form) (at : ℕ) (point : Point) (route : Route) (local : ℕ) → in_form form (null_test at point route local ++ []) ≡ null_test at point route local
+test_in_form : (form : Form) (at : ℕ) (point : Point) (route : Route) (local : ℕ) → in_form form (null_test at point route local ++ [])
+    ≡ null_test at point route local
 test_in_form short at point route local = refl
 test_in_form wide at point route local = refl
 
@@ -374,7 +370,8 @@ module _ (u : Setup) (laws : CarriedLaws u) {measure : ℕ} {one other : Run} (a
   goes_on reference place found moved is_moved at_next =
       turns_by_moves u settle measure one other
       (moves_on u laws.turns measure h then (moved_to place) edge.of_row.edge.state
-      (planned_along u laws {known = a.t.along.known} c owned h.below edge 0 [] leaves then (moved_to place) (moves_there place) refl refl refl refl refl block.0
+      (planned_along u laws {known =
+      a.t.along.known} c owned h.below edge 0 [] leaves then (moved_to place) (moves_there place) refl refl refl refl refl block.0
       (at_next ∙ block.1) (names_themselves h.names) lower) refl refl
       (turned ∙ ap (λ (value : Option Value). record one { world = test_step P (counted one) f a.ones value }) found) code moved at_block.is_code is_moved
       (λ none. let within = slice_get_within w.flat.points f.place point reached.is_point in let weighs = a.low in omega (arith, within, weighs)))
@@ -400,7 +397,8 @@ module _ (u : Setup) (laws : CarriedLaws u) {measure : ℕ} {one other : Run} (a
         next_starts w.form (blocks_in u w) (own_number s w.routes f.place route) (own_finished u w f.place point route)
         (block_finished w.flat (blocks_of s w.routes) (own_number s w.routes f.place route) (instruction_block s f.place point route)
         (own_of s w.routes f.place point route reached.is_point reached.is_route))
-        ∙ ap (λ (one_end : End). own_start u w f.place route + length (in_form w.form ((instruction_block s f.place point route).items ++ end_items one_end))) ends
+        ∙ ap (λ (one_end : End). own_start u w f.place route + length (in_form w.form
+        ((instruction_block s f.place point route).items ++ end_items one_end))) ends
         ∙ ap (λ (all : List WItem). own_start u w f.place route + length (in_form w.form (all ++ end_items end))) no_items
         ∙ ap (λ (all : List WItem). own_start u w f.place route + length all) written
         ∙ ap (λ (n : ℕ). n + length items) (sym h.place_also)
@@ -562,10 +560,12 @@ module _ (u : Setup) (laws : CarriedLaws u) {measure : ℕ} {one other : Run} (a
       rest_owned = owned_below (top_owned u laws.turns measure h)
 
       unwinds : (more : Names) → NamesMore h.names more
-          → Unwinds P Q (GoesFewer u h.virtuals a.t.along.known) (GoesFewer u h.virtuals a.t.along.known) more (Method f ∷ a.ones) (Method thrower ∷ h.rest_also)
+          → Unwinds P Q (GoesFewer u h.virtuals a.t.along.known) (GoesFewer u h.virtuals a.t.along.known) more (Method f ∷ a.ones)
+          (Method thrower ∷ h.rest_also)
       unwinds more grows =
           in_both ends (held_more grows h.held)
-          (subst (λ (catches : List Catch). SameCatches (GoesFewer u h.virtuals a.t.along.known) more f thrower a.ones h.rest_also catches (catches_at Q thrower))
+          (subst (λ (catches : List Catch). SameCatches (GoesFewer u h.virtuals a.t.along.known) more f thrower a.ones h.rest_also catches
+          (catches_at Q thrower))
           (sym (first_catches u laws {known = a.t.along.known} (instruction_more grows c) owned (names_grown grows h.below) throws (0 + third)))
           (subst (SameCatches (GoesFewer u h.virtuals a.t.along.known) more f thrower a.ones h.rest_also _) (sym (catches_are Q thrower at_point throw_there))
           (catches_moved third h.g.stack
@@ -604,7 +604,8 @@ module _ (u : Setup) (laws : CarriedLaws u) {measure : ℕ} {one other : Run} (a
           not_stuck_here u laws.turns measure h (test_step P (counted one) f a.ones found)
           (turned ∙ ap (λ (value : Option Value). record one { world = test_step P (counted one) f a.ones value }) there) halts
 
-      null_of : (also : Value) → slice_get h.g.locals local ≡ Some (Some also) → SameValue h.names Null also → local_value kinds.Ref h.g.locals local ≡ Some Null
+      null_of : (also : Value) → slice_get h.g.locals local ≡ Some (Some also) → SameValue h.names Null also → local_value kinds.Ref h.g.locals local
+          ≡ Some Null
       null_of (Int number_also) is_also same = elim same [ ]
       null_of (Long number_also) is_also same = elim same [ ]
       null_of (Float bits) is_also same = elim same [ ]

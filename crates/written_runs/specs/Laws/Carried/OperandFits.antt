@@ -1,50 +1,43 @@
 -- Operations on objects, fields and arrays, whose row does not ask for each operand: their operands are plain all the same, since a template is
 -- written where one is virtual, or they are stuck on an object of the folder.
-use Rattle.std.proofs.Common.{◌≡◌, ◌≤◌, ◌<◌, ◌+◌, ◌-◌, ◌++◌, ◌==◌, ◌&&◌, ◌||◌, nat_le, ℕ, zero, suc, ℤ, Bool, true, false, List, [], ◌∷◌, length, map, reverse, slice_get, take, Option, Some, None, option_and_then, option_map, refl, sym, ap, subst, ◌∙◌, arith}
-use Rattle.std.proofs.lemmas.Option.{none-some, same_Some}
+use Rattle.std.proofs.Common.{◌≡◌, ◌≤◌, ◌<◌, ℕ, zero, suc, true, List, [], ◌∷◌, length, map, reverse, slice_get, take, Option, Some, None, refl, sym, ap, subst, ◌∙◌, arith}
+use Rattle.std.proofs.lemmas.Option.{none-some}
 use Rattle.class_model.specs.PoolChecks.{class_at}
 use Rattle.class_model.specs.Pool.{Constants}
-use Rattle.class_model.specs.declared.frame.VType.{VType}
 use Rattle.class_model.specs.declared.instr.Instr.{Instr}
-use Rattle.class_model.specs.declared.instr.Instr.TheVariants.{ArrayLoad, ArrayStore, Enter, GetField, InstanceOf, Leave, Length, NewArray, NewRefArray, PutField}
-use Rattle.class_model.specs.declared.opcodes.TheConstants.{IALOAD, IASTORE, SALOAD, SASTORE}
+use Rattle.class_model.specs.declared.instr.Instr.TheVariants.{Enter, InstanceOf, Leave, Length, NewArray, NewRefArray}
 use Rattle.class_tree.specs.Headers.{Name}
 use Rattle.flow_code.specs.declared.point.Point.{Point}
 use Rattle.machine_values.specs.Heaps.{object_at}
 use Rattle.machine_values.specs.declared.object.Object.{Object}
-use Rattle.machine_values.specs.declared.object.Shape.{Shape}
-use Rattle.machine_values.specs.declared.object.Shape.TheVariants.{Folder}
 use Rattle.machine_values.specs.declared.value.Value.{Value}
 use Rattle.machine_values.specs.declared.value.Value.TheVariants.{Int, Long, Float, Double, Null, Ref}
 use Rattle.member_link.specs.Machine.ArraySteps.{array_length_work, length_of, new_array_work}
-use Rattle.member_link.specs.Machine.Codes.{if_between, initialises, instr_op, naming, or_meaningless}
-use Rattle.member_link.specs.Machine.Completions.{Completion, ends}
+use Rattle.member_link.specs.Machine.Codes.{instr_op, naming}
+use Rattle.member_link.specs.Machine.Completions.{ends}
 use Rattle.member_link.specs.Machine.ObjectSteps.{instance_of_work}
-use Rattle.member_link.specs.Machine.Ops.{Op, array_length, enter_monitor, get_field, instance_of, leave_monitor, load_element, meaningless, new_array, put_field, store_element}
+use Rattle.member_link.specs.Machine.Ops.{Op, array_length, enter_monitor, instance_of, leave_monitor, new_array}
 use Rattle.member_link.specs.Machine.Programs.{Program}
 use Rattle.member_link.specs.Machine.Work.{arity, work}
 use Rattle.member_link.specs.Machine.Worlds.{Memory, stuck}
-use Rattle.member_link.specs.References.{Reference}
 use Rattle.member_link.specs.RowScope.{RowScope}
 use Rattle.member_link.specs.Rows.ArrayRows.{array_of, primitive_array}
-use Rattle.plan_flow.specs.Must.{IsMustOf, by_position, row_of_point}
 use Rattle.plan_flow.specs.PlanRows.{Change, Guard, PlanRow, Position, Source, from_field, in_each_state, no_change, object_put_into, plain_value, where_plain}
 use Rattle.plan_flow.specs.PlanRows as rows
-use Rattle.plan_flow.specs.PlanScope.{PlanScope, field_of, member_of, pool_of}
+use Rattle.plan_flow.specs.PlanScope.{PlanScope, pool_of}
 use Rattle.plan_flow.specs.PlanSlots.{changed, held, is_open, is_plain, readable, slots_from}
-use Rattle.plan_flow.specs.PlanTable.{falls_on, get_field_row, instr_row, library_operands, monitor_row, moving, operand, positions, put_field_row, row_at, throwing, value_stored}
-use Rattle.plan_flow.specs.ReadyForPlans.{KeepsType, place_types}
+use Rattle.plan_flow.specs.PlanTable.{falls_on, instr_row, monitor_row, moving, operand, throwing}
+use Rattle.plan_flow.specs.ReadyForPlans.{place_types}
 use Rattle.plan_flow.specs.Written.Blocks.{state_written}
 use Rattle.plan_flow.specs.Written.Routes.{Route}
-use Rattle.plan_flow.specs.Written.Templates.{get_template, instance_template, nothing_of, put_template}
+use Rattle.plan_flow.specs.Written.Templates.{instance_template, nothing_of}
 use Rattle.same_runs.specs.SameWorlds.{IsThrowing}
 use Rattle.virtual_state.specs.States.{State}
 use Rattle.virtual_state.specs.declared.slot.Slot.{Slot}
 use Rattle.virtual_state.specs.declared.slot.Slot.TheVariants.{Plain, Virt, Unusable}
 use Rattle.written_runs.specs.Laws.Carried.Landing.{ThrowsThere}
-use Rattle.written_runs.specs.Laws.Carried.Rows.{IsFolderObject, PlainRow, asked_plain, fits_plainly, none_plain, not_asked, throws_of}
-use Rattle.written_runs.specs.Laws.Carried.SimpleFits.{FitsHere, OpFits, asking_row, falls_is, fits_reference, moving_row, none_meant, row_is, throws_each, works_to}
-use Rattle.written_runs.specs.Laws.Carried.Slots.{got_right}
+use Rattle.written_runs.specs.Laws.Carried.Rows.{IsFolderObject, PlainRow, fits_plainly, none_plain}
+use Rattle.written_runs.specs.Laws.Carried.SimpleFits.{FitsHere, OpFits, falls_is, moving_row, none_meant, row_is, works_to}
 
 -- a place that holds no virtual object is read as a plain one
 pub plain_read : (slot : Option Slot) → ((site : ℕ) → readable slot ≡ Virt site → ⊥) → readable slot ≡ Plain

@@ -1,17 +1,17 @@
 -- Where a planned frame is on top and its instruction is next in both: what is known of the two runs there, and of the classes of virtual objects.
-use Rattle.std.proofs.Common.{◌≡◌, ◌+◌, ◌++◌, ℕ, false, List, [], ◌∷◌, length, map, slice_get, Option, Some, None, IsTrue, refl, sym, ap, subst, ◌∙◌, arith}
+use Rattle.std.proofs.Common.{◌≡◌, ◌++◌, ℕ, List, [], ◌∷◌, length, map, slice_get, Some, None, IsTrue, refl, sym, ap, subst, ◌∙◌, arith}
 use Rattle.std.proofs.lemmas.Option.{same_Some}
 use Rattle.class_model.specs.declared.instr.Instr.{Instr}
 use Rattle.flow_code.specs.declared.point.FlatInstr.TheVariants.{Of}
 use Rattle.flow_code.specs.declared.point.Point.{Point}
 use Rattle.machine_values.specs.Frames.{MethodState}
 use Rattle.machine_values.specs.declared.frame.RunFrame.{RunFrame}
-use Rattle.machine_values.specs.declared.frame.RunFrame.TheVariants.{Beginning, Method}
+use Rattle.machine_values.specs.declared.frame.RunFrame.TheVariants.{Beginning}
 use Rattle.member_link.specs.Machine.Runs.{Run}
 use Rattle.plan_flow.specs.Laws.RoutedPlans.{IsRouteOf, route_of}
 use Rattle.plan_flow.specs.Laws.WrittenBlocks.{first_block, first_item, own_number}
 use Rattle.plan_flow.specs.PlanScope.{PlanScope}
-use Rattle.plan_flow.specs.Plans.{IsMadeIn, IsValidAt}
+use Rattle.plan_flow.specs.Plans.{IsValidAt}
 use Rattle.plan_flow.specs.Written.Blocks.{Block, instruction_block, state_written}
 use Rattle.plan_flow.specs.Written.Routes.{IsRoute, Route}
 use Rattle.plan_flow.specs.Written.Templates.{as_it_is, items_at, template}
@@ -21,11 +21,11 @@ use Rattle.virtual_state.specs.Laws.Removals.{without_is_state, without_none}
 use Rattle.virtual_state.specs.Sites.{has}
 use Rattle.virtual_state.specs.States.{IsState, State, is_present}
 use Rattle.virtual_state.specs.Without.{IsClosed}
-use Rattle.written_runs.specs.Inner.PlannedFrames.{AtBlock, InPlanned, IsBlock, IsCarried, IsMet, IsReached, IsTold, Keeps, Known, Moment, arrives, blocks_in, of_first, of_handler, of_jump, of_next, of_own, scope_in, stays, waits}
+use Rattle.written_runs.specs.Inner.PlannedFrames.{IsBlock, IsCarried, IsMet, IsReached, IsTold, Keeps, Known, Moment, arrives, blocks_in, of_first, of_handler, of_jump, of_next, of_own, scope_in, stays, waits}
 use Rattle.written_runs.specs.Inner.Setup.{Setup, first}
 use Rattle.written_runs.specs.Inner.Standing.{apart, comparison}
 use Rattle.written_runs.specs.Inner.Together.{AreOwned}
-use Rattle.written_runs.specs.Laws.Carried.Standing.{AtOwn, at_own}
+use Rattle.written_runs.specs.Laws.Carried.Standing.{at_own}
 use Rattle.written_runs.specs.Laws.Carried.Waiting.{AtCarried, AtInstruction}
 use Rattle.written_runs.specs.Laws.Halfway.{Halfway}
 use Rattle.written_runs.specs.Laws.KnownClasses.{classes_in, halfway_knowing, knows, met_here}
@@ -232,7 +232,8 @@ module _ (u : Setup) (settle : SettleLaws u) {measure : ℕ} {one other : Run} (
 
   -- an instruction of which no template is written is written as it is
   abbrev pub is_carried : (class : ℕ) (instr : Instr) → point.instr ≡ Of class instr → written_at a class instr ≡ None → IsCarried u w a.f.place point route
-  is_carried class instr is none = record { class = class; instr = instr; is_instr = is; items = items_carried s a.f.place point (state_written route) route class instr is none }
+  is_carried class instr is none =
+      record { class = class; instr = instr; is_instr = is; items = items_carried s a.f.place point (state_written route) route class instr is none }
 
   abbrev pub carried_here : (class : ℕ) (instr : Instr) → point.instr ≡ Of class instr → written_at a class instr ≡ None
       → AtCarried u knowing_here.virtuals known_here knowing_here.names (length a.ones) a.f knowing_here.g

@@ -1,28 +1,31 @@
 -- What a valid plan gives at a reached point, along each edge that control may take from it.
-use Rattle.std.proofs.Common.{◌≡◌, ◌≤◌, ◌<◌, ◌+◌, ◌-◌, ◌++◌, ℕ, zero, suc, Bool, true, false, List, [], ◌∷◌, drop, length, map, slice_get, take, Option, Some, None, option_map, refl, sym, ap, subst, ◌∙◌, arith}
+use Rattle.std.proofs.Common.{◌≡◌, ◌<◌, ◌+◌, ℕ, zero, suc, Bool, true, false, List, [], ◌∷◌, length, map, slice_get, take, Option, Some, None, option_map, refl, sym, ap, subst, ◌∙◌, arith}
 use Rattle.std.specs.List.{AllByRecursion}
 use Rattle.std.specs.Option.{option_flatten}
 use Rattle.std.proofs.lemmas.List.{length-append, length-map}
-use Rattle.std.proofs.lemmas.Option.{none-some, same_Some, slice_get-map, slice_get_past, slice_get_within}
+use Rattle.std.proofs.lemmas.Option.{none-some, same_Some, slice_get-map, slice_get_within}
 use Rattle.class_model.specs.Frames.{is_top}
 use Rattle.class_model.specs.declared.class_file.MethodAt.{MethodAt}
+use Rattle.class_model.specs.declared.descriptor.Kind.{Kind}
 use Rattle.class_model.specs.declared.frame.VType.{VType}
+use Rattle.class_model.specs.declared.instr.Instr.TheVariants.{Store}
+use Rattle.flow_code.specs.declared.point.FlatInstr.TheVariants.{Of}
+use Rattle.machine_values.specs.Values.{blank_of_kind, is_wide_value}
 use Rattle.flow_code.specs.FlatCode.{point_at}
 use Rattle.flow_code.specs.declared.handlers.FlatHandler.{FlatHandler}
 use Rattle.flow_code.specs.declared.point.Point.{Point}
 use Rattle.plan_flow.specs.Effect.{IsEffectIn}
-use Rattle.plan_flow.specs.Laws.RoutedPlans.{EdgeLeads, HasOneEffect, IsRouteOf, leads_of, route_of}
+use Rattle.plan_flow.specs.Laws.RoutedPlans.{EdgeLeads, IsRouteOf, leads_of, route_of}
 use Rattle.plan_flow.specs.Must.{IsMustIn, IsMustOf, row_of_point}
 use Rattle.plan_flow.specs.PlanRows.{Guard, RowEdge, from_place}
 use Rattle.plan_flow.specs.PlanScope.{PlanScope, local_types, stack_types}
 use Rattle.plan_flow.specs.PlanSlots.{edge_locals, edge_stack, is_open}
 use Rattle.plan_flow.specs.PlanTable.{edges_of, falls_on, targets_at}
-use Rattle.plan_flow.specs.Plans.{IsStateAt, IsValidAt, planned, state_left, unusable_places}
+use Rattle.plan_flow.specs.Plans.{IsValidAt, planned, state_left, unusable_places}
 use Rattle.plan_flow.specs.ReadyForPlans.{KeepsAlong, place_types}
 use Rattle.plan_flow.specs.Written.Blocks.{state_written}
-use Rattle.plan_flow.specs.Written.Routes.{AreEdgeRoutes, IsRoute, Route, RouteEdge, edge_by, is_kind}
+use Rattle.plan_flow.specs.Written.Routes.{IsRoute, Route, is_kind}
 use Rattle.plan_flow.specs.Written.WrittenPrograms.{WrittenMethod}
-use Rattle.plan_flow.specs.declared.edge.EdgeKind.{EdgeKind}
 use Rattle.plan_flow.specs.declared.edge.EdgeKind.TheVariants as edges
 use Rattle.virtual_state.specs.Laws.Fields.{unusable_made}
 use Rattle.virtual_state.specs.Sites.{has}
@@ -54,6 +57,13 @@ pub record RowsFit (s : PlanScope) : Type 0 where
   pub along : (at : ℕ) (point : Point)
       → point_at s.flat at ≡ Some point
       → AllByRecursion (FitsAlong s at point) (edges_of at point (row_of_point s at point))
+  -- the second unit of a long or double is Top behind its store
+  pub second : (at : ℕ) (point : Point) (class : ℕ) (kind : Kind) (local : ℕ) (type : VType)
+      → point_at s.flat at ≡ Some point
+      → point.instr ≡ Of class (Store kind local)
+      → is_wide_value (blank_of_kind kind) ≡ true
+      → slice_get (local_types s.flat (at + 1)) (local + 1) ≡ Some type
+      → is_top type ≡ true
 
 -- ---- lists
 
@@ -150,7 +160,9 @@ module _ (u : Setup) (laws : SettleLaws u) (w : WrittenMethod) (host : MethodAt)
         ∙ slice_get-map is_top point.typed.locals unit
         ∙ ap (option_map is_top) is_type where
           low : unit < length (map is_top point.typed.locals)
-          low = let within = slice_get_within point.typed.locals unit type is_type in let long = length-map point.typed.locals is_top in omega (arith, within, long)
+          low =
+              let within =
+              slice_get_within point.typed.locals unit type is_type in let long = length-map point.typed.locals is_top in omega (arith, within, long)
 
   -- ---- edges
 

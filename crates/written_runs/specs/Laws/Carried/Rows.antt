@@ -1,7 +1,7 @@
 -- The rows of instructions that are written as they are: what they take and give, and that their operands are plain.
-use Rattle.std.proofs.Common.{◌≡◌, ◌≢◌, ◌⊎◌, ◌≤◌, ◌<◌, ◌+◌, ◌-◌, ◌++◌, ℕ, zero, suc, Bool, true, false, List, [], ◌∷◌, drop, length, map, reverse, slice_get, take, Option, Some, None, IsTrue, refl, sym, ap, subst, ◌∙◌, arith}
+use Rattle.std.proofs.Common.{◌≡◌, ◌≤◌, ◌<◌, ◌+◌, ◌-◌, ◌++◌, ℕ, zero, suc, true, List, [], ◌∷◌, drop, length, map, reverse, slice_get, Option, Some, None, IsTrue, refl, sym, ap, subst, ◌∙◌, arith}
 use Rattle.std.proofs.lemmas.Bool.{false≢true}
-use Rattle.std.proofs.lemmas.List.{length-drop, length-reverse, reverse-append}
+use Rattle.std.proofs.lemmas.List.{length-reverse, reverse-append}
 use Rattle.std.proofs.lemmas.Option.{none-some, same_Some, slice_get_within}
 use Rattle.class_model.specs.declared.frame.VType.{VType}
 use Rattle.flow_code.specs.ReadTypes.{is_site_object}
@@ -12,12 +12,11 @@ use Rattle.machine_values.specs.declared.object.Object.{Object}
 use Rattle.machine_values.specs.declared.object.Shape.TheVariants.{Folder}
 use Rattle.machine_values.specs.declared.value.Value.{Value}
 use Rattle.machine_values.specs.declared.value.Value.TheVariants.{Ref}
-use Rattle.member_link.specs.Machine.Completions.{Completion, gives}
+use Rattle.member_link.specs.Machine.Completions.{Completion}
 use Rattle.member_link.specs.Machine.Ops.{Op}
 use Rattle.member_link.specs.Machine.Work.{arity}
-use Rattle.member_link.specs.Machine.Worlds.{Memory}
 use Rattle.plan_flow.specs.Must.{IsAsked, IsMustOf, by_position, row_of_point}
-use Rattle.plan_flow.specs.PlanRows.{Guard, PlanRow, Position, Source, any_object, plain_value}
+use Rattle.plan_flow.specs.PlanRows.{Guard, PlanRow, Source, any_object, plain_value}
 use Rattle.plan_flow.specs.PlanScope.{PlanScope}
 use Rattle.plan_flow.specs.PlanSlots.{changed, edge_locals, edge_objects, edge_stack, held, is_open, readable, slots_from}
 use Rattle.plan_flow.specs.PlanTable.{falls_on, held_from, operand, positions}

@@ -1,8 +1,8 @@
 -- Operations without operands, and those for whose operands their row asks: what the row says of them.
-use Rattle.std.proofs.Common.{◌≡◌, ◌⊎◌, ◌≤◌, ◌<◌, ◌+◌, ◌-◌, ◌++◌, ◌==◌, ◌&&◌, ℕ, zero, suc, Bool, true, false, List, [], ◌∷◌, length, map, reverse, slice_get, take, Option, Some, None, IsTrue, option_map, if◌then◌else◌, refl, sym, ap, subst, ◌∙◌, arith, inl, inr}
+use Rattle.std.proofs.Common.{◌≡◌, ◌⊎◌, ◌≤◌, ◌<◌, ◌+◌, ◌-◌, ◌==◌, ℕ, zero, suc, Bool, true, false, List, [], ◌∷◌, length, map, reverse, slice_get, take, Option, Some, None, IsTrue, option_map, if◌then◌else◌, refl, sym, ap, subst, ◌∙◌, arith, inl, inr}
 use Rattle.std.proofs.lemmas.Bool.{cases_lt, eqb-true}
 use Rattle.std.proofs.lemmas.List.{append-nil}
-use Rattle.std.proofs.lemmas.Option.{none-some, same_Some}
+use Rattle.std.proofs.lemmas.Option.{none-some}
 use Rattle.class_model.specs.Descriptors.{parameters_of}
 use Rattle.class_model.specs.Pool.{Constants, constant_at}
 use Rattle.class_model.specs.PoolChecks.{class_at, descriptor_at, name_at, utf8_at}
@@ -17,7 +17,6 @@ use Rattle.class_model.specs.declared.pool.Const.{Const as PoolConst}
 use Rattle.class_model.specs.declared.pool.Const.TheVariants as consts
 use Rattle.class_tree.specs.Headers.{Name}
 use Rattle.flow_code.specs.ReadTypes.{is_site_object}
-use Rattle.flow_code.specs.declared.point.FlatInstr.{FlatInstr}
 use Rattle.flow_code.specs.declared.point.FlatInstr.TheVariants.{Of}
 use Rattle.flow_code.specs.declared.point.Point.{Point}
 use Rattle.machine_values.specs.declared.object.Constant.{Constant}
@@ -29,10 +28,10 @@ use Rattle.member_link.specs.Bodies.{falls_through}
 use Rattle.member_link.specs.Machine.CallSteps.{is_object_init}
 use Rattle.member_link.specs.Machine.Codes.{call_op, constant_op, dynamic_op, handle_of, initialises, instr_op, naming, or_meaningless, referring, special_start, value_of_imm}
 use Rattle.member_link.specs.Machine.Completions.{Completion, ends, gives, throws}
-use Rattle.member_link.specs.Machine.FieldSteps.{get_static_work, got_static, static_number}
+use Rattle.member_link.specs.Machine.FieldSteps.{get_static_work, static_number}
 use Rattle.member_link.specs.Machine.ObjectSteps.{new_object_work, throw_work}
-use Rattle.member_link.specs.Machine.Ops.{Op, call_dynamic, call_interface, call_special, call_static, call_virtual, get_static, meaningless, new_object, push_constant, push_value, put_static, throw_reference}
-use Rattle.member_link.specs.Machine.Programs.{Links, Program, field_of as field_in, folder_number, has_flag}
+use Rattle.member_link.specs.Machine.Ops.{Op, call_dynamic, call_interface, call_special, call_static, call_virtual, get_static, meaningless, new_object, push_constant, push_value, put_static}
+use Rattle.member_link.specs.Machine.Programs.{Program, field_of as field_in, folder_number, has_flag}
 use Rattle.class_model.specs.Members.{STATIC}
 use Rattle.class_tree.specs.Names.{throwable}
 use Rattle.member_link.specs.Machine.Shapes.{shape_conforms}
@@ -41,6 +40,7 @@ use Rattle.member_link.specs.Machine.Worlds.{Memory, is_begun, stuck}
 use Rattle.member_link.specs.References.{Reference}
 use Rattle.member_link.specs.RowScope.{RowScope}
 use Rattle.member_link.specs.Signatures.{reference_of, result_of}
+use Rattle.member_link.specs.Rows.MemberRows.{receiver}
 use Rattle.plan_flow.specs.Must.{IsMustOf, row_of_point}
 use Rattle.plan_flow.specs.PlanRows.{PlanRow, Position, Source, any_object, in_each_state, no_change, plain_value}
 use Rattle.plan_flow.specs.PlanScope.{PlanScope, member_of, pool_of, site_at}
@@ -106,6 +106,15 @@ asked_operands f (suc count) number low = by (cases_lt number count) (asked_oper
 
 -- ---- at an instruction
 
+-- what is known of a call of java/lang/Object's constructor
+pub record InitHere (s : PlanScope) (point : Point) (opcode : ℕ) (r : Reference) (stack : List Value) : Type 0 where
+  pub special : opcode ≡ INVOKESPECIAL
+  pub no_parameters : parameters_of r.desc ≡ []
+  pub refers : (value : Value)
+      → slice_get stack 0 ≡ Some value
+      → is_site_object s.flat (receiver point.typed r.desc) ≡ false
+      → (reference : ℕ) × (value ≡ Ref reference)
+
 -- what is known of a point whose instruction is written as it is
 pub record FitsHere (P : Program) (s : PlanScope) (at : ℕ) (point : Point) (route : Route) (class : ℕ) (instr : Instr) (scope : RowScope) (memory : Memory)
     (stack : List Value)
@@ -126,6 +135,12 @@ pub record FitsHere (P : Program) (s : PlanScope) (at : ℕ) (point : Point) (ro
       → slice_get stack number ≡ Some value
       → IsTrue (is_site_object s.flat type)
       → (reference : ℕ) × (value ≡ Ref reference)
+  -- java/lang/Object's constructor is called by invokespecial, without arguments, of an object that is there
+  pub inits : (opcode index count : ℕ) (r : Reference)
+      → instr ≡ Invoke opcode index count
+      → member_of s class index ≡ Some r
+      → is_object_init r ≡ true
+      → InitHere s point opcode r stack
 
 -- what an operation comes to there
 abbrev pub works_to : Program → Memory → List Value → Op → Completion
@@ -333,7 +348,8 @@ module _ (P : Program) (s : PlanScope) (at : ℕ) (point : Point) (route : Route
   pub fits_throw : FitsInstr Throw
   fits_throw here works enough not_stuck = record {
     real =
-        real_operands point (state_written route) 1 (length stack) here.many here.slots enough (λ place site low virtual. asks_each here 1 [] refl place site low virtual);
+        real_operands point (state_written route) 1 (length stack) here.many here.slots enough
+        (λ place site low virtual. asks_each here 1 [] refl place site low virtual);
     given = λ ones after is. absurd (throw_gives _ ones after is);
     throws = λ throwing. throws_each here 1 [] (handed_over point.typed 1) refl;
   } where

@@ -1,8 +1,8 @@
 -- The slots of a state behind an edge on which an instruction leaves the locals as they are, and takes plain operands off the stack and gives plain
 -- values.
-use Rattle.std.proofs.Common.{◌≡◌, ◌≤◌, ◌<◌, ◌+◌, ◌-◌, ◌++◌, ℕ, zero, suc, Bool, true, false, List, [], ◌∷◌, drop, length, map, reverse, slice_get, take, Option, Some, None, refl, sym, ap, subst, ◌∙◌, arith}
-use Rattle.std.proofs.lemmas.List.{append_assoc, drop_at, length-append, length-map, length-reverse, length-take-le, map-append, reverse-append, take_at}
-use Rattle.std.proofs.lemmas.Option.{none-some, same_Some, slice_get_within}
+use Rattle.std.proofs.Common.{◌≡◌, ◌≤◌, ◌<◌, ◌+◌, ◌-◌, ◌++◌, ℕ, zero, suc, Bool, true, false, List, [], ◌∷◌, drop, length, map, reverse, slice_get, take, Some, refl, sym, ap, ◌∙◌, arith}
+use Rattle.std.proofs.lemmas.List.{drop_at, length-append, length-map, length-reverse, length-take-le, map-append, reverse-append, take_at}
+use Rattle.std.proofs.lemmas.Option.{none-some, same_Some}
 use Rattle.class_model.specs.Frames.{is_top}
 use Rattle.class_model.specs.declared.frame.VType.{VType}
 use Rattle.flow_code.specs.declared.point.Point.{Point}

@@ -1,19 +1,17 @@
 -- What is known of the local units behind a store of a plain value into one of them.
-use Rattle.std.proofs.Common.{◌≡◌, ◌≢◌, ◌⊎◌, ◌≤◌, ◌<◌, ◌+◌, ◌-◌, ◌++◌, ℕ, zero, suc, Bool, true, false, List, [], ◌∷◌, length, map, slice_get, take, Option, Some, None, IsTrue, refl, sym, ap, subst, ◌∙◌, arith, inl, inr}
+use Rattle.std.proofs.Common.{◌≡◌, ◌≢◌, ◌⊎◌, ◌≤◌, ◌<◌, ◌+◌, ℕ, zero, suc, Bool, true, false, [], length, map, slice_get, Some, IsTrue, refl, sym, ap, subst, ◌∙◌, arith, inl, inr}
 use Rattle.std.proofs.lemmas.Bool.{false≢true}
-use Rattle.std.proofs.lemmas.Option.{none-some, same_Some}
-use Rattle.class_model.specs.Descriptors.{parameter_units}
+use Rattle.std.proofs.lemmas.Option.{same_Some}
 use Rattle.class_model.specs.Frames.{is_top}
 use Rattle.class_model.specs.declared.frame.VType.{VType}
 use Rattle.class_model.specs.declared.frame.VType.TheVariants as types
 use Rattle.flow_code.specs.ReadTypes.{is_site_object}
-use Rattle.flow_code.specs.WrittenUnits.{written_units}
 use Rattle.flow_code.specs.declared.point.Point.{Point}
 use Rattle.machine_values.specs.Frames.{MethodState}
 use Rattle.machine_values.specs.Values.{is_wide_value}
 use Rattle.machine_values.specs.declared.value.Value.{Value}
 use Rattle.machine_values.specs.declared.value.Value.TheVariants.{Ref}
-use Rattle.making_code.specs.Units.{field_unit, fields_at, first_field_unit, unit_number}
+use Rattle.making_code.specs.Units.{field_unit, unit_number}
 use Rattle.member_link.specs.Machine.Locals.{width_of}
 use Rattle.member_link.specs.Machine.Programs.{Program}
 use Rattle.plan_flow.specs.PlanRows.{RowEdge}

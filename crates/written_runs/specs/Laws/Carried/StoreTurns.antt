@@ -1,5 +1,5 @@
 -- A store of a plain value into a local unit, in a planned frame: both frames store it, and go on at the next point.
-use Rattle.std.proofs.Common.{◌≡◌, ◌≢◌, ◌≤◌, ◌<◌, ◌+◌, ◌-◌, ◌++◌, ℕ, suc, true, false, List, [], ◌∷◌, drop, length, map, reverse, slice_get, take, Option, Some, None, IsTrue, option_map, refl, sym, ap, subst, ◌∙◌, arith}
+use Rattle.std.proofs.Common.{◌≡◌, ◌≢◌, ◌≤◌, ◌<◌, ◌+◌, ◌-◌, ℕ, suc, true, false, List, [], drop, length, map, reverse, slice_get, take, Option, Some, IsTrue, option_map, refl, sym, ap, subst, ◌∙◌, arith}
 use Rattle.std.proofs.lemmas.Bool.{false≢true}
 use Rattle.std.proofs.lemmas.List.{append-nil, length-map, length-reverse, length-take-le}
 use Rattle.std.proofs.lemmas.Option.{none-some, same_Some, slice_get-map, slice_get_within}
@@ -11,11 +11,10 @@ use Rattle.machine_values.specs.Frames.{MethodState}
 use Rattle.machine_values.specs.Heaps.{Heap}
 use Rattle.machine_values.specs.Values.{is_wide_value}
 use Rattle.machine_values.specs.declared.frame.RunFrame.{RunFrame}
-use Rattle.machine_values.specs.declared.frame.RunFrame.TheVariants.{Method}
 use Rattle.machine_values.specs.declared.value.Value.{Value}
 use Rattle.machine_values.specs.declared.value.Value.TheVariants.{Ref}
-use Rattle.member_link.specs.Machine.Locals.{stored, width_of}
-use Rattle.member_link.specs.Machine.Programs.{Code, Program}
+use Rattle.member_link.specs.Machine.Locals.{stored}
+use Rattle.member_link.specs.Machine.Programs.{Program}
 use Rattle.member_link.specs.Machine.Runs.{Run}
 use Rattle.member_link.specs.Machine.Stepping.{next_with, op_step, with_top}
 use Rattle.member_link.specs.RowScope.{RowScope}
@@ -23,8 +22,8 @@ use Rattle.plan_flow.specs.Laws.WrittenBlocks.{first_item, own_number}
 use Rattle.plan_flow.specs.Must.{row_of_point}
 use Rattle.plan_flow.specs.PlanRows.{RowEdge, Source, from_place}
 use Rattle.plan_flow.specs.PlanScope.{PlanScope, local_types}
-use Rattle.plan_flow.specs.PlanSlots.{edge_locals, held, is_open, slot_from}
-use Rattle.plan_flow.specs.PlanTable.{falls_on, held_from, held_locals}
+use Rattle.plan_flow.specs.PlanSlots.{edge_locals, is_open, slot_from}
+use Rattle.plan_flow.specs.PlanTable.{falls_on, held_locals}
 use Rattle.plan_flow.specs.ReadyForPlans.{KeepsType, from_its_new, from_its_type, place_types}
 use Rattle.plan_flow.specs.Written.Blocks.{state_written}
 use Rattle.plan_flow.specs.Written.WrittenPrograms.{WrittenMethod}
@@ -32,7 +31,7 @@ use Rattle.plan_flow.specs.declared.edge.EdgeKind.TheVariants as edges
 use Rattle.same_runs.specs.Laws.BothBegin.{counted}
 use Rattle.same_runs.specs.Laws.Stored.{IsStored, stored_is}
 use Rattle.same_runs.specs.QuietMoves.{moved_by}
-use Rattle.same_runs.specs.Renamings.{Names, SameValue, no_values}
+use Rattle.same_runs.specs.Renamings.{SameValue, no_values}
 use Rattle.typed_runs.specs.Conforming.{UnitsConform, and_unit, no_units}
 use Rattle.virtual_state.specs.States.{State}
 use Rattle.virtual_state.specs.declared.slot.Slot.{Slot}
@@ -55,7 +54,7 @@ use Rattle.written_runs.specs.Laws.Carried.Works.{many_slots, many_stack, op, ow
 use Rattle.written_runs.specs.Laws.Halfway.{Halfway}
 use Rattle.written_runs.specs.Laws.Settling.{SettleLaws}
 use Rattle.written_runs.specs.Laws.Simulation.{KeepsTurn}
-use Rattle.written_runs.specs.Laws.Templates.Stacks.{as_read, held_at, held_length, held_slots}
+use Rattle.written_runs.specs.Laws.Templates.Stacks.{as_read, held_at, held_slots}
 use Rattle.written_runs.specs.Laws.Turned.{turns_by_moves}
 use Rattle.written_runs.specs.VirtualObjects.{local_slots, stack_slots}
 use Rattle.written_runs.specs.WrittenRuns.{IsReadyMethod}
@@ -96,7 +95,8 @@ module _ (u : Setup) (laws : CarriedLaws u) (measure : ℕ) {one other : Run} {f
       units_conform conforms.locals ∙ length-map c.point.typed.locals (read_type c.w.flat)
 
   pub many_flat : length c.point.typed.locals ≡ c.w.flat.locals
-  many_flat = all_at (λ (p : Point). length p.typed.locals ≡ c.w.flat.locals) c.w.flat.points f.place c.point ready.for_plans.widths c.of_instruction.reached.is_point
+  many_flat =
+      all_at (λ (p : Point). length p.typed.locals ≡ c.w.flat.locals) c.w.flat.points f.place c.point ready.for_plans.widths c.of_instruction.reached.is_point
 
   abbrev pub next_edge : falls_on c.point.instr ≡ true → is_open before (row_of_point s f.place c.point).next ≡ true
       → EdgeThere s f.place c.point c.route next_row
@@ -109,7 +109,8 @@ module _ (u : Setup) (laws : CarriedLaws u) (measure : ℕ) {one other : Run} {f
       (many_sources : length sources ≡ length c.point.typed.locals)
       (source_was : (unit : ℕ) → local ≢ unit → unit < length c.point.typed.locals → slice_get sources unit ≡ Some (from_place unit))
       (slot_here : (slot : Slot) → slice_get (edge_slots s f.place c.point before next_row) local ≡ Some slot → slot ≡ Plain)
-      (second : (type : VType) → is_wide_value value ≡ true → slice_get (next_edge falls opens).target.typed.locals (local + 1) ≡ Some type → is_top type ≡ true)
+      (second : (type : VType) → is_wide_value value ≡ true → slice_get (next_edge falls opens).target.typed.locals (local + 1) ≡ Some type → is_top type
+      ≡ true)
       (uninit_here : (type : VType) → slice_get (next_edge falls opens).target.typed.locals local ≡ Some type → IsTrue (is_site_object s.flat type)
       → (reference : ℕ) × (value ≡ Ref reference))
       (steps : op_step P (counted one) f rest (op u laws measure h c no_jump)

@@ -1,9 +1,8 @@
 -- Operations that are stuck on an object of the folder, so that their operands are plain: elements of arrays, and several arrays at once.
-use Rattle.std.proofs.Common.{◌≡◌, ◌≤◌, ◌<◌, ◌+◌, ◌-◌, ◌++◌, ◌&&◌, nat_le, ℕ, zero, suc, ℤ, pos, negsuc, Bool, true, false, List, [], ◌∷◌, length, map, reverse, slice_get, take, Option, Some, None, if◌then◌else◌, refl, sym, ap, subst, ◌∙◌, arith}
+use Rattle.std.proofs.Common.{◌≡◌, ◌≤◌, ◌<◌, ◌+◌, ◌-◌, ◌&&◌, nat_le, ℕ, zero, suc, ℤ, pos, negsuc, Bool, true, false, List, [], ◌∷◌, length, reverse, slice_get, take, Option, Some, None, if◌then◌else◌, refl, sym, ap, ◌∙◌, arith}
 use Rattle.std.proofs.lemmas.List.{length-reverse, length-take-le}
 use Rattle.std.proofs.lemmas.Option.{none-some, same_Some}
 use Rattle.class_model.specs.PoolChecks.{class_at}
-use Rattle.class_model.specs.declared.frame.VType.{VType}
 use Rattle.class_model.specs.declared.instr.Instr.{Instr}
 use Rattle.class_model.specs.declared.instr.Instr.TheVariants.{ArrayLoad, ArrayStore, NewMulti}
 use Rattle.class_model.specs.declared.opcodes.TheConstants.{IALOAD, IASTORE, SALOAD, SASTORE}
@@ -11,18 +10,18 @@ use Rattle.class_tree.specs.Headers.{Name}
 use Rattle.flow_code.specs.declared.point.Point.{Point}
 use Rattle.machine_values.specs.declared.value.Value.{Value}
 use Rattle.machine_values.specs.declared.value.Value.TheVariants.{Int, Long, Float, Double, Null, Ref}
-use Rattle.member_link.specs.Machine.ArraySteps.{Counts, all_counts, arrays_of_counts, counts_of, element_of, load_element_work, negative_count, no_counts, put_element, store_element_work, stores_value}
-use Rattle.member_link.specs.Machine.Codes.{if_between, instr_op, naming}
+use Rattle.member_link.specs.Machine.ArraySteps.{arrays_of_counts, counts_of, element_of, load_element_work, no_counts, put_element, store_element_work, stores_value}
+use Rattle.member_link.specs.Machine.Codes.{instr_op, naming}
 use Rattle.member_link.specs.Machine.Completions.{ends}
 use Rattle.member_link.specs.Machine.Ops.{Op, load_element, meaningless, new_arrays, store_element}
 use Rattle.member_link.specs.Machine.Programs.{Program}
 use Rattle.member_link.specs.Machine.Work.{arity, work}
 use Rattle.member_link.specs.Machine.Worlds.{Memory, stuck}
 use Rattle.member_link.specs.RowScope.{RowScope}
-use Rattle.plan_flow.specs.PlanRows.{PlanRow, Position, Source, any_object, plain_value}
+use Rattle.plan_flow.specs.PlanRows.{PlanRow, plain_value}
 use Rattle.plan_flow.specs.PlanScope.{PlanScope}
 use Rattle.plan_flow.specs.PlanSlots.{held}
-use Rattle.plan_flow.specs.PlanTable.{instr_row, operand, positions, throwing, value_stored}
+use Rattle.plan_flow.specs.PlanTable.{operand, positions, value_stored}
 use Rattle.plan_flow.specs.ReadyForPlans.{place_types}
 use Rattle.plan_flow.specs.Written.Blocks.{state_written}
 use Rattle.plan_flow.specs.Written.Routes.{Route}

@@ -1,7 +1,6 @@
 -- tableswitch and lookupswitch, which are always written as they are.
-use Rattle.std.proofs.Common.{◌≡◌, ◌+◌, ◌-◌, ◌++◌, ℕ, ℤ, suc, false, List, [], ◌∷◌, length, map, slice_get, Some, None, refl, sym, ap, subst, ◌∙◌, arith}
+use Rattle.std.proofs.Common.{◌≡◌, ℕ, ℤ, false, List, [], ◌∷◌, length, map, slice_get, Some, None, refl, sym, ap, ◌∙◌, arith}
 use Rattle.std.proofs.lemmas.List.{length-map}
-use Rattle.class_model.specs.Instructions.{targets}
 use Rattle.class_model.specs.declared.instr.Instr.{Instr}
 use Rattle.class_model.specs.declared.instr.Instr.TheVariants.{Lookup, Table}
 use Rattle.class_model.specs.declared.instr.Pair.{Pair}
@@ -13,7 +12,7 @@ use Rattle.machine_values.specs.declared.value.Value.TheVariants.{Int}
 use Rattle.member_link.specs.Machine.Codes.{instr_op, item_op}
 use Rattle.member_link.specs.Machine.Locals.{lookup_target, table_target}
 use Rattle.member_link.specs.Machine.Runs.{Run}
-use Rattle.member_link.specs.Machine.Stepping.{op_step, switch_step}
+use Rattle.member_link.specs.Machine.Stepping.{op_step}
 use Rattle.member_link.specs.RowScope.{RowScope}
 use Rattle.plan_flow.specs.PlanScope.{PlanScope}
 use Rattle.plan_flow.specs.PlanSlots.{held}
@@ -30,7 +29,7 @@ use Rattle.virtual_state.specs.States.{State}
 use Rattle.virtual_state.specs.declared.slot.Slot.TheVariants.{Virt}
 use Rattle.written_runs.specs.Inner.PlannedFrames.{scope_in}
 use Rattle.written_runs.specs.Inner.Setup.{Setup, first}
-use Rattle.written_runs.specs.Laws.Carried.JumpEdges.{many_here, number_here, own_here, point_here}
+use Rattle.written_runs.specs.Laws.Carried.JumpEdges.{many_here, number_here, own_here}
 use Rattle.written_runs.specs.Laws.Carried.Knowing.{CarriedLaws}
 use Rattle.written_runs.specs.Laws.Carried.Planned.{carried_here, known_here, knowing_here, met_there, own_start}
 use Rattle.written_runs.specs.Laws.Carried.Rows.{virtual_operand}

@@ -1,5 +1,5 @@
 -- A planned frame at an instruction that is written as it is: with its operands, and where it waits without them.
-use Rattle.std.proofs.Common.{◌≡◌, ◌≤◌, ◌-◌, ◌++◌, ℕ, List, [], ◌∷◌, drop, length, reverse, slice_get, take, Some, IsTrue, refl, sym, ap, subst, ◌∙◌}
+use Rattle.std.proofs.Common.{◌≡◌, ◌≤◌, ◌-◌, ℕ, List, [], drop, length, reverse, slice_get, Some, IsTrue, sym, ap, subst, ◌∙◌}
 use Rattle.std.proofs.lemmas.Bool.{false≢true}
 use Rattle.std.proofs.lemmas.Option.{same_Some}
 use Rattle.flow_code.specs.declared.point.Point.{Point}
@@ -12,7 +12,7 @@ use Rattle.same_runs.specs.Laws.CaughtUp.{less}
 use Rattle.same_runs.specs.Laws.Names.{held_more, value_more}
 use Rattle.same_runs.specs.Renamings.{Names, NamesMore, SameHeld}
 use Rattle.virtual_state.specs.States.{State, is_present}
-use Rattle.written_runs.specs.Inner.PlannedFrames.{AtBlock, InPlanned, IsCarried, IsInstructionOf, IsMet, KeepStack, Keeps, Known, KeptIn, Moment, arrives, scope_in, stays, waits}
+use Rattle.written_runs.specs.Inner.PlannedFrames.{AtBlock, InPlanned, IsCarried, IsInstructionOf, IsMet, Keeps, Known, KeptIn, Moment, arrives, scope_in, stays, waits}
 use Rattle.written_runs.specs.Inner.Setup.{Setup, first}
 use Rattle.written_runs.specs.Inner.Standing.{IsWaiting}
 use Rattle.written_runs.specs.Laws.Carried.Operands.{HaveOperands}

@@ -1,11 +1,9 @@
 -- A turn of both at an operation on plain operands, in a planned frame: what goes together behind each way in which it may end.
-use Rattle.std.proofs.Common.{◌≡◌, ◌≤◌, ◌+◌, ◌-◌, ◌++◌, nat_le, ℕ, suc, Bool, true, false, List, [], ◌∷◌, drop, length, map, reverse, slice_get, take, Option, Some, None, IsTrue, refl, sym, ap, subst, ◌∙◌, arith}
+use Rattle.std.proofs.Common.{◌≡◌, ◌≤◌, ◌+◌, ◌-◌, ◌++◌, nat_le, ℕ, suc, Bool, true, false, List, [], ◌∷◌, drop, length, reverse, slice_get, take, Some, None, IsTrue, refl, sym, ap, subst, ◌∙◌, arith}
 use Rattle.std.proofs.lemmas.Bool.{false≢true, le-leb, leb-true}
 use Rattle.std.proofs.lemmas.List.{length-drop, length-map, length-reverse, length-take-le, reverse-append, reverse-reverse}
-use Rattle.std.proofs.lemmas.Option.{none-some, same_Some}
-use Rattle.class_model.specs.declared.class_file.MethodAt.{MethodAt}
 use Rattle.class_model.specs.declared.frame.VType.{VType}
-use Rattle.flow_code.specs.ReadTypes.{is_site_object, read_frame, read_type}
+use Rattle.flow_code.specs.ReadTypes.{is_site_object, read_type}
 use Rattle.flow_code.specs.declared.point.Point.{Point}
 use Rattle.machine_values.specs.Frames.{MethodState}
 use Rattle.machine_values.specs.Heaps.{Heap}
@@ -15,12 +13,12 @@ use Rattle.machine_values.specs.declared.frame.RunFrame.TheVariants.{Beginning, 
 use Rattle.machine_values.specs.declared.value.Value.{Value}
 use Rattle.machine_values.specs.declared.value.Value.TheVariants.{Ref}
 use Rattle.member_link.specs.Machine.Beginnings.{frame_with}
-use Rattle.member_link.specs.Machine.Codes.{item_op, number_at, run_point}
+use Rattle.member_link.specs.Machine.Codes.{number_at, run_point}
 use Rattle.member_link.specs.Machine.Completions.{Completion, gives}
 use Rattle.member_link.specs.Machine.Ops.{Op}
 use Rattle.member_link.specs.Machine.Performing.{resumed}
 use Rattle.member_link.specs.Machine.Programs.{Point as RunPoint, Program, point_at}
-use Rattle.member_link.specs.Machine.Runs.{Run, turn}
+use Rattle.member_link.specs.Machine.Runs.{Run}
 use Rattle.member_link.specs.Machine.Stepping.{ends_stuck, op_step, work_step}
 use Rattle.member_link.specs.Machine.Work.{arity, work}
 use Rattle.member_link.specs.Machine.Worlds.{Memory, World}
@@ -28,7 +26,7 @@ use Rattle.member_link.specs.RowScope.{RowScope}
 use Rattle.member_link.specs.Scope.{scope_at}
 use Rattle.plan_flow.specs.Laws.WrittenBlocks.{first_item, own_number}
 use Rattle.plan_flow.specs.Must.{row_of_point}
-use Rattle.plan_flow.specs.PlanRows.{RowEdge, Source}
+use Rattle.plan_flow.specs.PlanRows.{Source}
 use Rattle.plan_flow.specs.PlanScope.{PlanScope}
 use Rattle.plan_flow.specs.PlanSlots.{is_open}
 use Rattle.plan_flow.specs.PlanTable.{falls_on}
@@ -38,7 +36,7 @@ use Rattle.plan_flow.specs.Written.Routes.{Route}
 use Rattle.plan_flow.specs.Written.WrittenCode.{written_point}
 use Rattle.plan_flow.specs.Written.WrittenPrograms.{WrittenMethod}
 use Rattle.plan_flow.specs.declared.edge.EdgeKind.TheVariants as edges
-use Rattle.same_runs.specs.Flats.{flat_item, flat_point, flat_points, instr_scope}
+use Rattle.same_runs.specs.Flats.{flat_point, flat_points}
 use Rattle.same_runs.specs.Laws.BothBegin.{counted}
 use Rattle.same_runs.specs.Laws.CaughtUp.{AtOperation, less, operands_of, operation_kept}
 use Rattle.same_runs.specs.Laws.Moves.{same_reversed}
@@ -47,15 +45,14 @@ use Rattle.same_runs.specs.Laws.Operations.{WorksOnOperands, step_works}
 use Rattle.same_runs.specs.Laws.Units.{same_arguments}
 use Rattle.same_runs.specs.Renamings.{Names, NamesMore, SameValues, none_held}
 use Rattle.same_runs.specs.SameFrames.{EndSame, Unwinds, in_both}
-use Rattle.same_runs.specs.SamePrograms.{SameOp, same_op}
+use Rattle.same_runs.specs.SamePrograms.{same_op}
 use Rattle.same_runs.specs.SameWorlds.{Goes, IsThrowing}
 use Rattle.typed_runs.specs.Conforming.{AllConform, and_value, no_values}
-use Rattle.typed_runs.specs.TypedFrames.{FramesConform, nothing_awaited}
 use Rattle.virtual_state.specs.States.{State}
 use Rattle.same_runs.specs.Laws.MethodPoints.{ends_there}
 use Rattle.written_runs.specs.Inner.PlannedFrames.{KeepStack, Known, blocks_in, scope_in}
 use Rattle.written_runs.specs.Inner.Setup.{Setup, first, second}
-use Rattle.written_runs.specs.Inner.Standing.{Stands, beginnings_stand, is_awaited, libraries_stand, planned_stand, stands}
+use Rattle.written_runs.specs.Inner.Standing.{Stands, beginnings_stand, libraries_stand, planned_stand, stands}
 use Rattle.written_runs.specs.Laws.Carried.Arriving.{owned_with}
 use Rattle.written_runs.specs.Laws.Carried.Behind.{MovesAlong}
 use Rattle.written_runs.specs.Laws.Carried.EdgeBlocks.{EdgeBlock, next_block_at}
@@ -75,7 +72,7 @@ use Rattle.written_runs.specs.Laws.OwnFrames.{FrameLaws, above_awaited, goes_bel
 use Rattle.written_runs.specs.Laws.Settling.{SettleLaws}
 use Rattle.written_runs.specs.Laws.Simulation.{KeepsTurn}
 use Rattle.written_runs.specs.Laws.StandingMore.{keeps_more}
-use Rattle.written_runs.specs.VirtualObjects.{Virtuals, stack_slots}
+use Rattle.written_runs.specs.VirtualObjects.{stack_slots}
 
 -- ---- what the row of an instruction says of its operation
 
@@ -205,8 +202,10 @@ module _ (u : Setup) (laws : CarriedLaws u) (measure : ℕ) {one other : Run} {f
         → SameValues more ones others
         → GoesFewer u h.virtuals known more (Method (resumed (less taken f) ones) ∷ rest) (Method (resumed (less taken h.g) others) ∷ h.rest_also)
     given more memory ones others is grows are =
-        goes_along u laws (instruction_of c) owned h.below edge taken so.given so.leaves (resumed (less taken f) ones) (resumed (less taken h.g) others) moves refl refl refl
-        refl refl block.0 (ap (λ (n : ℕ). n + 1) own.place ∙ sym (next_place u c.w f.place c.point c.route c.of_instruction.reached c.carried no_jump) ∙ block.1)
+        goes_along u laws (instruction_of c) owned h.below edge taken so.given so.leaves (resumed (less taken f) ones) (resumed
+        (less taken h.g) others) moves refl refl refl
+        refl refl block.0 (ap (λ (n : ℕ). n + 1) own.place ∙ sym (next_place u c.w f.place c.point c.route c.of_instruction.reached c.carried no_jump)
+        ∙ block.1)
         grows
         (subst (λ (n : ℕ). KeepStack more (take (n - taken) (stack_slots c.point before)) (take (n - taken) (reverse f.stack)) (reverse (drop taken h.g.stack)))
         many_stack (have grows).lower) where

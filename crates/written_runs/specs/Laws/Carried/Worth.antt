@@ -1,47 +1,20 @@
 -- Instructions by what they do: operations on operands, and jumps.
-use Rattle.std.proofs.Common.{◌≡◌, ◌≤◌, ◌<◌, ◌+◌, ◌-◌, ◌==◌, ◌&&◌, nat_le, ℕ, ℤ, Bool, true, false, List, [], ◌∷◌, length, map, reverse, slice_get, take, Option, Some, None, option_map, if◌then◌else◌, IsTrue, refl, sym, ap, subst, ◌∙◌, arith}
-use Rattle.std.proofs.lemmas.Bool.{leb-true}
-use Rattle.std.proofs.lemmas.Option.{none-some}
+use Rattle.std.proofs.Common.{◌≡◌, ◌==◌, ◌&&◌, nat_le, ℕ, Bool, true, false, List, Option, Some, None, option_map, if◌then◌else◌, refl}
 use Rattle.class_model.specs.Pool.{Constants, constant_at}
 use Rattle.class_model.specs.PoolChecks.{class_at, descriptor_at, name_at, utf8_at}
-use Rattle.class_model.specs.declared.descriptor.Kind.{Kind}
-use Rattle.class_model.specs.declared.frame.VType.{VType}
 use Rattle.class_model.specs.declared.instr.Instr.{Instr}
 use Rattle.class_model.specs.declared.instr.Instr.TheVariants.{Nop, Const, Ldc, Ldc2, Load, Store, Iinc, ArrayLoad, ArrayStore, Shuffle, Pure, Divide, FloatAsk, If, If2, IfSame, IfNull, Goto, Table, Lookup, Return, GetStatic, PutStatic, GetField, PutField, Invoke, Dynamic, New, NewArray, NewRefArray, NewMulti, Length, Throw, Cast, InstanceOf, Enter, Leave}
 use Rattle.class_model.specs.declared.opcodes.TheConstants.{IALOAD, IASTORE, INVOKEINTERFACE, INVOKESPECIAL, INVOKESTATIC, INVOKEVIRTUAL, SALOAD, SASTORE}
 use Rattle.class_model.specs.declared.pool.Const.{Const as PoolConst}
 use Rattle.class_model.specs.declared.pool.Const.TheVariants as consts
-use Rattle.flow_code.specs.ReadTypes.{is_site_object}
-use Rattle.flow_code.specs.declared.point.FlatInstr.{FlatInstr}
-use Rattle.flow_code.specs.declared.point.FlatInstr.TheVariants.{Of}
-use Rattle.flow_code.specs.declared.point.Point.{Point}
-use Rattle.machine_values.specs.Frames.{MethodState}
-use Rattle.machine_values.specs.declared.value.Value.{Value}
-use Rattle.machine_values.specs.declared.value.Value.TheVariants.{Ref}
-use Rattle.making_code.specs.Items.{WInstr}
-use Rattle.member_link.specs.Machine.Codes.{call_op, constant_op, dynamic_op, handle_of, if_between, instr_op, item_op, naming, number_at, or_meaningless, referring}
-use Rattle.member_link.specs.Machine.Completions.{ends}
+use Rattle.member_link.specs.Machine.Codes.{call_op, constant_op, dynamic_op, handle_of, instr_op, or_meaningless}
 use Rattle.member_link.specs.Machine.Ops.{Op, meaningless}
-use Rattle.member_link.specs.Machine.Programs.{Links, Program}
-use Rattle.member_link.specs.Machine.Runs.{Run}
-use Rattle.member_link.specs.Machine.Stepping.{ends_stuck, op_step}
-use Rattle.member_link.specs.Machine.Work.{arity, work}
-use Rattle.member_link.specs.Machine.Worlds.{Memory, World, stuck}
+use Rattle.member_link.specs.Machine.Programs.{Links}
 use Rattle.member_link.specs.References.{Reference}
 use Rattle.member_link.specs.RowScope.{RowScope}
 use Rattle.member_link.specs.Rows.ArrayRows.{array_of, primitive_array}
 use Rattle.member_link.specs.Signatures.{reference_of}
-use Rattle.plan_flow.specs.PlanScope.{PlanScope, member_of}
-use Rattle.plan_flow.specs.PlanTable.{operand}
-use Rattle.plan_flow.specs.PlanSlots.{held}
-use Rattle.plan_flow.specs.Written.Blocks.{state_written}
-use Rattle.plan_flow.specs.Written.Routes.{Route}
-use Rattle.plan_flow.specs.Written.WrittenPrograms.{WrittenMethod}
-use Rattle.same_runs.specs.Flats.{flat_item, flat_points, instr_scope}
-use Rattle.same_runs.specs.Laws.BothBegin.{counted}
-use Rattle.same_runs.specs.Laws.CaughtUp.{operands_of}
-use Rattle.same_runs.specs.Laws.Operations.{WorksOnOperands, step_works}
-use Rattle.member_link.specs.Machine.CallSteps.{is_object_init}
+use Rattle.same_runs.specs.Laws.Operations.{WorksOnOperands}
 use Rattle.written_runs.specs.Laws.Carried.Points.{IsNoJump}
 
 -- ---- instructions by what they do
@@ -93,7 +66,8 @@ worth_constant pool (Some (consts.InterfaceMethodref owner member)) = means_noth
 worth_constant pool (Some (consts.NameAndType name desc)) = means_nothing refl
 worth_constant pool (Some (consts.InvokeDynamic bootstrap member)) = means_nothing refl
 
-worth_call : (links : Links) (scope : RowScope) (opcode : ℕ) (found : Option Reference) → IsWorth (or_meaningless (option_map (call_op links scope opcode) found))
+worth_call : (links : Links) (scope : RowScope) (opcode : ℕ) (found : Option Reference)
+    → IsWorth (or_meaningless (option_map (call_op links scope opcode) found))
 worth_call links scope opcode None = means_nothing refl
 worth_call links scope opcode (Some r) =
     by (opcode == INVOKEVIRTUAL) refl (opcode == INVOKESPECIAL) refl (opcode == INVOKESTATIC) refl (opcode == INVOKEINTERFACE) refl where

@@ -36,6 +36,7 @@ use Rattle.virtual_state.specs.Without.{made_plain, without}
 use Rattle.virtual_state.specs.declared.slot.Slot.{Slot}
 use Rattle.virtual_state.specs.declared.slot.Slot.TheVariants.{Plain, Virt, Unusable}
 use Rattle.virtual_state.specs.declared.slot.VObject.{VObject}
+use Rattle.written_runs.specs.Laws.WrittenCodes.{written_code_at}
 use Rattle.written_runs.specs.Inner.MadeObjects.{BeforeMaking, BehindMaking, MakesObjects, StandAt, left_of}
 use Rattle.written_runs.specs.Inner.PlannedFrames.{KeepStack, KeptIn, scope_in}
 use Rattle.written_runs.specs.Inner.Setup.{Setup, first, second}
@@ -101,7 +102,7 @@ module _ {u : Setup} (laws : MakingLaws u) {virtuals : Virtuals} {names : Names}
     others = others;
     at = g.at;
     held = g.held;
-    code = laws.code g.at w ready.scope b.is_written ready.is_scope;
+    code = written_code_at u laws.is_setup g.at w ready.scope b.is_written ready.is_scope;
     goes = b.goes_also;
   }
 
