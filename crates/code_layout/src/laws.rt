@@ -2,17 +2,17 @@
 ghost use Rattle.std.specs.Prelude.{List};
 ghost use Rattle.code_layout.specs.EmittedCode.{HasCodeOf};
 ghost use Rattle.code_layout.specs.Emitting.{IsEmitted};
-ghost use Rattle.code_layout.specs.Layout.{IsLaid};
+ghost use Rattle.code_layout.specs.Layout.{IsLaid, Spelled};
 ghost use Rattle.code_layout.specs.declared.emitted.EmitItem.{EmitItem};
 ghost use Rattle.code_layout.specs.declared.laid.Laid.{Laid};
 
 use code_bytes::instructions_are_consecutive;
 
-/// A method that has the bytes and the exception table of a layout in the short form means what the items mean.
+/// A method that has the bytes and the exception table of a layout means what the items mean, however they are spelled.
 pub fn a_laid_code_means_its_items()
-    ensures { (items : List EmitItem) (laid : Laid)
+    ensures { (spelled : Spelled) (items : List EmitItem) (laid : Laid)
         → IsEmitted items
-        → IsLaid items laid
+        → IsLaid spelled items laid
         → HasCodeOf items laid }
 {
     instructions_are_consecutive();

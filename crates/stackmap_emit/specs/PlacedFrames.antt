@@ -5,9 +5,8 @@ use Rattle.class_model.specs.declared.frame.Frame.{Frame}
 use Rattle.class_model.specs.declared.frame.PlacedFrame.{PlacedFrame}
 use Rattle.class_model.specs.declared.frame.VType.{VType}
 use Rattle.class_model.specs.declared.frame.VType.TheVariants.{Uninit}
-use Rattle.code_layout.specs.Layout.{IsLaid, start_in}
+use Rattle.code_layout.specs.Layout.{IsLaid, Spelled, short_spelled, start_in, wide_spelled}
 use Rattle.code_layout.specs.PlainItems.{plain_items}
-use Rattle.code_layout.specs.WideForm.{IsWideLaid}
 use Rattle.code_layout.specs.declared.emitted.EmitItem.{EmitItem}
 use Rattle.code_layout.specs.declared.laid.Laid.{Laid}
 use Rattle.flow_code.specs.FlatCode.{FlatCode}
@@ -17,9 +16,12 @@ use Rattle.plan_flow.specs.Written.FramedCode.{IsFramed, body_of_items}
 use Rattle.plan_flow.specs.Written.WrittenCode.{Form, short, wide}
 
 -- items are laid out in a form
+abbrev pub spelled_in : Form → Spelled
+spelled_in short = short_spelled
+spelled_in wide = wide_spelled
+
 abbrev pub IsLaidIn : Form → List EmitItem → Laid → Type 0
-IsLaidIn short items laid = IsLaid items laid
-IsLaidIn wide items laid = IsWideLaid items laid
+IsLaidIn form items laid = IsLaid (spelled_in form) items laid
 
 -- ---- from numbers of items to offsets
 

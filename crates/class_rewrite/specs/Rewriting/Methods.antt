@@ -7,9 +7,8 @@ use Rattle.class_model.specs.declared.class_file.MethodAt.{MethodAt}
 use Rattle.class_model.specs.declared.frame.Frame.{Frame}
 use Rattle.class_rewrite.specs.Reasons.{IsNotExpanded}
 use Rattle.class_tree.specs.Headers.{Name, Classes}
-use Rattle.code_layout.specs.Layout.{end_from, start_in, table_len}
+use Rattle.code_layout.specs.Layout.{end_from, short_spelled, start_in, table_len}
 use Rattle.code_layout.specs.PlainItems.{plain_items}
-use Rattle.code_layout.specs.WideForm.{wide_end_from}
 use Rattle.code_layout.specs.declared.emitted.EmitItem.{EmitItem}
 use Rattle.code_layout.specs.declared.laid.Laid.{Laid}
 use Rattle.expanded_code.specs.ExpandAnswers.{AnswersExpanded}
@@ -29,7 +28,7 @@ use Rattle.plan_flow.specs.Written.WrittenCode.{Form, short, wide, written_items
 use Rattle.plan_flow.specs.Written.WrittenConstants.{code_pool, indexed_items}
 use Rattle.stackmap_emit.specs.FrameConstants.{frames_pool}
 use Rattle.stackmap_emit.specs.FramesAttribute.{IsFramesAttribute}
-use Rattle.stackmap_emit.specs.PlacedFrames.{IsLaidIn, placed_frames, stated_from}
+use Rattle.stackmap_emit.specs.PlacedFrames.{IsLaidIn, placed_frames, spelled_in, stated_from}
 use Rattle.plan_flow.specs.Written.WrittenPrograms.{WrittenMethod, finished_of, plan_scope}
 
 -- what becoming of methods goes by: the folder with its frames and links, and the descriptors of field constructors
@@ -64,15 +63,11 @@ AreItems r one form pool items =
 pub record IsChosen (r : Rewriting) (one : WrittenMethod) (pool : Constants) : Type 0 where
   pub items : List EmitItem
   pub are_items : AreItems r one short pool items
-  pub form : one.form ≡ (if nat_le (end_from 0 items) 32767 then short else wide)
-
-abbrev pub end_in : Form → List EmitItem → ℕ
-end_in short items = end_from 0 items
-end_in wide items = wide_end_from 0 items
+  pub form : one.form ≡ (if nat_le (end_from short_spelled 0 items) 32767 then short else wide)
 
 -- the chosen form has more than 65,535 bytes, or the exception table more than 65,535 entries
 abbrev pub IsTooLong : Form → List EmitItem → Type 0
-IsTooLong form items = (65535 < end_in form items) ⊎ (65535 < table_len items)
+IsTooLong form items = (65535 < end_from (spelled_in form) 0 items) ⊎ (65535 < table_len items)
 
 -- ---- the written code
 

@@ -1,15 +1,16 @@
 -- What make code does in the second run: it is quiet, and behind it the objects of the set are there in both runs.
-use Rattle.std.specs.Prelude.{◌≡◌, ◌≢◌, ◌==◌, ◌&&◌, ◌+◌, ◌<◌, ℕ, not, List, [], ◌∷◌, filter, length, map, reverse, slice_get, Option, Some, IsTrue, option_map}
+use Rattle.std.specs.Prelude.{◌≡◌, ◌≢◌, ◌==◌, ◌&&◌, ◌+◌, ◌<◌, ℕ, suc, not, List, [], ◌∷◌, filter, length, reverse, slice_get, Some, IsTrue, option_map}
 use Rattle.class_model.specs.declared.frame.VType.{VType}
 use Rattle.class_model.specs.declared.frame.VType.TheVariants.{Top}
 use Rattle.flow_code.specs.declared.point.Point.{Point}
+use Rattle.flow_code.specs.declared.point.Site.{Site}
 use Rattle.machine_values.specs.Frames.{MethodState}
-use Rattle.machine_values.specs.Values.{has_kind}
+use Rattle.machine_values.specs.Values.{has_kind, have_kinds, is_wide_value}
 use Rattle.machine_values.specs.declared.frame.RunFrame.{RunFrame}
 use Rattle.machine_values.specs.declared.frame.RunFrame.TheVariants.{Method}
 use Rattle.machine_values.specs.declared.object.Shape.TheVariants.{Folder}
 use Rattle.machine_values.specs.declared.value.Value.{Value}
-use Rattle.making_code.specs.Items.{WInstr, WItem, item}
+use Rattle.making_code.specs.Items.{WInstr, item}
 use Rattle.making_code.specs.MakeCode.{Entry, entries_at, kind_of_type, make_code, saved}
 use Rattle.making_code.specs.MakeOrder.{IsMakeOrder}
 use Rattle.member_link.specs.Machine.Runs.{Run}
@@ -23,10 +24,11 @@ use Rattle.same_runs.specs.Simulations.{Quietly}
 use Rattle.virtual_state.specs.Sites.{has}
 use Rattle.virtual_state.specs.States.{IsState, State}
 use Rattle.virtual_state.specs.Without.{without}
+use Rattle.virtual_state.specs.declared.slot.Slot.TheVariants.{Plain, Unusable}
 use Rattle.written_runs.specs.Inner.PlannedFrames.{Keeps}
 use Rattle.written_runs.specs.Inner.Setup.{Setup, first, second}
 use Rattle.written_runs.specs.Inner.Standing.{apart, comparison}
-use Rattle.written_runs.specs.VirtualObjects.{AreApart, Tells, Virtual, Virtuals}
+use Rattle.written_runs.specs.VirtualObjects.{AreApart, HasVirtual, Tells, Virtual, Virtuals, local_slots, stack_slots}
 
 -- these instructions stand among the written items of a method from a number on
 pub record StandAt (u : Setup) (one : WrittenMethod) (number : ℕ) (instrs : List WInstr) : Type 0 where
@@ -45,6 +47,23 @@ pub record CanBeSaved (one : WrittenMethod) (at : ℕ) (point : Point) (state : 
       × (type ≢ Top)
       × (slice_get (reverse f.stack) entry.place ≡ Some value)
       × IsTrue (has_kind (kind_of_type type) value)
+
+-- What typing tells of a frame at a point, by a state of the point, and of its virtual objects: the stack has an entry for each type and each slot,
+-- none of them unusable; a local unit behind a plain long or double is unusable; and values of objects are of the kinds of their fields.
+pub record CanBeKept (one : WrittenMethod) (virtuals : Virtuals) (frame : ℕ) (point : Point) (state : State) (f : MethodState)
+    : Type 0 where
+  pub entries : length f.stack ≡ length point.typed.stack
+  pub slots : length (stack_slots point state) ≡ length point.typed.stack
+  pub usable : (place : ℕ) → slice_get (stack_slots point state) place ≡ Some Unusable → ⊥
+  pub wide : (unit : ℕ) (value : Value)
+      → slice_get (local_slots point state) unit ≡ Some Plain
+      → slice_get f.locals unit ≡ Some (Some value)
+      → IsTrue (is_wide_value value)
+      → slice_get (local_slots point state) (suc unit) ≡ Some Unusable
+  pub kinds : (number : ℕ) (site : Site) (virtual : Virtual)
+      → slice_get one.flat.sites number ≡ Some site
+      → HasVirtual virtuals frame number virtual
+      → IsTrue (have_kinds site.fields virtual.object.values)
 
 -- the virtual objects that are left where those of some sites of a frame are made
 abbrev pub left_of : ℕ → List ℕ → Virtuals → Virtuals
@@ -69,6 +88,7 @@ pub record BeforeMaking (u : Setup) (virtuals : Virtuals) (names : Names) (frame
       → virtual.object.shape ≡ Folder class
       → IsTrue (is_begun memory class)
   pub savable : CanBeSaved one at point state made f
+  pub kept : CanBeKept one virtuals frame point state f
   pub tells : Tells (first u) (plan_scope u.classes u.links one) virtuals frame point state f
   pub keeps : Keeps one.flat names virtuals frame [] point state f g
   pub memories : SameMemories (first u) (comparison u virtuals []).allocated (comparison u virtuals []).entered (apart virtuals)

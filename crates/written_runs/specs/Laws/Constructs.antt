@@ -25,7 +25,7 @@ use Rattle.machine_values.specs.declared.value.Value.{Value}
 use Rattle.machine_values.specs.declared.value.Value.TheVariants.{Null, Ref}
 use Rattle.making_code.specs.FieldConstructor.{superclass_of}
 use Rattle.member_link.specs.Machine.Ops.{call_special}
-use Rattle.member_link.specs.Machine.Programs.{Links, Point, Program, name_of_class, point_at}
+use Rattle.member_link.specs.Machine.Programs.{Links, Point, Program, RunClass, name_of_class, point_at}
 use Rattle.member_link.specs.Machine.Replaced.{Replacement}
 use Rattle.member_link.specs.Machine.Runs.{Run}
 use Rattle.member_link.specs.Machine.Worlds.{Memory, going}
@@ -168,12 +168,16 @@ pub record Constructs (u : Setup) : Type 0 where
       → class ≢ object
       → (second u).links.below (name_of_class (second u) shape) class ≡ true
       → AllByRecursion (HasConstructor u.classes u.links u.constructor u.s) (chain (headers_of u.classes) class)
+      → (found : RunClass)
+      → slice_get (second u).classes shape ≡ Some found
       → FillsObjects (second u) (instance_fields (headers_of u.classes) class) shape (reference_of_constructor u.constructor class)
 
 pub constructs_by : (u : Setup) → IsHierarchy (headers_of u.classes)
-    → ((shape : ℕ) → KnowsEach (second u) u.classes u.links u.constructor u.s shape)
+    → ((shape : ℕ) (found : RunClass)
+    → slice_get (second u).classes shape ≡ Some found
+    → KnowsEach (second u) u.classes u.links u.constructor u.s shape)
     → Constructs u
 constructs_by u hierarchy knows = record {
-  fills = λ class header shape is differ below all.
-      constructor_fills (constructors_up hierarchy (knows shape) class header is differ all below);
+  fills = λ class header shape is differ below all found of_shape.
+      constructor_fills (constructors_up hierarchy (knows shape found of_shape) class header is differ all below);
 }

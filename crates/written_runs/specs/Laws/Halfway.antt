@@ -28,7 +28,7 @@ use Rattle.virtual_state.specs.Sites.{has}
 use Rattle.virtual_state.specs.States.{IsState, State, is_present}
 use Rattle.virtual_state.specs.Without.{without}
 use Rattle.written_runs.specs.Laws.LessVirtual.{is_left, left_of_other, still_apart, was_in, was_virtual, WasIn}
-use Rattle.written_runs.specs.Inner.MadeObjects.{BehindMaking, CanBeSaved, MakesObjects, StandAt, left_of}
+use Rattle.written_runs.specs.Inner.MadeObjects.{BehindMaking, CanBeKept, CanBeSaved, MakesObjects, StandAt, left_of}
 use Rattle.written_runs.specs.Inner.PlannedFrames.{Keeps, Known, scope_in}
 use Rattle.written_runs.specs.Inner.Setup.{Setup, first, second}
 use Rattle.written_runs.specs.Inner.Standing.{Stands, apart, comparison, is_awaited}
@@ -101,7 +101,8 @@ same_below frame made virtuals other low = record {
 
 module _ {u : Setup} (making : MakesObjects u) {one other : Run} {f : MethodState} {rest : List RunFrame} {w : WrittenMethod} {known : Known}
     {point : Point} {state : State} {place : ℕ} (made order : List ℕ)
-    (h : Halfway u one other f rest w known point state place) (can : CanMake u f w point state made order place) where
+    (h : Halfway u one other f rest w known point state place) (can : CanMake u f w point state made order place)
+    (kept : CanBeKept w h.virtuals (length rest) point state f) where
   behind : BehindMaking u h.virtuals h.names (length rest) w f.place point state made order f h.g h.rest_also one.world.memory other
   behind =
       making h.virtuals h.names (length rest) w f.place point state made order f h.g h.rest_also one.world.memory other (record {
@@ -116,6 +117,7 @@ module _ {u : Setup} (making : MakesObjects u) {one other : Run} {f : MethodStat
         are_apart = h.are_apart;
         begun = h.owned.begun;
         savable = can.savable;
+        kept = kept;
         tells = h.tells;
         keeps = h.keeps;
         memories = h.memories;

@@ -1,15 +1,13 @@
 -- The second run goes on quietly to where the instruction of the topmost planned frame is next in both: through make code before the instruction, or
 -- on the edge over which control comes, and over the goto at the end of a pad.
-use Rattle.std.proofs.Common.{◌≡◌, ◌≢◌, ◌≤◌, ◌<◌, ◌+◌, ◌-◌, ◌++◌, ℕ, zero, suc, Bool, true, false, List, [], ◌∷◌, drop, length, map, reverse, slice_get, Option, Some, None, option_map, IsTrue, refl, sym, ap, subst, ◌∙◌, arith, inl}
+use Rattle.std.proofs.Common.{◌≡◌, ◌≢◌, ◌≤◌, ◌+◌, ◌-◌, ◌++◌, ℕ, suc, Bool, true, false, List, [], ◌∷◌, drop, length, map, slice_get, Some, None, option_map, IsTrue, refl, sym, ap, subst, ◌∙◌, arith, inl}
 use Rattle.std.specs.List.{find}
 use Rattle.std.proofs.lemmas.Bool.{false≢true}
-use Rattle.std.proofs.lemmas.List.{length-append}
 use Rattle.std.proofs.lemmas.Option.{none-some, same_Some}
 use Rattle.class_model.specs.declared.class_file.MethodAt.{MethodAt}
 use Rattle.class_model.specs.declared.instr.Instr.TheVariants.{Goto}
 use Rattle.flow_code.specs.FlatCode.{FlatCode}
 use Rattle.flow_code.specs.declared.point.Point.{Point}
-use Rattle.flow_code.specs.declared.point.Site.{Site}
 use Rattle.machine_values.specs.Frames.{MethodState}
 use Rattle.machine_values.specs.declared.frame.RunFrame.{RunFrame}
 use Rattle.machine_values.specs.declared.frame.RunFrame.TheVariants.{Beginning, Method}
@@ -19,40 +17,46 @@ use Rattle.making_code.specs.MakeCode.{make_code}
 use Rattle.making_code.specs.MakeOrder.{IsMakeOrder}
 use Rattle.member_link.specs.Machine.Programs.{Code, code_at}
 use Rattle.member_link.specs.Machine.Runs.{Run}
-use Rattle.member_link.specs.Machine.Worlds.{World}
 use Rattle.member_link.specs.Scope.{Scope, scope_at}
 use Rattle.plan_flow.specs.Laws.RoutedPlans.{EdgeLeads, HasOneEffect, HasRoute, IsRouteOf, leads_of, route_at, route_of}
 use Rattle.plan_flow.specs.Laws.WrittenBlocks.{block_finished, first_block, first_item, first_of, next_first, next_starts, own_first, own_number, own_second, starts_at, blocks_left, first_begins, made_next, next_of, StandsNext, goes_on, makes_first}
 use Rattle.plan_flow.specs.Laws.WrittenPads.{StandsFirst, comes_nowhere, none_finished, pad_block}
 use Rattle.plan_flow.specs.MetPlans.{MeetsState, RefersToSite}
 use Rattle.plan_flow.specs.PlanScope.{PlanScope}
-use Rattle.plan_flow.specs.Plans.{IsMadeIn, IsValidAt, planned}
+use Rattle.plan_flow.specs.Plans.{IsMadeIn, IsValidAt, planned, state_left}
 use Rattle.plan_flow.specs.Written.Blocks.{Block, BlockOf, blocks_of, handler_pad, instruction_block, jump_pad, state_written}
 use Rattle.plan_flow.specs.Written.Finish.{End, Finished, begins_point, comes_to, end_items, end_of, finish, goto_end, is_empty, no_end}
 use Rattle.plan_flow.specs.Written.Routes.{IsRoute, Route, RouteEdge, edge_by, is_kind}
 use Rattle.plan_flow.specs.declared.edge.EdgeKind.{EdgeKind}
 use Rattle.plan_flow.specs.declared.edge.EdgeKind.TheVariants as edges
-use Rattle.member_link.specs.Machine.Replaced.{map_numbered}
 use Rattle.plan_flow.specs.Written.WrittenCode.{Form, block_items, in_form, is_handler_pad, is_jump_pad, short, start_of, target_number, wide, written_code, written_items, written_point}
 use Rattle.plan_flow.specs.Written.WrittenPrograms.{WrittenMethod}
+use Rattle.same_runs.specs.Laws.Numbered.{slice_numbered}
 use Rattle.same_runs.specs.Laws.QuietBeginnings.{quietly_then}
 use Rattle.same_runs.specs.SameMemories.{SameMemories}
 use Rattle.same_runs.specs.Simulations.{at_once}
 use Rattle.typed_runs.specs.TypedWorlds.{TypedWorld}
+use Rattle.virtual_state.specs.Laws.Fields.{unusable_made}
 use Rattle.virtual_state.specs.Laws.Objects.{found_present, found_site}
-use Rattle.virtual_state.specs.Laws.Removals.{without_none}
+use Rattle.virtual_state.specs.Laws.Removals.{without_is_state, without_none}
 use Rattle.virtual_state.specs.Sites.{has}
-use Rattle.virtual_state.specs.States.{IsState, State, is_present, object_of}
+use Rattle.virtual_state.specs.States.{IsState, State, is_present, is_unusable}
 use Rattle.virtual_state.specs.Without.{without}
 use Rattle.virtual_state.specs.declared.slot.Slot.TheVariants.{Virt}
-use Rattle.written_runs.specs.Laws.Halfway.{CanMake, GoesOn, Halfway, goes_then, jumps_on, makes_on}
-use Rattle.written_runs.specs.Laws.KnownClasses.{classes_in, halfway_knowing, met_here, met_left}
+use Rattle.written_runs.specs.Laws.Halfway.{GoesOn, Halfway, goes_then, jumps_on, makes_on}
+use Rattle.written_runs.specs.Laws.KnownClasses.{halfway_knowing, met_here, met_left}
 use Rattle.written_runs.specs.Laws.MadeItems.{AreOwn, HasSome, behind_made, length_made, made_at, made_in_form, made_some, make_code_some, own_make_code}
-use Rattle.written_runs.specs.Inner.MadeObjects.{CanBeSaved, MakesObjects, StandAt}
+use Rattle.written_runs.specs.Laws.Uncovered.{IsUncovered, can_be_saved}
+use Rattle.written_runs.specs.Laws.NewOnTop.{gives_on_top}
+use Rattle.written_runs.specs.Laws.NextEdges.{next_follows}
+use Rattle.written_runs.specs.Laws.WrittenCodes.{written_code_at}
+use Rattle.written_runs.specs.Laws.UncoveredPlans.{uncovered_along, uncovered_at}
+use Rattle.written_runs.specs.Laws.TypedKept.{HasPlaces, TypesEntries, can_be_kept, entry_there, places_of}
+use Rattle.written_runs.specs.Inner.MadeObjects.{MakesObjects}
 use Rattle.written_runs.specs.Inner.PlannedFrames.{AtBlock, InPlanned, IsBlock, IsMet, IsOfSite, IsReached, IsInstructionOf, IsTold, Keeps, Known, MakesOn, Moment, arrives, blocks_in, of_first, of_handler, of_jump, of_next, of_own, scope_in, stays, waits}
 use Rattle.written_runs.specs.Inner.Setup.{IsSetup, Setup, first, second}
 use Rattle.written_runs.specs.Inner.Standing.{Stands, apart, comparison, is_awaited, beginnings_stand, libraries_stand, none_stand, own_stand, planned_stand}
-use Rattle.written_runs.specs.Inner.Together.{Along, AreKnown, AreOwned, IsSettled, Related, Together, TopIsSettled, points_left, weight}
+use Rattle.written_runs.specs.Inner.Together.{Along, AreKnown, AreOwned, Related, Together, points_left, weight}
 use Rattle.written_runs.specs.VirtualObjects.{Tells, stack_slots}
 use Rattle.written_runs.specs.WrittenRuns.{IsReadyMethod}
 
@@ -61,47 +65,13 @@ pub record SettleLaws (u : Setup) : Type 0 where
   pub is_setup : IsSetup u
   pub making : MakesObjects u
   pub one_effect : (w : WrittenMethod) → HasOneEffect (scope_in u w)
-  -- the second program runs written code
-  pub code : (at : MethodAt) (w : WrittenMethod) (host : Scope)
-      → u.written at ≡ Some w
-      → scope_at u.classes at ≡ Some host
-      → code_at (second u) at ≡ Some (written_code (scope_in u w) host u.constructor w.form (blocks_in u w))
-  -- what is typed can be saved, and each stack entry that a state has is there
-  pub savable : (one : World) (f : MethodState) (rest : List RunFrame) (w : WrittenMethod) (point : Point) (state : State) (made : List ℕ)
-      → TypedWorld (first u) u.typings one
-      → one.frames ≡ Method f ∷ rest
-      → u.written f.at ≡ Some w
-      → slice_get w.flat.points f.place ≡ Some point
-      → IsMadeIn state made
-      → CanBeSaved w f.place point state made f
-  -- a next edge leads to the point behind
-  pub next_follows : (w : WrittenMethod) (at : ℕ) (point : Point) (route : Route) (edge : RouteEdge)
-      → IsReached w at point route
-      → edge_by route edges.Next ≡ Some edge
-      → edge.to ≡ suc at
-  pub full : (one : World) (f : MethodState) (rest : List RunFrame) (w : WrittenMethod) (point : Point) (route : Route) (place site : ℕ)
-      → TypedWorld (first u) u.typings one
-      → one.frames ≡ Method f ∷ rest
-      → u.written f.at ≡ Some w
-      → IsReached w f.place point route
-      → slice_get (stack_slots point route.state) place ≡ Some (Virt site)
-      → (value : Value) × (slice_get (reverse f.stack) place ≡ Some value)
+  -- what typing tells make code of entries, local units and values
+  pub types : TypesEntries u
 
 -- ---- lists
 
-slice_numbered : {A B : Type 0} (change : ℕ → A → B) (number : ℕ) (items : List A) (k : ℕ) (one : A)
-    → slice_get items k ≡ Some one
-    → slice_get (map_numbered change number items) k ≡ Some (change (number + k) one)
-slice_numbered change number [] k one is = absurd (none-some one is)
-slice_numbered {A = A} {B = B} change number (first ∷ items) zero one is =
-    let here : number ≡ number + 0 = omega arith in
-    ap (λ (found : A). Some (change number found)) (same_Some first one is) ∙ ap (λ (n : ℕ). Some (change n one)) here
-slice_numbered {A = A} {B = B} change number (first ∷ items) (suc k) one is =
-    let here : suc number + k ≡ number + suc k = omega arith in
-    slice_numbered change (suc number) items k one is ∙ ap (λ (n : ℕ). Some (change n one)) here
-
 -- an edge that is found is one of the route
-found_edge : (wanted : RouteEdge → Bool) (all : List RouteEdge) (edge : RouteEdge) → find wanted all ≡ Some edge
+pub found_edge : (wanted : RouteEdge → Bool) (all : List RouteEdge) (edge : RouteEdge) → find wanted all ≡ Some edge
     → (number : ℕ) × (slice_get all number ≡ Some edge)
 found_edge wanted [] edge is = absurd (none-some edge is)
 found_edge wanted (first ∷ all) edge is = by (wanted first) refl (found_edge wanted all edge) where
@@ -114,7 +84,7 @@ found_edge wanted (first ∷ all) edge is = by (wanted first) refl (found_edge w
 -- ---- how blocks of make code end
 
 -- one that goes on to the block behind it
-ends_plain : (flat : FlatCode) (block : Block) (behind : List Finished) → block.leaves ≡ None → is_empty block.items ≡ false
+pub ends_plain : (flat : FlatCode) (block : Block) (behind : List Finished) → block.leaves ≡ None → is_empty block.items ≡ false
     → end_of flat block behind ≡ no_end
 ends_plain flat block behind none some = rw (none, some) refl
 
@@ -140,18 +110,20 @@ made_block : (form : Form) (flat : FlatCode) (block : Block) (end : End) (instrs
 made_block form flat block end instrs items own same =
     ap (λ (found : List WItem). in_form form (found ++ end_items end)) items ∙ made_in_form form instrs (end_items end) own same
 
--- what make code asks of the state and the set
-pub record CanBeMade (state : State) (made order : List ℕ) : Type 0 where
+-- what make code asks of the state of a point and the set
+pub record CanBeMade (point : Point) (state : State) (made order : List ℕ) : Type 0 where
+  pub places : HasPlaces point state
   pub is_state : IsState state
   pub is_made : IsMadeIn state made
   pub is_order : IsMakeOrder state.objects made order
+  pub uncovered : IsUncovered point.typed.stack (stack_slots point state) made
 
 -- the target of an edge is the point at which the first frame stands: its route, and the state that is left
 pub record Onwards (w : WrittenMethod) (place : ℕ) (point : Point) (edge : RouteEdge) : Type 0 where
   pub route : Route
   pub reached : IsReached w place point route
-  pub can : CanBeMade route.state route.made route.order
-  pub can_edge : CanBeMade edge.state edge.made edge.order
+  pub can : CanBeMade point route.state route.made route.order
+  pub can_edge : CanBeMade point edge.state edge.made edge.order
   pub left : without edge.state (has edge.made) ≡ route.state
 
 module _ (u : Setup) (laws : SettleLaws u) where
@@ -168,6 +140,7 @@ module _ (u : Setup) (laws : SettleLaws u) where
     route = there.route;
     reached = record { is_point = is_point; is_route = there.is_route };
     can = record {
+      places = there_places;
       is_state = subst IsState (sym there.is.state) planned_there.is_planned.state.is_state;
       is_made =
           subst (IsMadeIn there.route.state) (sym there.is.made)
@@ -175,8 +148,24 @@ module _ (u : Setup) (laws : SettleLaws u) where
       is_order =
           subst (λ (state : State). IsMakeOrder state.objects there.route.made there.route.order) (sym there.is.state)
           (subst (λ (made : List ℕ). IsMakeOrder lead.target.state.objects made there.route.order) (sym there.is.made) there.is.order);
+      uncovered =
+          subst (λ (state : State). IsUncovered point.typed.stack (stack_slots point state) there.route.made) (sym there.is.state)
+          (uncovered_at (scope_in u w) f.place point lead.target.state there.route.made is_point planned_there.is_planned.beneath);
     };
-    can_edge = record { is_state = lead.is_state; is_made = lead.is_made; is_order = lead.is_order };
+    can_edge = record {
+      places = record {
+        are = sym (unusable_made (has edge.made) edge.state.slots)
+            ∙ ap (λ (state : State). map is_unusable state.slots) (sym lead.left ∙ sym there.is.state)
+            ∙ there_places.are;
+      };
+      is_state = lead.is_state;
+      is_made = lead.is_made;
+      is_order = lead.is_order;
+      uncovered =
+          uncovered_along (scope_in u w) of_method.plan at before from.point route number.0 edge point edge.made
+          (gives_on_top (scope_in u w) u.classes of_method.scope of_method.code.typed)
+          from_state planned_from from.is reached.is_point number.1 (ap (slice_get w.flat.points) to ∙ is_point);
+    };
     left = sym lead.left ∙ sym there.is.state;
   } where
     of_method : IsReadyMethod u.classes u.links f.at w
@@ -196,6 +185,18 @@ module _ (u : Setup) (laws : SettleLaws u) where
     planned_there : IsValidAt (scope_in u w) of_method.plan f.place lead.target
     planned_there = of_method.valid.each f.place lead.target target_at
 
+    from : IsRouteOf (scope_in u w) of_method.plan at at route
+    from =
+        let all = route_of (scope_in u w) 0 of_method.plan w.routes at route of_method.routed reached.is_route in
+        record { point = all.point; reached = all.reached; is = subst (λ (n : ℕ). IsRoute (scope_in u w) n all.point route) (omega arith) all.is }
+
+    planned_from : IsValidAt (scope_in u w) of_method.plan at from.point
+    planned_from = of_method.valid.each at from.point from.reached
+
+    from_state : IsState (state_left from.point)
+    from_state =
+        without_is_state from.point.state (has from.point.made) planned_from.is_planned.state.is_state planned_from.is_planned.made.closed
+
     there : HasRoute (scope_in u w) w.routes f.place f.place lead.target
     there =
         let found_route = route_at (scope_in u w) 0 of_method.plan w.routes f.place lead.target of_method.routed target_at in
@@ -204,6 +205,40 @@ module _ (u : Setup) (laws : SettleLaws u) where
           is_route = found_route.is_route;
           is = subst (λ (n : ℕ). IsRoute (scope_in u w) n lead.target found_route.route) (omega arith) found_route.is;
         }
+
+    there_places : HasPlaces point there.route.state
+    there_places =
+        places_of u w f.place point there.route.state is_point
+        (ap (λ (state : State). map is_unusable state.slots) there.is.state ∙ planned_there.is_planned.state.places)
+
+  -- what is made before the instruction of a reached point can be made
+  can_at : (f : MethodState) (w : WrittenMethod) (at : ℕ) (point : Point) (route : Route)
+      → u.written f.at ≡ Some w
+      → IsReached w at point route
+      → CanBeMade point route.state route.made route.order
+  can_at f w at point route written reached = record {
+    places =
+        places_of u w at point route.state reached.is_point
+        (ap (λ (state : State). map is_unusable state.slots) there.is.state ∙ here.is_planned.state.places);
+    is_state = subst IsState (sym there.is.state) here.is_planned.state.is_state;
+    is_made =
+        subst (IsMadeIn route.state) (sym there.is.made)
+        (subst (λ (state : State). IsMadeIn state there.point.made) (sym there.is.state) here.is_planned.made);
+    is_order =
+        subst (λ (state : State). IsMakeOrder state.objects route.made route.order) (sym there.is.state)
+        (subst (λ (made : List ℕ). IsMakeOrder there.point.state.objects made route.order) (sym there.is.made) there.is.order);
+    uncovered =
+        subst (λ (state : State). IsUncovered point.typed.stack (stack_slots point state) route.made) (sym there.is.state)
+        (uncovered_at (scope_in u w) at point there.point.state route.made reached.is_point here.is_planned.beneath);
+  } where
+    ready : IsReadyMethod u.classes u.links f.at w
+    ready = laws.is_setup.ready f.at w written
+
+    there : IsRouteOf (scope_in u w) ready.plan at (0 + at) route
+    there = route_of (scope_in u w) 0 ready.plan w.routes at route ready.routed reached.is_route
+
+    here : IsValidAt (scope_in u w) ready.plan at there.point
+    here = ready.valid.each at there.point there.reached
 
   -- where it is known of which classes objects are, a frame has objects of these classes
   meets_of : (one : Run) (f : MethodState) (rest : List RunFrame) (w : WrittenMethod) (known : Known) (point : Point) (route : Route)
@@ -217,7 +252,8 @@ module _ (u : Setup) (laws : SettleLaws u) where
   meets_of one f rest w known point route are_known typed stands written reached met = record {
     locals = λ unit site is. let found = met.locals unit site is in (found.0, found.1, of_site site found.0 found.2);
     stack = λ entry site is.
-        let full = laws.full one.world f rest w point route entry site typed stands written reached is in
+        let full = entry_there point route.state f entry (Virt site) (can_at f w f.place point route written reached).places
+        (laws.types.stacks one.world f rest w point typed stands written reached.is_point) is in
         (full.0, full.1, of_site site full.0 (met.stack entry site full.0 is full.1));
   } where
     of_site : (site : ℕ) (value : Value) → IsOfSite u known w site value
@@ -234,29 +270,6 @@ module _ (u : Setup) (laws : SettleLaws u) where
           there = there.1;
           of_class = there.2;
         }
-
-  -- what is made before the instruction of a reached point can be made
-  can_at : (f : MethodState) (w : WrittenMethod) (at : ℕ) (point : Point) (route : Route)
-      → u.written f.at ≡ Some w
-      → IsReached w at point route
-      → CanBeMade route.state route.made route.order
-  can_at f w at point route written reached = record {
-    is_state = subst IsState (sym there.is.state) here.is_planned.state.is_state;
-    is_made =
-        subst (IsMadeIn route.state) (sym there.is.made)
-        (subst (λ (state : State). IsMadeIn state there.point.made) (sym there.is.state) here.is_planned.made);
-    is_order =
-        subst (λ (state : State). IsMakeOrder state.objects route.made route.order) (sym there.is.state)
-        (subst (λ (made : List ℕ). IsMakeOrder there.point.state.objects made route.order) (sym there.is.made) there.is.order);
-  } where
-    ready : IsReadyMethod u.classes u.links f.at w
-    ready = laws.is_setup.ready f.at w written
-
-    there : IsRouteOf (scope_in u w) ready.plan at (0 + at) route
-    there = route_of (scope_in u w) 0 ready.plan w.routes at route ready.routed reached.is_route
-
-    here : IsValidAt (scope_in u w) ready.plan at there.point
-    here = ready.valid.each at there.point there.reached
 
   module _ {one : Run} {f : MethodState} {rest : List RunFrame} {w : WrittenMethod} {known : Known} {point : Point} (measure : ℕ)
       (low : weight (first u) one.world.memory [] (length w.flat.points - f.place) ≤ measure) where
@@ -330,7 +343,7 @@ module _ (u : Setup) (laws : SettleLaws u) where
     through : (r : Run) (state : State) (made order : List ℕ) (number : ℕ) (finished : Finished) (tail : List WItem)
         → Halfway u one r f rest w known point state (first_item w.form (blocks_in u w) number)
         → slice_get w.flat.points f.place ≡ Some point
-        → CanBeMade state made order
+        → CanBeMade point state made order
         → slice_get (blocks_in u w) number ≡ Some finished
         → block_items w.form finished ≡ map item (make_code w.flat f.place state made order) ++ tail
         → GoesOn u one r f rest w known point (without state (has made))
@@ -345,13 +358,16 @@ module _ (u : Setup) (laws : SettleLaws u) where
             each = λ more within.
                 made_at w.form (blocks_in u w) number finished (make_code w.flat f.place state made order) tail more is_finished items within;
           };
-          savable = laws.savable one.world f rest w point state made h.typed h.stands (ap u.written h.at ∙ h.is_written) is_point can.is_made;
-        })
+          savable =
+              can_be_saved w f.place point state made f is_point can.uncovered
+              (laws.types.stacks one.world f rest w point h.typed h.stands (ap u.written h.at ∙ h.is_written) is_point)
+              (laws.types.kinds one.world f rest w point h.typed h.stands (ap u.written h.at ∙ h.is_written) is_point);
+        }) (can_be_kept laws.is_setup laws.types h is_point can.places)
 
     -- there is an instruction, where an object is made
     some_code : (r : Run) (state : State) (site : ℕ) (sites order : List ℕ) (place : ℕ)
         → Halfway u one r f rest w known point state place
-        → CanBeMade state (site ∷ sites) order
+        → CanBeMade point state (site ∷ sites) order
         → HasSome (make_code w.flat f.place state (site ∷ sites) order)
     some_code r state site sites order place h can =
         make_code_some w.flat f.place state can.is_order (λ one_site among.
@@ -368,7 +384,7 @@ module _ (u : Setup) (laws : SettleLaws u) where
     pub from_first : (route : Route) (r : Run)
         → Halfway u one r f rest w known point route.state (first_item w.form (blocks_in u w) (length (blocks_left (scope_in u w) w.routes f.place)))
         → IsReached w f.place point route
-        → CanBeMade route.state route.made route.order
+        → CanBeMade point route.state route.made route.order
         → IsMet u known w point route.state f
         → Related u measure one r
     from_first route r h reached can met = by route.made refl where
@@ -399,8 +415,8 @@ module _ (u : Setup) (laws : SettleLaws u) where
         code : List WInstr
         code = make_code w.flat f.place route.state route.made route.order
 
-        can_here : CanBeMade route.state (site ∷ sites) route.order
-        can_here = subst (λ (made : List ℕ). CanBeMade route.state made route.order) some can
+        can_here : CanBeMade point route.state (site ∷ sites) route.order
+        can_here = subst (λ (made : List ℕ). CanBeMade point route.state made route.order) some can
 
         some_here : HasSome code
         some_here =
@@ -501,14 +517,21 @@ module _ (u : Setup) (laws : SettleLaws u) where
           s : PlanScope
           s = scope_in u w
 
+          of_method : IsReadyMethod u.classes u.links f.at w
+          of_method = laws.is_setup.ready f.at w written
+
           number : ℕ
           number = suc (own_number s w.routes at route)
 
           code : List WInstr
           code = make_code w.flat f.place edge.state edge.made edge.order
 
+          ready : IsReadyMethod u.classes u.links f.at w
+          ready = laws.is_setup.ready f.at w written
+
           follows : suc at ≡ f.place
-          follows = sym (laws.next_follows w at before route edge reached makes.found) ∙ to
+          follows =
+              sym (next_follows s of_method.plan w.routes at before route edge of_method.routed reached.is_point reached.is_route makes.found) ∙ to
 
           code_is : code ≡ make_code w.flat edge.to edge.state (site ∷ sites) edge.order
           code_is =
@@ -519,7 +542,7 @@ module _ (u : Setup) (laws : SettleLaws u) where
           some_here =
               subst (λ (made : List ℕ). HasSome (make_code w.flat f.place edge.state made edge.order)) (sym makes.made)
               (some_code r edge.state site sites edge.order (first_item w.form (blocks_in u w) number) h
-              (subst (λ (made : List ℕ). CanBeMade edge.state made edge.order) makes.made on_to.can_edge))
+              (subst (λ (made : List ℕ). CanBeMade point edge.state made edge.order) makes.made on_to.can_edge))
 
           block : Block
           block = made_next s at edge (site ∷ sites)
@@ -649,13 +672,15 @@ module _ (u : Setup) (laws : SettleLaws u) where
           whole = written_code s ready.scope u.constructor w.form (blocks_in u w)
 
           runs : code_at (second u) on.there.g.at ≡ Some whole
-          runs = laws.code on.there.g.at w ready.scope on.there.is_written (ap (scope_at u.classes) (sym on.there.at) ∙ ready.is_scope)
+          runs = written_code_at u laws.is_setup on.there.g.at w ready.scope on.there.is_written (ap (scope_at u.classes) (sym on.there.at) ∙ ready.is_scope)
 
           at_goto : slice_get whole.points (first_item w.form (blocks_in u w) number + length code)
               ≡ Some (written_point s ready.scope u.constructor w.form (blocks_in u w) (0 + (first_item w.form (blocks_in u w) number + length code)) goto)
           at_goto =
               slice_numbered (written_point s ready.scope u.constructor w.form (blocks_in u w)) 0 (written_items w.form (blocks_in u w))
-              (first_item w.form (blocks_in u w) number + length code) goto
+              (first_item w.form (blocks_in u w) number + length code)
+              ∙ ap (option_map (written_point s ready.scope u.constructor w.form (blocks_in u w)
+              (0 + (first_item w.form (blocks_in u w) number + length code))))
               (behind_made w.form (blocks_in u w) number finished code goto [] is_finished items)
 
           there : GoesOn u one r f rest w known point (without edge.state (has edge.made))
@@ -790,7 +815,7 @@ module _ (u : Setup) (laws : SettleLaws u) where
       settle_first at point route reached is_place is_point is_state place =
           from_first measure low route other (halfway_knowing h can.is_state)
           (subst (λ (n : ℕ). IsReached in_planned.one n point route) is_place reached) can (met_here h can.is_state) where
-            can : CanBeMade route.state route.made route.order
+            can : CanBeMade point route.state route.made route.order
             can = can_at f in_planned.one at point route written reached
 
             h : Halfway u one other f rest in_planned.one along.known point route.state
