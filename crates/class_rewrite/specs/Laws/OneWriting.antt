@@ -8,7 +8,7 @@ use Rattle.class_model.specs.declared.frame.Frame.{Frame}
 use Rattle.class_rewrite.specs.Laws.OneReason.{one_reason}
 use Rattle.class_rewrite.specs.Reasons.{HasReason}
 use Rattle.class_rewrite.specs.Rewriting.Methods.{CodeIsPast, FramesArePast, GainsNothing, HasReasonIn, IsCoded, IsFramedIn, IsLongCode, IsPlanned, IsRewritten, IsTooLong, Rewriting, Rewritten, short_items}
-use Rattle.code_layout.specs.Layout.{end_from}
+use Rattle.code_layout.specs.Layout.{end_from, short_spelled}
 use Rattle.code_layout.specs.PlainItems.{plain_item, plain_items}
 use Rattle.code_layout.specs.declared.emitted.Catch.{Catch}
 use Rattle.code_layout.specs.declared.emitted.EmitItem.{EmitItem}
@@ -273,7 +273,7 @@ module _ (r : Rewriting) (known : HaveOne r) where
       indexed_items (plan_scope r.classes r.links one) r.constructor pool form (finished_of r.classes r.links one)
 
   abbrev chosen : List EmitItem → Form
-  chosen items = if nat_le (end_from 0 items) 32767 then short else wide
+  chosen items = if nat_le (end_from short_spelled 0 items) 32767 then short else wide
 
   record SameCoded (w v : Rewritten) : Type 0 where
     one : w.one ≡ v.one
