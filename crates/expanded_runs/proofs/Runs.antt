@@ -38,13 +38,11 @@ pub mod CalledNames
 pub mod FlatSites
 pub mod SiteInitialisers
 pub mod Bars
-pub mod CodedMethods
 pub mod CallTargets
 pub mod FolderReceivers
 mod CallChoices
 mod TypedCalls
 mod CallWork
-mod QuietInert
 pub mod CallFrames
 pub mod CallLaws
 mod ReplacedCallLaws

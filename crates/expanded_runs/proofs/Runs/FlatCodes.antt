@@ -1,5 +1,5 @@
 -- The codes of methods in both programs, and their points.
-use Rattle.std.proofs.Common.{◌≡◌, ◌==◌, ℕ, Bool, true, false, map, slice_get, Option, Some, None, option_map, refl, sym, ap, ◌∙◌, if◌then◌else◌}
+use Rattle.std.proofs.Common.{◌≡◌, ◌==◌, ℕ, false, map, slice_get, Option, Some, None, option_map, refl, sym, ap, ◌∙◌}
 use Rattle.std.specs.Prelude.{option_and_then}
 use Rattle.std.proofs.lemmas.List.{length-map}
 use Rattle.class_model.specs.Members.{NATIVE, has}
@@ -7,9 +7,9 @@ use Rattle.class_model.specs.declared.class_file.MethodAt.{MethodAt}
 use Rattle.class_model.specs.declared.instr.Placed.{Placed}
 use Rattle.class_tree.specs.Headers.{headers_of}
 use Rattle.expanded_code.specs.Alone.{number_in}
+use Rattle.expanded_code.specs.Laws.CodedMethods.{not_native}
 use Rattle.expanded_code.specs.Laws.NumberedInstrs.{found-instr, or_behind}
 use Rattle.expanded_runs.proofs.AloneCode.{first-placed, found-point}
-use Rattle.expanded_runs.proofs.Runs.CodedMethods.{not_native}
 use Rattle.expanded_runs.proofs.Runs.Setup.{IsSetup, Setup, after, before}
 use Rattle.flow_code.specs.FlatCode.{FlatCode}
 use Rattle.flow_code.specs.declared.point.Point.{Point as FlatPoint}
@@ -22,7 +22,7 @@ use Rattle.same_runs.specs.Flats.{flat_body, flat_code}
 use Rattle.same_runs.specs.Laws.FlatRuns.{BeginWithin, flat_points_are, flat_run_point}
 use Rattle.same_runs.specs.Laws.InstrOps.{own_point as numbered_point, own_points_are as numbered_points_are}
 use Rattle.same_runs.specs.Laws.Numbered.{replaced_run}
-use Rattle.same_runs.specs.Laws.Scopes.{own_code_at, own_method_code, own_run, scope_is_at}
+use Rattle.same_runs.specs.Laws.Scopes.{own_code_at, own_method_code, own_run, runs_in_place, scope_is_at}
 
 -- ---- points of a method's own code
 
@@ -56,10 +56,15 @@ module _ (links : Links) (s : Scope) where
 -- ---- the codes of both programs
 
 module _ (u : Setup) (is_setup : IsSetup u) where
+  own_not_native : (at : MethodAt) (s : Scope) → scope_at u.classes at ≡ Some s → has s.method.flags NATIVE ≡ false
+  own_not_native at s is =
+      let there = scope_is_at u.classes at s is in
+      not_native u.classes is_setup.tree at s.class s.method s.part there.of_folder there.of_class there.has_code
+
   -- a method of the folder with code runs it in the first
   pub code_before : (at : MethodAt) (s : Scope) → scope_at u.classes at ≡ Some s → code_at (before u) at ≡ Some (method_code u.links s)
   code_before at s is =
-      own_code_at u.classes u.links at s (scope_is_at u.classes at s is) (not_native u.classes at s is_setup.tree is)
+      own_code_at u.classes u.links at s (scope_is_at u.classes at s is) (own_not_native at s is)
 
   pub point_before : (at : MethodAt) (s : Scope) → scope_at u.classes at ≡ Some s → (k : ℕ)
       → point_at (before u) at k ≡ option_map (own_point u.links s) (slice_get (instructions s) k)
@@ -101,12 +106,8 @@ module _ (u : Setup) (is_setup : IsSetup u) where
   pub code_after : (at : MethodAt) (flat : FlatCode) (s : Scope) → u.flats at ≡ Some flat → scope_at u.classes at ≡ Some s
       → code_at (after u) at ≡ Some (flat_code u.classes u.links s flat)
   code_after at flat s some is =
-      ap (option_and_then code_run) (flat_run_method at flat s some is)
-      ∙ by (has s.method.flags NATIVE) (not_native u.classes at s is_setup.tree is) where
-        by : (native : Bool) → native ≡ false
-            → (if native then None else Some (flat_code u.classes u.links s flat)) ≡ Some (flat_code u.classes u.links s flat)
-        by true e = absurd cc
-        by false e = refl
+      runs_in_place u.classes u.links u.r at s (flat_code u.classes u.links s flat) (scope_is_at u.classes at s is) (own_not_native at s is)
+      (is_setup.replaces.bodies at ∙ rw (some, is) refl)
 
   pub point_after : (at : MethodAt) (flat : FlatCode) (s : Scope) → u.flats at ≡ Some flat → scope_at u.classes at ≡ Some s
       → (n : ℕ) (point : FlatPoint)

@@ -26,6 +26,7 @@ use Rattle.class_tree.specs.Names.{object}
 use Rattle.expanded_code.specs.Callees.{Calls, IsClass, IsOverriddenByNone, MayStandIn, Runs, own_name, runs_special, runs_static, runs_virtual}
 use Rattle.expanded_code.specs.Expanded.{Argument, arguments, arguments_from, tests_receiver}
 use Rattle.expanded_code.specs.Expansions.{Coded}
+use Rattle.expanded_code.specs.Laws.QuietInert.{quiet_is_inert}
 use Rattle.expanded_code.specs.Sites.{HasFrames, IsReplaced}
 use Rattle.expanded_runs.proofs.Runs.CallChoices.{special_chosen, special_start_is, virtual_chosen}
 use Rattle.expanded_runs.proofs.Runs.CallFrames.{GoesOn, does, goes_on, row_of_instr}
@@ -33,7 +34,6 @@ use Rattle.expanded_runs.proofs.Runs.CallLaws.{CallLaws, callee_parts, headers, 
 use Rattle.expanded_runs.proofs.Runs.CallTargets.{AreRead, HasClass, IsScopeOf, IsTarget, RunsCode, class_of_scope, is_target, op_of_instr, placed_is, runs_code, scope_has, scope_is}
 use Rattle.expanded_runs.proofs.Runs.CallWork.{RunsOn, found_init, found_named, init_runs, special_outcome, special_runs, static_comes, tested_comes, virtual_outcome, virtual_runs}
 use Rattle.expanded_runs.proofs.Runs.FolderReceivers.{IsFolderClass, IsObjectUnder, receiver_under, subtype_under}
-use Rattle.expanded_runs.proofs.Runs.QuietInert.{quiet_is_inert}
 use Rattle.expanded_runs.proofs.Runs.ReplacedCalls.{ComesTo, FitArguments, IsPlainMethod, ReplacedCall, comes_to_call}
 use Rattle.expanded_runs.proofs.Runs.Setup.{IsSetup, Setup, before}
 use Rattle.expanded_runs.proofs.Runs.TypedCalls.{HoldsCall, holds_call, init_object, typed_receiver}
@@ -233,7 +233,10 @@ module _ (u : Setup) (is : IsSetup u) (laws : CallLaws) (read : AreRead u.classe
         let other = no_handle u is r its_calls.method.class g.at.class target.number above.above in
         let plain = plain_call u is r its_calls.method.class (ap is_some above.declares.found) above.above other in
         let flag : has g.scope.method.flags STATIC ≡ true = ap (λ flags. has flags STATIC) (sym flags_are) ∙ static in
-        let inert = quiet_is_inert u.classes u.links is.hierarchy is.linked g.at g.scope has_also.is_scope (may.quiet flag) in
+        let class = class_of_scope u.classes u.links is.hierarchy g.at g.scope has_also.is_scope in
+        let inert =
+        quiet_is_inert u.classes u.links is.hierarchy is.linked (own_name g.scope) (header_of g.scope.class) g.at.class class.found class.name
+        (may.quiet flag) in
         let goes = going (call_static r) op tt in
         let untested : tests_receiver g.scope ≡ false = rw flag refl in
         let comes =

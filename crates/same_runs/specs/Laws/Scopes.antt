@@ -14,7 +14,9 @@ use Rattle.member_link.specs.Laws.ProgramHeaders.{folder_headers}
 use Rattle.member_link.specs.Machine.Classes.{program_of, run_class_of, run_method_of}
 use Rattle.member_link.specs.Machine.Codes.{method_code}
 use Rattle.member_link.specs.Machine.Programs.{Code, Links, RunClass, RunMethod, code_at, code_run, headers_in, run_method}
+use Rattle.member_link.specs.Machine.Replaced.{Replacement, replaced, with_body}
 use Rattle.member_link.specs.Scope.{Scope, scope_at, scope_of}
+use Rattle.same_runs.specs.Laws.Numbered.{still_runs}
 
 pub program_headers : (classes : Classes) (links : Links) → headers_in (program_of classes links) ≡ headers_of classes
 program_headers classes links =
@@ -98,6 +100,25 @@ module _ (classes : Classes) (links : Links) (at : MethodAt) (s : Scope) (is : I
     by : (native : Bool) → has s.method.flags NATIVE ≡ native → code ≡ method_code links s
     by true native = absurd (none-some code (sym (rw (native) refl) ∙ there))
     by false native = same_Some code (method_code links s) (sym there ∙ own_code_run native)
+
+-- ---- with another code in place of its own
+
+-- a method that is not native and has code runs the code that takes its place
+body_runs : (method : RunMethod) (old code : Code) → has method.member.flags NATIVE ≡ false → method.code ≡ Some old
+    → code_run (with_body method (Some code)) ≡ Some code
+body_runs method old code own is = rw (own, is) refl
+
+pub runs_in_place : (classes : Classes) (links : Links) (r : Replacement) (at : MethodAt) (s : Scope) (code : Code)
+    → IsScopeAt classes at s
+    → has s.method.flags NATIVE ≡ false
+    → r.body at ≡ Some code
+    → code_at (replaced (program_of classes links) r) at ≡ Some code
+runs_in_place classes links r at s code is native body =
+    ap (option_and_then code_run) (still_runs (program_of classes links) r at own (own_run classes links at s is))
+    ∙ ap (λ (other : Option Code). code_run (with_body own other)) body
+    ∙ body_runs own (method_code links s) code native (own_method_code classes links at s is) where
+      own : RunMethod
+      own = run_method_of links (headers_of classes) s.class s.method
 
 -- ---- a method that has points has a scope
 

@@ -61,7 +61,7 @@ kept_by_candidate classes class field candidate of_chain final = record {
 
 module _ {u : Setup} (is : IsSetup u) where
   -- the class of a site of a method that is rewritten is a candidate
-  site_is_candidate : (at : MethodAt) (one : WrittenMethod) (of : ℕ) (site : Site)
+  pub site_is_candidate : (at : MethodAt) (one : WrittenMethod) (of : ℕ) (site : Site)
       → u.written at ≡ Some one
       → slice_get one.flat.sites of ≡ Some site
       → IsCandidate u.classes site.class

@@ -1,5 +1,5 @@
 -- A method with code, of a class file that was read, is neither native nor abstract.
-use Rattle.std.specs.Prelude.{◌≡◌, ◌+◌, ◌||◌, not, refl, ℕ, Bool, true, false, List, [], ◌∷◌, ◌++◌, map, length, Some}
+use Rattle.std.specs.Prelude.{◌≡◌, ◌+◌, ◌||◌, not, refl, ℕ, Bool, true, false, List, [], ◌∷◌, ◌++◌, map, length, slice_get, Some}
 use Rattle.std.specs.List.{AllByRecursion}
 use Rattle.std.proofs.Common.{sym, subst}
 use Rattle.class_model.specs.Checks.{AllHold}
@@ -22,8 +22,6 @@ use Rattle.class_model.specs.declared.class_file.MethodAt.{MethodAt}
 use Rattle.class_tree.specs.Headers.{Classes, IsClassFile}
 use Rattle.class_tree.specs.Trees.{IsTree}
 use Rattle.expanded_code.specs.Laws.CutMethods.{AreRaw, class_cut}
-use Rattle.member_link.specs.Scope.{Scope, scope_at}
-use Rattle.same_runs.specs.Laws.Scopes.{scope_is_at}
 
 -- ---- which methods have code
 
@@ -80,8 +78,12 @@ class_coded bytes class is =
     (methods_coded (home_of c) [] (methods_place c + 2) c.methods (class_cut is.version is.rest c is.is_cut) (parts_hold c is.holds).methods)
 
 -- so a method of a folder that has code is not native
-pub not_native : (classes : Classes) (at : MethodAt) (s : Scope) → IsTree classes → scope_at classes at ≡ Some s → has s.method.flags NATIVE ≡ false
-not_native classes at s tree is =
-    let known = scope_is_at classes at s is in
-    let read : IsClassFile s.class = at_index IsClassFile classes.folder at.class s.class tree.folder known.of_folder in
-    (at_index IsCoded s.class.methods at.method s.method (class_coded (class_bytes s.class) s.class read) known.of_class s.part known.has_code).no_native
+pub not_native : (classes : Classes) → IsTree classes
+    → (at : MethodAt) (file : ClassFile) (method : Method) (part : CodePart)
+    → slice_get classes.folder at.class ≡ Some file
+    → slice_get file.methods at.method ≡ Some method
+    → code_of method.attrs ≡ Some part
+    → has method.flags NATIVE ≡ false
+not_native classes tree at file method part of_folder of_class has_code =
+    let read : IsClassFile file = at_index IsClassFile classes.folder at.class file tree.folder of_folder in
+    (at_index IsCoded file.methods at.method method (class_coded (class_bytes file) file read) of_class part has_code).no_native

@@ -1,29 +1,27 @@
 -- A class of the folder that is quiet: where it begins in the folder's program, nothing runs.
-use Rattle.std.specs.Prelude.{◌≡◌, ◌||◌, refl, ℕ, zero, suc, Bool, true, false, List, [], ◌∷◌, map, bytes_eq, codes, is_some, slice_get, Option, Some, None, option_map}
+use Rattle.std.specs.Prelude.{◌≡◌, ◌||◌, refl, ℕ, zero, suc, Bool, true, false, List, [], ◌∷◌, map, bytes_eq, codes, is_some, slice_get, Option, Some, None, option_map, IsTrue}
 use Rattle.std.specs.List.{list_any}
 use Rattle.std.proofs.Common.{ap, sym, subst, ◌∙◌}
 use Rattle.std.proofs.lemmas.Option.{none-some, same_Some, slice_get-map}
 use Rattle.class_model.specs.Header.{header_of, method_member}
 use Rattle.class_model.specs.Names.{clinit}
 use Rattle.class_model.specs.declared.class_file.ClassFile.{ClassFile}
-use Rattle.class_model.specs.declared.class_file.MethodAt.{MethodAt}
+use Rattle.class_model.specs.declared.header.Header.{Header}
 use Rattle.class_model.specs.declared.header.Member.{Member}
-use Rattle.class_tree.specs.Headers.{Name, Classes, headers_of, named}
+use Rattle.class_tree.specs.Headers.{Name, Classes, class_named, headers_of, named}
 use Rattle.class_tree.specs.Hierarchy.{IsHierarchy}
 use Rattle.class_tree.specs.Laws.Above.{class_decides, hierarchy_is_sound, there_is_no_array}
-use Rattle.expanded_code.specs.Callees.{own_name}
 use Rattle.expanded_code.specs.Quiet.{IsQuiet}
-use Rattle.expanded_runs.proofs.Runs.CallTargets.{class_of_scope, number_mapped}
 use Rattle.member_link.specs.Access.{IsAtOrBelow}
+use Rattle.member_link.specs.Laws.FirstNumbers.{number_of_mapped}
+use Rattle.member_link.specs.Machine.Beginnings.{initialiser_of}
 use Rattle.member_link.specs.Machine.Classes.{program_of, run_class_of, run_method_of}
 use Rattle.member_link.specs.Machine.Links.{AreLinksOf}
 use Rattle.member_link.specs.Machine.Programs.{Links, RunClass, RunMethod, folder_number, member_of, name_of_class, number_of_first, place_of_method}
 use Rattle.member_link.specs.References.{Reference}
-use Rattle.member_link.specs.Scope.{Scope, scope_at}
-use Rattle.same_runs.specs.SameMemories.{IsInert}
 
 -- the class initialiser that a class of a name may have
-abbrev clinit_of : Name → Reference
+abbrev pub clinit_of : Name → Reference
 clinit_of name = record { class = name; name = clinit; desc = codes "()V" }
 
 -- a class of the folder by its number and by its name
@@ -80,7 +78,7 @@ module _ (classes : Classes) (links : Links) (hierarchy : IsHierarchy (headers_o
     by None e = rw e refl
     by (Some n) e =
         let number =
-        sym (number_mapped (λ (class : RunClass). bytes_eq name class.header.name) (run_class_of links (headers_of classes)) classes.folder) ∙ e in
+        number_of_mapped (λ (class : RunClass). bytes_eq name class.header.name) (run_class_of links (headers_of classes)) classes.folder ∙ e in
         let numbered = number_named name classes.folder n number in
         let file = numbered.file in
         let class : slice_get (program_of classes links).classes n ≡ Some (run_class_of links (headers_of classes) file) =
@@ -90,19 +88,34 @@ module _ (classes : Classes) (links : Links) (hierarchy : IsHierarchy (headers_o
         let members = none_declared name (header_of file).methods none in
         let methods : number_of_first (λ (method : RunMethod). member_of (clinit_of name) method.member)
         (map (run_method_of links (headers_of classes) file) file.methods) ≡ None =
-        number_mapped (λ (method : RunMethod). member_of (clinit_of name) method.member) (run_method_of links (headers_of classes) file) file.methods
-        ∙ sym (number_mapped (member_of (clinit_of name)) (method_member file.pool) file.methods) ∙ members in
+        sym (number_of_mapped (λ (method : RunMethod). member_of (clinit_of name) method.member) (run_method_of links (headers_of classes) file)
+        file.methods)
+        ∙ number_of_mapped (member_of (clinit_of name)) (method_member file.pool) file.methods ∙ members in
         rw (e, class, methods) refl
 
-  pub quiet_is_inert : (at : MethodAt) (s : Scope) → scope_at classes at ≡ Some s → IsQuiet (headers_of classes) (own_name s)
-      → IsInert (program_of classes links) at.class
-  quiet_is_inert at s is quiet above below =
-      let class = class_of_scope classes links hierarchy at s is in
+  -- so neither has one above it by its number
+  pub none_declared_above : (own : Name) (header : Header) (number : ℕ)
+      → class_named (headers_of classes) own ≡ Some header
+      → name_of_class (program_of classes links) number ≡ own
+      → IsQuiet (headers_of classes) own
+      → (above : ℕ)
+      → IsTrue (links.below (name_of_class (program_of classes links) number) (name_of_class (program_of classes links) above))
+      → place_of_method (program_of classes links) (clinit_of (name_of_class (program_of classes links) above)) ≡ None
+  none_declared_above own header number found named_so quiet above below =
       let sound = hierarchy_is_sound (headers_of classes) hierarchy in
       let name = name_of_class (program_of classes links) above in
-      let sub =
-      (linked.below (own_name s) name).0 (subst (λ low. links.below low (name_of_class (program_of classes links) above) ≡ true) class.name below) in
-      let flat = there_is_no_array (headers_of classes) sound hierarchy.no_array (own_name s) (ap is_some class.found) in
-      let up = (class_decides (headers_of classes) sound hierarchy.no_array (own_name s) name flat).0 sub in
-      let none = none_above (own_name s) name quiet up in
+      let sub = (linked.below own name).0 (subst (λ low. links.below low (name_of_class (program_of classes links) above) ≡ true) named_so below) in
+      let flat = there_is_no_array (headers_of classes) sound hierarchy.no_array own (ap is_some found) in
+      let up = (class_decides (headers_of classes) sound hierarchy.no_array own name flat).0 sub in
+      none_above own name quiet up
+
+  pub quiet_is_inert : (own : Name) (header : Header) (number : ℕ)
+      → class_named (headers_of classes) own ≡ Some header
+      → name_of_class (program_of classes links) number ≡ own
+      → IsQuiet (headers_of classes) own
+      → (above : ℕ)
+      → IsTrue (links.below (name_of_class (program_of classes links) number) (name_of_class (program_of classes links) above))
+      → initialiser_of (program_of classes links) above ≡ None
+  quiet_is_inert own header number found named_so quiet above below =
+      let none = none_declared_above own header number found named_so quiet above below in
       rw none refl
