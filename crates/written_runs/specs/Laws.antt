@@ -14,6 +14,7 @@ pub mod Constructs
 pub mod FewerVirtuals
 pub mod FieldConstructors
 pub mod FilledLaws
+pub mod FirstProgram
 pub mod FolderFacts
 pub mod FreshFrames
 pub mod GivenValues

@@ -1,26 +1,54 @@
 -- The records of laws that the parts of the theorem go on, from the setup and from what other crates prove.
-use Rattle.std.proofs.Common.{◌≡◌, true}
+use Rattle.std.proofs.Common.{◌≡◌, ℕ, true, List, ◌∷◌, Some, slice_get}
+use Rattle.class_model.specs.declared.class_file.MethodAt.{MethodAt}
+use Rattle.class_model.specs.declared.frame.VType.{VType}
+use Rattle.class_model.specs.declared.frame.VType.TheVariants.{Top}
 use Rattle.class_tree.specs.Headers.{headers_of}
 use Rattle.class_tree.specs.Hierarchy.{IsHierarchy}
+use Rattle.flow_code.specs.ReadTypes.{read_frame}
+use Rattle.flow_code.specs.declared.point.Point.{Point}
+use Rattle.machine_values.specs.Frames.{MethodState}
 use Rattle.machine_values.specs.declared.action.Action.{Action}
+use Rattle.machine_values.specs.declared.frame.RunFrame.{RunFrame}
+use Rattle.machine_values.specs.declared.frame.RunFrame.TheVariants.{Method}
 use Rattle.member_link.specs.Machine.Acting.{act}
+use Rattle.member_link.specs.Machine.Codes.{item_op, number_at}
 use Rattle.member_link.specs.Machine.Programs.{Program}
 use Rattle.member_link.specs.Machine.SameRuns.{SameRuns}
 use Rattle.member_link.specs.Machine.Stepping.{is_library_turn, step}
 use Rattle.member_link.specs.Machine.Worlds.{World, start}
+use Rattle.member_link.specs.Scope.{Scope, scope_at}
+use Rattle.plan_flow.specs.Laws.RoutedPlans.{HasOneEffect}
+use Rattle.plan_flow.specs.Must.{row_of_point}
+use Rattle.plan_flow.specs.PlanRows.{RowEdge, from_place}
+use Rattle.plan_flow.specs.PlanScope.{PlanScope, local_types}
+use Rattle.plan_flow.specs.PlanTable.{edges_of}
+use Rattle.plan_flow.specs.Written.Routes.{Route}
+use Rattle.plan_flow.specs.Written.WrittenPrograms.{WrittenMethod}
+use Rattle.same_runs.specs.Flats.{flat_item, flat_points, instr_scope}
 use Rattle.same_runs.specs.Laws.ClassInitialisers.{initialiser_named}
 use Rattle.same_runs.specs.Laws.FoundMembers.{FieldLaws}
+use Rattle.same_runs.specs.Laws.Operations.{WorksOnOperands}
+use Rattle.same_runs.specs.SamePrograms.{IsInBoth}
+use Rattle.typed_runs.specs.FolderTypings.{HasFlatTypings}
+use Rattle.typed_runs.specs.TypedFrames.{ConformsTo}
 use Rattle.typed_runs.specs.TypedPrograms.{IsTypedProgram, Typings}
 use Rattle.typed_runs.specs.TypedWorlds.{StaysTyped, TypedWorld}
+use Rattle.written_runs.specs.Inner.PlannedFrames.{IsCarried, IsReached, scope_in}
 use Rattle.written_runs.specs.Inner.Setup.{IsSetup, Setup, first, second}
 use Rattle.written_runs.specs.Laws.AddedConstructors.{AddsToCandidates, first_second_same}
 use Rattle.written_runs.specs.Laws.AloneTurns.{alone_turn}
 use Rattle.written_runs.specs.Laws.BeginningTurns.{beginning_turn}
 use Rattle.written_runs.specs.Laws.BothTurns.{Basis}
+use Rattle.written_runs.specs.Laws.Carried.Knowing.{CarriedLaws}
+use Rattle.written_runs.specs.Laws.Carried.PlannedEdges.{RowsFit}
+use Rattle.written_runs.specs.Laws.ConstructorTexts.{ReadsParameters}
+use Rattle.written_runs.specs.Laws.FirstProgram.{blanks_in_first, of_library, site_class, slots_in_first}
 use Rattle.written_runs.specs.Laws.FreshFrames.{fresh_frames_stand}
 use Rattle.written_runs.specs.Laws.KeptMemories.{TurnsGrow, act_kept, step_kept}
-use Rattle.written_runs.specs.Laws.LibraryFrames.{LibraryLaws, PendsPlanned}
+use Rattle.written_runs.specs.Laws.LibraryFrames.{LibraryLaws}
 use Rattle.written_runs.specs.Laws.LibraryTurns.{library_turn}
+use Rattle.written_runs.specs.Laws.Making.FromSetup.{setup_makes_objects}
 use Rattle.written_runs.specs.Laws.OverTurns.{over_keeps}
 use Rattle.written_runs.specs.Laws.OwnCodes.{own_codes}
 use Rattle.written_runs.specs.Laws.OwnFrames.{FrameLaws, ReturnsToPlanned, UnwindsPlanned}
@@ -30,10 +58,15 @@ use Rattle.written_runs.specs.Laws.PlannedTurns.{PlannedParts, planned_turn}
 use Rattle.written_runs.specs.Laws.SameBoth.{begin_alike}
 use Rattle.written_runs.specs.Laws.Settling.{SettleLaws}
 use Rattle.written_runs.specs.Laws.Simulation.{Parts, runs_the_same}
+use Rattle.written_runs.specs.Laws.Templates.Known.{TemplateLaws}
+use Rattle.written_runs.specs.Laws.TypedEntries.{HasRoomForWide, typed_frame, types_entries}
+use Rattle.written_runs.specs.Laws.WaitingFrames.{waits_alike}
+use Rattle.written_runs.specs.Laws.WrittenCodes.{flat_code_at}
 
 -- ---- what the proof goes on
 
--- Laws of other crates, as these prove them: of member_link on fields, of typed_runs on steps, actions and starts, and of machine_laws on turns.
+-- Laws of other crates, as these prove them: of member_link on fields, of typed_runs on steps, actions and starts, of machine_laws on turns, of plan_flow
+-- on edges, and of class_model on descriptors.
 pub record RunLaws : Type 0 where
   pub fields : FieldLaws
   pub steps : (P : Program) (T : Typings) (w : World) → TypedWorld P T w → StaysTyped P T w (step P w)
@@ -43,19 +76,32 @@ pub record RunLaws : Type 0 where
       → StaysTyped P T w (act P action w)
   pub starts : (P : Program) (T : Typings) → IsTypedProgram P T → TypedWorld P T start
   pub grows : TurnsGrow
+  pub one_effect : (s : PlanScope) → HasOneEffect s
+  pub reads : ReadsParameters
 
 -- The setup, of a folder that is a hierarchy; and field constructors are added only to classes of candidates' chains.
 pub record Grounds (u : Setup) : Type 0 where
   pub setup : IsSetup u
   pub hierarchy : IsHierarchy (headers_of u.classes)
   pub adds : AddsToCandidates u
+  -- the frames of flat codes are those of their typed points
+  pub typings : HasFlatTypings u.flats u.typings
+  pub room : HasRoomForWide u.written
 
 module _ {u : Setup} (grounds : Grounds u) (laws : RunLaws) where
   -- ---- the records
 
-  pub basis : SettleLaws u → Basis u
-  basis settle = record {
-    settle = settle;
+  pub settle_laws : SettleLaws u
+  settle_laws = record {
+    is_setup = grounds.setup;
+    making = setup_makes_objects u grounds.setup grounds.hierarchy grounds.adds laws.reads;
+    one_effect = λ w. laws.one_effect (scope_in u w);
+    types = types_entries u grounds.setup grounds.hierarchy grounds.adds grounds.typings grounds.room;
+  }
+
+  pub basis : Basis u
+  basis = record {
+    settle = settle_laws;
     same = first_second_same u grounds.setup grounds.hierarchy grounds.adds;
     alike = begin_alike grounds.setup grounds.hierarchy grounds.adds;
     steps_typed = λ w typed. laws.steps (first u) u.typings w typed;
@@ -72,10 +118,10 @@ module _ {u : Setup} (grounds : Grounds u) (laws : RunLaws) where
     returns = returns;
   }
 
-  pub turn_laws : SettleLaws u → FrameLaws u → TurnLaws u
-  turn_laws settle frames = record {
+  pub turn_laws : FrameLaws u → TurnLaws u
+  turn_laws frames = record {
     frames = frames;
-    settle = settle;
+    settle = settle_laws;
     alike = begin_alike grounds.setup grounds.hierarchy grounds.adds;
     steps_typed = λ w typed. laws.steps (first u) u.typings w typed;
     keeps = λ w typed goes no_turn. step_kept laws.grows (first u) w goes no_turn;
@@ -83,28 +129,81 @@ module _ {u : Setup} (grounds : Grounds u) (laws : RunLaws) where
     own_ops = λ at place point none there work. own_operations grounds.setup laws.fields grounds.hierarchy at place point none there work;
   }
 
-  pub library_laws : TurnLaws u → PendsPlanned u → LibraryLaws u
-  library_laws turns pends = record {
+  pub library_laws : TurnLaws u → LibraryLaws u
+  library_laws turns = record {
     turns = turns;
     acts_typed = λ w action typed turn. laws.acts (first u) u.typings w action typed turn;
     keeps = λ w action typed goes turn. act_kept laws.grows (first u) w action goes turn;
-    pends = pends;
+    pends = waits_alike u grounds.setup;
+  }
+
+  -- the values of the topmost frame conform to the types of its point
+  conforms : (world : World) (f : MethodState) (rest : List RunFrame) (w : WrittenMethod) (point : Point)
+      → TypedWorld (first u) u.typings world
+      → world.frames ≡ Method f ∷ rest
+      → u.written f.at ≡ Some w
+      → slice_get w.flat.points f.place ≡ Some point
+      → ConformsTo (first u) u.typings world.memory.heap (read_frame w.flat point.typed) f
+  conforms world f rest w point typed stands written there =
+      let found = typed_frame u grounds.setup grounds.typings world f rest w point typed stands written there in
+      record { locals = found.locals; stack = found.stack }
+
+  -- What is left to show of instructions that are written as they are: rows fit the types, and operations are in both programs.
+  pub carried_laws : TurnLaws u
+      → ((at : MethodAt) (w : WrittenMethod) → u.written at ≡ Some w → RowsFit (scope_in u w))
+      → ((at : MethodAt) (w : WrittenMethod) (host : Scope) (place : ℕ) (point : Point) (route : Route)
+      → u.written at ≡ Some w
+      → scope_at u.classes at ≡ Some host
+      → IsReached w place point route
+      → IsCarried u w place point route
+      → WorksOnOperands (item_op u.links (number_at (flat_points u.classes host w.flat)) (instr_scope u.classes host w.flat point.instr) (flat_item point.instr))
+      → IsInBoth (first u) (second u)
+      (item_op u.links (number_at (flat_points u.classes host w.flat)) (instr_scope u.classes host w.flat point.instr) (flat_item point.instr)))
+      → CarriedLaws u
+  carried_laws turns rows_fit in_both = record {
+    turns = turns;
+    flat_code = λ at w host written there. flat_code_at u grounds.setup at w host written there;
+    conforms = conforms;
+    rows_fit = rows_fit;
+    in_both = in_both;
+  }
+
+  -- What is left to show of templates: local units that are Top and stay so.
+  pub template_laws : ((at : MethodAt) (w : WrittenMethod) (place : ℕ) (point : Point) (number : ℕ) (edge : RowEdge) (unit : ℕ) (type : VType)
+      → u.written at ≡ Some w
+      → slice_get w.flat.points place ≡ Some point
+      → slice_get (edges_of place point (row_of_point (scope_in u w) place point)) number ≡ Some edge
+      → slice_get point.typed.locals unit ≡ Some Top
+      → slice_get (row_of_point (scope_in u w) place point).locals unit ≡ Some (from_place unit)
+      → slice_get (local_types w.flat edge.to) unit ≡ Some type
+      → type ≡ Top)
+      → TemplateLaws u
+  template_laws stays_top = record {
+    settle = settle_laws;
+    flat_code = λ at w host written there. flat_code_at u grounds.setup at w host written there;
+    steps_typed = λ w typed. laws.steps (first u) u.typings w typed;
+    conforms = conforms;
+    stays_top = stays_top;
+    slots = slots_in_first grounds.setup;
+    of_library = of_library grounds.setup;
+    site_class = λ at w number site written there. site_class grounds.setup grounds.hierarchy at w number site written there;
+    blanks = blanks_in_first grounds.setup;
   }
 
   -- ---- the theorem
 
-  -- What is left to show, of planned frames: how they settle, unwind, go on behind results, and wait for the library, and what their turns do.
-  module _ (settle : SettleLaws u) (unwinds : UnwindsPlanned u) (returns : ReturnsToPlanned u) (pends : PendsPlanned u) (planned : PlannedParts u) where
+  -- What is left to show, of planned frames: how they unwind and go on behind results, and what their turns do.
+  module _ (unwinds : UnwindsPlanned u) (returns : ReturnsToPlanned u) (planned : PlannedParts u) where
     turns : TurnLaws u
-    turns = turn_laws settle (frame_laws unwinds returns)
+    turns = turn_laws (frame_laws unwinds returns)
 
     parts : Parts u
     parts = record {
-      alone = λ measure one other t class now is. alone_turn u (basis settle) measure one other t class now is;
+      alone = λ measure one other t class now is. alone_turn u basis measure one other t class now is;
       library = λ measure one other t none made made_also ones others is is_also held below.
-          library_turn u (library_laws turns pends) measure one other t none made made_also ones others is is_also held below;
+          library_turn u (library_laws turns) measure one other t none made made_also ones others is is_also held below;
       beginning = λ measure one other t none class ones others is is_also below.
-          beginning_turn u (basis settle) measure one other t none class ones others is is_also below;
+          beginning_turn u basis measure one other t none class ones others is is_also below;
       own = λ measure one other t none f g ones others is is_also in_own below.
           own_turn u turns measure one other t none f g ones others is is_also in_own below;
       planned = λ measure one other t none f g ones others is is_also in_planned settled below low.

@@ -2,19 +2,17 @@
 use Rattle.std.proofs.Common.{◌≡◌, ◌+◌, ◌++◌, ℕ, suc, List, [], ◌∷◌, drop, map, slice_get, Some, option_map, refl, sym, ap, ◌∙◌, arith}
 use Rattle.std.proofs.lemmas.Option.{same_Some}
 use Rattle.std.specs.Prelude.{option_and_then}
-use Rattle.class_model.specs.declared.class_file.MethodAt.{MethodAt}
 use Rattle.flow_code.specs.FlatRoom.{stack_room}
 use Rattle.flow_code.specs.declared.point.FlatInstr.{FlatInstr}
-use Rattle.flow_code.specs.declared.point.FlatInstr.TheVariants.{Of}
 use Rattle.flow_code.specs.declared.point.Point.{Point}
 use Rattle.machine_values.specs.Frames.{MethodState}
 use Rattle.machine_values.specs.Heaps.{Heap}
 use Rattle.machine_values.specs.declared.frame.RunFrame.{RunFrame}
 use Rattle.making_code.specs.Items.{WItem, carried}
 use Rattle.member_link.specs.Machine.Acting.{pending_of}
-use Rattle.member_link.specs.Machine.Codes.{instr_op, item_op, number_at, run_point}
+use Rattle.member_link.specs.Machine.Codes.{item_op, number_at, run_point}
 use Rattle.member_link.specs.Machine.Programs.{Code, Point as RunPoint, code_at, point_at}
-use Rattle.member_link.specs.Scope.{Scope, scope_at}
+use Rattle.member_link.specs.Scope.{scope_at}
 use Rattle.plan_flow.specs.Laws.WrittenBlocks.{block_finished, first_item, first_of, own_of}
 use Rattle.plan_flow.specs.Written.Blocks.{Block, blocks_of, instruction_block}
 use Rattle.plan_flow.specs.Written.Finish.{Finished, end_items, end_of, finish}
