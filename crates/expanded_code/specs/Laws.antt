@@ -1,7 +1,7 @@
 -- What follows from the definitions, stated once for the crates that stand on them. All of it is proved: a reader of the definitions need not
 -- believe it, and may pass it over.
 pub mod Instructions
-pub mod NativeMethods
+pub mod CodedMethods
 pub mod NumberedInstrs
 pub mod SuperChains
 pub mod CutMethods

@@ -1,7 +1,6 @@
 -- The flat code of a method by itself is the method's own code.
-use Rattle.std.proofs.Common.{◌≡◌, ◌==◌, ℕ, zero, suc, ◌+◌, ◌≤◌, ◌<◌, Bool, true, false, List, [], ◌∷◌, ◌++◌, length, map, Option, Some, None, option_map, refl, sym, ap, subst, ◌∙◌, arith, if◌then◌else◌}
+use Rattle.std.proofs.Common.{◌≡◌, ◌==◌, ℕ, zero, suc, ◌+◌, ◌≤◌, Bool, true, false, List, [], ◌∷◌, ◌++◌, length, map, Option, Some, None, refl, sym, ap, subst, ◌∙◌, arith, if◌then◌else◌}
 use Rattle.std.specs.List.{AllByRecursion, flat_map}
-use Rattle.std.proofs.lemmas.Bool.{eq-eqb}
 use Rattle.std.proofs.lemmas.List.{length-map, map-append}
 use Rattle.class_model.specs.Instructions.{targets}
 use Rattle.class_model.specs.Pool.{Constants}
@@ -12,13 +11,12 @@ use Rattle.class_model.specs.declared.instr.Instr.{Instr}
 use Rattle.class_model.specs.declared.instr.Instr.TheVariants.{Nop}
 use Rattle.class_model.specs.declared.instr.Placed.{Placed}
 use Rattle.class_tree.specs.Headers.{Classes}
-use Rattle.expanded_code.specs.Alone.{alone_points, flat_alone, handler_of, handlers_at, number_in}
+use Rattle.expanded_code.specs.Alone.{alone_points, flat_alone, handler_of, number_in}
 use Rattle.expanded_code.specs.Alone as alone
 use Rattle.expanded_code.specs.Laws.NumberedInstrs.{found-instr, length-alone, number-within, or_behind}
 use Rattle.flow_code.specs.FlatCode.{FlatCode}
 use Rattle.flow_code.specs.FlatRoom.{stack_room}
 use Rattle.flow_code.specs.declared.handlers.FlatHandler.{FlatHandler}
-use Rattle.flow_code.specs.declared.point.Point.{Point as FlatPoint}
 use Rattle.member_link.specs.Laws.Renumbered.{IsSamePoint, op_renumbered}
 use Rattle.member_link.specs.Machine.Codes.{CodePoint, catch_in, catches_at, code_points, covers, instr_op, method_code, number_at, code_point, renumbered, run_point}
 use Rattle.member_link.specs.Machine.Programs.{Catch, Code, Links, Point, number_of_first}
@@ -26,35 +24,16 @@ use Rattle.member_link.specs.Machine.Replaced.{map_numbered}
 use Rattle.member_link.specs.RowScope.{RowScope}
 use Rattle.member_link.specs.Scope.{Scope, class_of_new, instructions, row_scope}
 use Rattle.member_link.specs.Targets.{with_targets}
+use Rattle.same_runs.specs.Laws.FlatRuns.{number_stays}
 use Rattle.same_runs.specs.Flats.{class_of_flat_new, flat_catch, flat_code, flat_point, flat_points, pool_of}
 
 -- ---- numbers
-
-differ : (m n : ℕ) → m < n → (m == n) ≡ false
-differ m n less = grind (arith)
 
 -- the first point at a place is the first instruction there
 pub first-placed : (f : Placed → CodePoint) → ((p : Placed) → (f p).place ≡ p.at) → (at : ℕ) (instrs : List Placed)
     → number_of_first (λ (point : CodePoint). point.place == at) (map f instrs) ≡ number_of_first (λ (placed : Placed). placed.at == at) instrs
 first-placed f stands at [] = refl
 first-placed f stands at (placed ∷ instrs) = rw (stands placed, first-placed f stands at instrs) refl
-
--- a point is found by its number
-pub first-numbered : (f : ℕ → FlatPoint → CodePoint) → ((n : ℕ) (p : FlatPoint) → (f n p).place ≡ n) → (first : ℕ) (points : List FlatPoint) (to : ℕ) → to ≤ length points
-    → or_behind (length points) (number_of_first (λ (point : CodePoint). point.place == first + to) (map_numbered f first points)) ≡ to
-first-numbered f stands first [] to within = omega arith
-first-numbered f stands first (point ∷ points) zero within = rw (stands first point, eq-eqb first (first + 0) (omega arith)) refl
-first-numbered f stands first (point ∷ points) (suc to) within =
-    let moved : suc first + to ≡ first + suc to = omega arith in
-    let rest = subst (λ (n : ℕ). or_behind (length points) (number_of_first (λ (point : CodePoint). point.place == n) (map_numbered f (suc first) points)) ≡ to) moved (first-numbered f stands (suc first) points to (omega arith)) in
-    rw (stands first point, differ first (first + suc to) (omega arith)) (one-more (number_of_first (λ (point : CodePoint). point.place == first + suc to) (map_numbered f (suc first) points)) rest) where
-      one-more : (found : Option ℕ) → or_behind (length points) found ≡ to → or_behind (suc (length points)) (option_map suc found) ≡ suc to
-      one-more None is = ap suc is
-      one-more (Some number) is = ap suc is
-
-pub length-numbered : (f : ℕ → FlatPoint → CodePoint) (first : ℕ) (points : List FlatPoint) → length (map_numbered f first points) ≡ length points
-length-numbered f first [] = refl
-length-numbered f first (point ∷ points) = ap suc (length-numbered f (suc first) points)
 
 -- the number of a point in these words
 pub found-point : (points : List CodePoint) (place : ℕ) (found : Option ℕ) → number_of_first (λ (point : CodePoint). point.place == place) points ≡ found → number_at points place ≡ or_behind (length points) found
@@ -136,12 +115,8 @@ module _ (classes : Classes) (links : Links) (s : Scope) (at : MethodAt) (frames
       let points = alone_points s at.class instrs frames in
       let all = flat_points classes s flat in
       let long : length points ≡ length instrs = length-alone s at.class instrs frames one-each in
-      let zero-add : 0 + number ≡ number = omega arith in
-      let found = number_of_first (λ (point : CodePoint). point.place == number) all in
-      let first = subst (λ (n : ℕ). or_behind (length points) (number_of_first (λ (point : CodePoint). point.place == n) all) ≡ number) zero-add
-      (first-numbered (flat_point classes s flat) (λ n p. refl) zero points number (subst (λ (n : ℕ). number ≤ n) (sym long) (number-within instrs t))) in
       let flats : number_at all number ≡ number =
-      found-point all number found refl ∙ ap (λ (n : ℕ). or_behind n found) (length-numbered (flat_point classes s flat) zero points) ∙ first in
+      number_stays classes s flat number (subst (λ (n : ℕ). number ≤ n) (sym long) (number-within instrs t)) in
       let places = number_of_first (λ (placed : Placed). placed.at == t) instrs in
       let own : number_at (code_points s) t ≡ number =
       found-point (code_points s) t places (first-placed (code_point s) (λ p. refl) t instrs) ∙ ap (λ (n : ℕ). or_behind n places) (length-map instrs (code_point s)) ∙ sym (found-instr instrs t places refl) in

@@ -5,7 +5,6 @@ pub mod Standings
 pub mod StandingLaws
 pub mod Setup
 mod FlatOps
-pub mod NativeMethods
 pub mod FlatCodes
 mod FlatHandlers
 mod MovedOps
@@ -33,14 +32,12 @@ mod StandingCodes
 mod StandingUnwinds
 mod StandingBegins
 mod StandingMoves
-mod ClassInitialisers
 mod StandingFrames
 pub mod LinkedInstrs
 pub mod CalledNames
 pub mod FlatSites
 pub mod SiteInitialisers
 pub mod Bars
-mod CodedMethods
 pub mod CallTargets
 pub mod FolderReceivers
 mod CallChoices

@@ -58,3 +58,14 @@ pub mod Stored
 pub mod ShiftedUnits
 pub mod Moved
 pub mod MovedAlike
+pub mod Numbered
+pub mod Scopes
+pub mod MethodPoints
+pub mod Turns
+pub mod BothTurns
+pub mod AloneRuns
+pub mod ClassInitialisers
+pub mod InstrOps
+pub mod KeptFinals
+pub mod FlatRuns
+pub mod FoundMembers

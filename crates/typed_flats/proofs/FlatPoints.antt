@@ -1,9 +1,9 @@
 -- The points of flat code that its typed points type, as points that their frames fit.
-use Rattle.std.proofs.Common.{◌≡◌, ◌==◌, ◌&&◌, ◌+◌, ◌-◌, ℕ, zero, suc, Bool, true, false, List, [], ◌∷◌, drop, length, map, slice_get, Option, Some, None, option_map, IfSome, is_some, refl, sym, ap, subst, ◌∙◌, arith, if◌then◌else◌, inl}
+use Rattle.std.proofs.Common.{◌≡◌, ◌==◌, ◌&&◌, ◌+◌, ◌-◌, ℕ, zero, suc, Bool, true, false, List, [], ◌∷◌, drop, length, map, Option, Some, None, option_map, IfSome, is_some, refl, sym, ap, subst, ◌∙◌, arith, if◌then◌else◌, inl}
 use Rattle.std.specs.List.{AllByRecursion}
 use Rattle.std.proofs.lemmas.Bool.{and_parts}
 use Rattle.std.proofs.lemmas.List.{length-map}
-use Rattle.std.proofs.lemmas.Option.{none-some, slice_get-map}
+use Rattle.std.proofs.lemmas.Option.{slice_get-map, slice_get_within}
 use Rattle.class_model.specs.Laws.Lists.{AllByRecursion-weaker, at_index}
 use Rattle.class_model.specs.Descriptors.{parameters_of}
 use Rattle.class_model.specs.Header.{method_member}
@@ -26,10 +26,9 @@ use Rattle.member_link.specs.Bodies.{catch_frame, item_falls_through, item_targe
 use Rattle.member_link.specs.BodyTyping.{MayGoTo, RowHolds}
 use Rattle.member_link.specs.Machine.CallSteps.{is_object_init}
 use Rattle.member_link.specs.Machine.Classes.{program_of}
-use Rattle.member_link.specs.Machine.Codes.{CodePoint, call_op, instr_op, item_op, number_at, or_meaningless, renumbered, run_point, special_start}
+use Rattle.member_link.specs.Machine.Codes.{call_op, instr_op, item_op, number_at, or_meaningless, renumbered, run_point, special_start}
 use Rattle.member_link.specs.Machine.Ops.{Op, return_nothing}
-use Rattle.member_link.specs.Machine.Programs.{Links, Program, number_of_first}
-use Rattle.member_link.specs.Machine.Replaced.{map_numbered}
+use Rattle.member_link.specs.Machine.Programs.{Links, Program}
 use Rattle.member_link.specs.References.{Reference}
 use Rattle.member_link.specs.RowScope.{RowScope}
 use Rattle.member_link.specs.Rows.MemberRows.{receiver}
@@ -41,6 +40,7 @@ use Rattle.member_link.specs.Signatures.{reference_of}
 use Rattle.same_runs.specs.FlatBodies.{caught_class}
 use Rattle.same_runs.specs.Flats.{class_of_flat_new, flat_catch, flat_item, flat_point, flat_points, host_scope, instr_scope, pool_of}
 use Rattle.same_runs.specs.ReadyCode.{IsReadyCode, IsReadyItem}
+use Rattle.same_runs.specs.Laws.FlatRuns.{number_stays}
 use Rattle.same_runs.specs.TypedFlats.{MayGoToPoint, TypesPoint, read_row, reading_of, reading_of_call, reading_of_new}
 use Rattle.typed_flats.proofs.MovedClasses.{if_weaker}
 use Rattle.typed_flats.specs.FlatTypings.{SitesAreNews, flat_typing}
@@ -53,25 +53,6 @@ same_number a b is = search arith
 -- ---- numbers of points stay
 
 module _ (classes : Classes) (s : Scope) (flat : FlatCode) where
-  first_at : (start n : ℕ) (points : List FlatPoint) (point : FlatPoint) → slice_get points n ≡ Some point
-      → number_of_first (λ (p : CodePoint). p.place == start + n) (map_numbered (flat_point classes s flat) start points) ≡ Some n
-  first_at start n [] point is = absurd (none-some point is)
-  first_at start zero (p ∷ ps) point is = let here : (start == start + 0) ≡ true = search arith in rw here refl
-  first_at start (suc n) (p ∷ ps) point is =
-      let apart : (start == start + suc n) ≡ false = search arith in
-      let same : suc start + n ≡ start + suc n = omega arith in
-      let rest = subst (λ (place : ℕ). number_of_first (λ (p : CodePoint). p.place == place) (map_numbered (flat_point classes s flat) (suc start) ps) ≡ Some n)
-      same (first_at (suc start) n ps point is) in
-      rw apart (ap (option_map suc) rest)
-
-  pub number_stays : (n : ℕ) (point : FlatPoint) → point_at flat n ≡ Some point → number_at (flat_points classes s flat) n ≡ n
-  number_stays n point is =
-      let none : 0 + n ≡ n = omega arith in
-      let found : number_of_first (λ (p : CodePoint). p.place == n) (flat_points classes s flat) ≡ Some n =
-      subst (λ (place : ℕ). number_of_first (λ (p : CodePoint). p.place == place) (flat_points classes s flat) ≡ Some n) none
-      (first_at zero n flat.points point is) in
-      rw found refl
-
   -- ---- where control goes
 
   abbrev pub t : Typing
@@ -89,7 +70,7 @@ module _ (classes : Classes) (s : Scope) (flat : FlatCode) where
           ∙ ap (option_map (λ (p : FlatPoint). read_frame flat p.typed)) e;
       assignable = goes;
     },
-    number_stays number point e,
+    number_stays classes s flat number (let there = slice_get_within flat.points number point e in omega (arith, there)),
   )
 
   pub goes_leads : (number : ℕ) (frame : Frame) → MayGoToPoint classes s flat (Some frame) number

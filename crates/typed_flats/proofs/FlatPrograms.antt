@@ -1,9 +1,8 @@
 -- Methods that run flat code are typed by its typed points.
-use Rattle.std.proofs.Common.{◌≡◌, ℕ, zero, suc, Bool, true, false, List, [], ◌∷◌, length, slice_get, Option, Some, None, option_map, refl, sym, ap, subst, ◌∙◌, if◌then◌else◌}
+use Rattle.std.proofs.Common.{◌≡◌, ℕ, zero, slice_get, Option, Some, None, option_map, refl, sym, ap, subst, ◌∙◌}
 use Rattle.std.proofs.lemmas.List.{length-map}
 use Rattle.std.proofs.lemmas.Option.{none-some, same_Some, slice_get-map}
 use Rattle.class_model.specs.Header.{method_member}
-use Rattle.class_model.specs.Members.{NATIVE, has}
 use Rattle.class_model.specs.declared.class_file.MethodAt.{MethodAt}
 use Rattle.class_model.specs.declared.header.Member.{Member}
 use Rattle.class_tree.specs.Headers.{Classes, headers_of}
@@ -15,34 +14,24 @@ use Rattle.flow_code.specs.declared.point.Point.{Point as FlatPoint}
 use Rattle.member_link.specs.Machine.Classes.{program_of, run_method_of}
 use Rattle.member_link.specs.Machine.Codes.{number_at, run_point}
 use Rattle.member_link.specs.Machine.Programs.{Code, Links, Point, RunMethod, code_run, run_method}
-use Rattle.member_link.specs.Machine.Replaced.{Replacement, map_numbered, replaced, with_body}
+use Rattle.member_link.specs.Machine.Replaced.{Replacement, replaced, with_body}
 use Rattle.member_link.specs.Scope.{Scope, scope_at}
 use Rattle.same_runs.specs.ClearedFields.{ReplacesByFlats}
 use Rattle.same_runs.specs.Flats.{Flats, flat_body, flat_code, flat_point, flat_points}
+use Rattle.same_runs.specs.Laws.Numbered.{from_zero, length_numbered}
+use Rattle.same_runs.specs.Laws.ReplacedPrograms.{body_is}
+use Rattle.same_runs.specs.Laws.Scopes.{IsScopeAt, own_run, program_headers, scope_is_at}
 use Rattle.same_runs.specs.ReadyCode.{IsReadyCode}
-use Rattle.typed_flats.proofs.FlatMethods.{IsScopeAt, entry_is, method_there, own_class, own_name, program_headers, scope_is_at}
+use Rattle.typed_flats.proofs.FlatMethods.{entry_is, own_class, own_name}
 use Rattle.typed_flats.proofs.FlatPoints.{flat_point_typed, goes_leads}
 use Rattle.typed_flats.proofs.GrownLaws.{GrownLaws}
 use Rattle.typed_flats.proofs.MovedPoints.{replaced_typed}
-use Rattle.typed_flats.proofs.Numbered.{from_zero}
 use Rattle.typed_flats.specs.FlatTypings.{AreReady, SitesAreNews, flat_typing, flat_typings}
 use Rattle.typed_flats.specs.TypedReplacements.{TypesCodes, all_typed_in}
 use Rattle.typed_runs.specs.FolderTypings.{HasFlatTypings}
 use Rattle.typed_runs.specs.LinkedInstrs.{LinksInstrs}
 use Rattle.typed_runs.specs.TypedPoints.{LeadsTo, TypedPoint}
 use Rattle.typed_runs.specs.TypedPrograms.{IsTypedMethod, IsTypedProgram, Typings}
-
-length_numbered : {A B : Type 0} (change : ℕ → A → B) (number : ℕ) (items : List A) → length (map_numbered change number items) ≡ length items
-length_numbered change number [] = refl
-length_numbered change number (item ∷ items) = ap suc (length_numbered change (suc number) items)
-
--- the code of a method is another one where it has code
-body_is : (method : RunMethod) (body code : Code) → code_run (with_body method (Some body)) ≡ Some code → code ≡ body
-body_is method body code runs = by (has method.member.flags NATIVE) method.code runs where
-  by : (native : Bool) (own : Option Code) → (if native then None else option_map (λ (old : Code). body) own) ≡ Some code → code ≡ body
-  by true own e = absurd (none-some code e)
-  by false None e = absurd (none-some code e)
-  by false (Some old) e = sym (same_Some body code e)
 
 module _ (classes : Classes) (links : Links) (tree : IsTree classes) (instrs : LinksInstrs (program_of classes links) classes)
     (hierarchy : IsHierarchy (headers_of classes)) where
@@ -101,7 +90,7 @@ module _ (classes : Classes) (links : Links) (tree : IsTree classes) (instrs : L
           (subst (λ (x : Scope). IsReadyCode classes x flat) (same_Some stated.scope s (sym stated.is_scope ∙ f)) stated.ready) stated.sites in
           let here : method_member s.class.pool s.method ≡ method.member =
           ap (λ (m : RunMethod). m.member) (same_Some (run_method_of links (headers_of classes) s.class s.method) method
-          (sym (method_there classes links at s known) ∙ is)) in
+          (sym (own_run classes links at s known) ∙ is)) in
           rw (e, f)
           (subst (λ (member : Member). IsTypedMethod (program_of classes links) at member code (flat_typing classes s flat)) here
           (subst (λ (c : Code). IsTypedMethod (program_of classes links) at (method_member s.class.pool s.method) c (flat_typing classes s flat))

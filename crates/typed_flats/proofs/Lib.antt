@@ -1,4 +1,3 @@
-mod Numbered
 mod ReplacedClasses
 mod GrownLaws
 mod GrownScopes

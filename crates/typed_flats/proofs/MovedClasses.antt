@@ -16,11 +16,11 @@ use Rattle.member_link.specs.Forms.{IsInstantiable}
 use Rattle.member_link.specs.Machine.Programs.{Program, RunClass, RunMethod, folder_number, header_named, headers_in, is_interface_named}
 use Rattle.member_link.specs.Machine.Replaced.{Replacement, field_cleared, map_numbered, replaced, replaced_class}
 use Rattle.member_link.specs.References.{IsNamedThere, element_class}
+use Rattle.same_runs.specs.Laws.Numbered.{methods_are, replaced_at}
 use Rattle.same_runs.specs.Laws.Programs.{SameNamed, named_both, same_field_desc, same_header, same_interface, same_number}
 use Rattle.same_runs.specs.Laws.ReplacedPrograms.{members_same, static_stays}
 use Rattle.typed_flats.proofs.GrownLaws.{GrownLaws}
 use Rattle.typed_flats.proofs.MovedLinks.{same_shapes}
-use Rattle.typed_flats.proofs.Numbered.{methods_are, replaced_at}
 use Rattle.typed_flats.proofs.ReplacedClasses.{class_in, same_program}
 use Rattle.typed_runs.specs.TypedPoints.{IsOfLibrary}
 use Rattle.typed_runs.specs.TypedPrograms.{FitsFlags, FitsStart, HasBase, IsTypedClass, IsTypedProgram, IsTypedStart, Typings}
@@ -119,7 +119,7 @@ module _ {P : Program} {T : Typings} (typed : IsTypedProgram P T) (r : Replaceme
 
   pub moved_classes : (number : ℕ) (class : RunClass) → slice_get (replaced P r).classes number ≡ Some class
       → IsTypedClass (replaced P r) number class
-  moved_classes number class there = by (slice_get P.classes number) refl (sym (replaced_at P r none number) ∙ there) where
+  moved_classes number class there = by (slice_get P.classes number) refl (sym (replaced_at P r number) ∙ there) where
     by : (found : Option RunClass) → slice_get P.classes number ≡ found → option_map (replaced_class r number) found ≡ Some class
         → IsTypedClass (replaced P r) number class
     by None e is = absurd (none-some class is)

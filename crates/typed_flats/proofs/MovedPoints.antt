@@ -14,6 +14,7 @@ use Rattle.member_link.specs.Machine.Programs.{Code, Point, Program, RunMethod, 
 use Rattle.member_link.specs.Machine.Replaced.{Replacement, replaced, with_body}
 use Rattle.member_link.specs.Rows.FrameAssignability.{IsFrameAssignable}
 use Rattle.member_link.specs.Rows.Row.{row_frame}
+use Rattle.same_runs.specs.Laws.Numbered.{replaced_run}
 use Rattle.same_runs.specs.Laws.Programs.{same_name}
 use Rattle.same_runs.specs.Laws.ReplacedPrograms.{body_member}
 use Rattle.typed_flats.proofs.MovedClasses.{if_weaker, moved_base, moved_classes}
@@ -21,7 +22,6 @@ use Rattle.typed_flats.proofs.GrownLaws.{GrownLaws}
 use Rattle.typed_flats.proofs.GrownScopes.{scope_grown, scope_in}
 use Rattle.typed_flats.proofs.MovedLinks.{moved_frame, moved_hierarchy, moved_links}
 use Rattle.typed_flats.proofs.MovedOps.{moved_call, moved_op, same_op}
-use Rattle.typed_flats.proofs.Numbered.{replaced_run}
 use Rattle.typed_flats.proofs.ReplacedClasses.{same_program}
 use Rattle.typed_flats.specs.TypedReplacements.{TypesCodes, all_typed_in, typed_in}
 use Rattle.typed_runs.specs.TypedPoints.{LeadsTo, LeadsToHandler, TypedPoint, Typing, row_at}

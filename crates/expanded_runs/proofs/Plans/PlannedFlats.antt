@@ -30,7 +30,6 @@ use Rattle.expanded_runs.proofs.Plans.FewTargets.{targets_few}
 use Rattle.expanded_runs.proofs.Plans.FlatEnds.{StopsSo, alone_ends, expanded_ends, flows_inside, typed_stops}
 use Rattle.expanded_runs.proofs.Plans.FlatPoints.{AreLong, AreNarrow, HasRoomFor, HaveFewTargets, IsNarrowAt, IsNarrowCode, alone_narrow, expanded_narrow, handlers_few}
 use Rattle.expanded_runs.proofs.Plans.TakenClasses.{IsFew}
-use Rattle.expanded_runs.proofs.Runs.NativeMethods.{scope_is_at}
 use Rattle.expanded_runs.proofs.Types.FirstFrames.{frames_long}
 use Rattle.expanded_runs.proofs.Types.OwnPoints.{TypingLaws}
 use Rattle.expanded_runs.proofs.Types.Units.{le_cases}
@@ -41,6 +40,7 @@ use Rattle.flow_code.specs.declared.point.Point.{Point}
 use Rattle.member_link.specs.Scope.{Scope, instructions}
 use Rattle.plan_flow.specs.Narrow.{IsNarrow, IsNarrowPoint}
 use Rattle.plan_flow.specs.Plans.{FlowsInside}
+use Rattle.same_runs.specs.Laws.Scopes.{scope_is_at}
 use Rattle.type_rules.specs.MethodBodies.{body_of}
 use Rattle.type_rules.specs.Typed.{TypesBody}
 use Rattle.type_rules.specs.Verified.{TypesFolder, TypesMethod}

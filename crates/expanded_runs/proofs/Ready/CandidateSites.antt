@@ -26,7 +26,6 @@ use Rattle.expanded_runs.proofs.Ready.PointKinds.{OwnKind, entries_have, own_kin
 use Rattle.expanded_runs.proofs.Runs.CalleeLaws.{site_makes}
 use Rattle.expanded_runs.proofs.Runs.FlatSites.{site_at}
 use Rattle.expanded_runs.proofs.Runs.LinkedInstrs.{EachInstrTyped}
-use Rattle.expanded_runs.proofs.Runs.NativeMethods.{scope_is_at}
 use Rattle.expanded_runs.proofs.Runs.Positions.{Becomes, Standing, becomes, block_of, instrs_of, makes_site, scope_of, start_of}
 use Rattle.expanded_runs.proofs.Runs.Setup.{IsSetup, Setup}
 use Rattle.expanded_runs.proofs.Runs.SiteInitialisers.{initialiser_of_site, this_in_init}
@@ -45,6 +44,7 @@ use Rattle.member_link.specs.FieldConstructors.{field_types}
 use Rattle.member_link.specs.Fields.{FindsField}
 use Rattle.member_link.specs.Scope.{instructions, is_init}
 use Rattle.member_link.specs.Signatures.{reference_of}
+use Rattle.same_runs.specs.Laws.Scopes.{scope_is_at}
 
 -- ---- stores
 

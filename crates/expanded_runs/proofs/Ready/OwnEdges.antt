@@ -28,10 +28,8 @@ use Rattle.expanded_runs.proofs.Ready.Catches.{frame_there, handlers_kept}
 use Rattle.expanded_runs.proofs.Ready.Comes.{FrameThere, GoesKept, KeepsTo, edges_kept}
 use Rattle.expanded_runs.proofs.Ready.OwnRows.{SameWidth, row_keeps}
 use Rattle.expanded_runs.proofs.Ready.RowKeeps.{RowKeeps, goes_kept, went}
-use Rattle.expanded_runs.proofs.Runs.Bars.{never}
 use Rattle.expanded_runs.proofs.Runs.CallLaws.{CallLaws}
 use Rattle.expanded_runs.proofs.Runs.LinkedInstrs.{linked_instr}
-use Rattle.expanded_runs.proofs.Runs.NativeMethods.{scope_is_at}
 use Rattle.expanded_runs.proofs.Runs.PositionLaws.{next_start, width}
 use Rattle.expanded_runs.proofs.Runs.Positions.{Becomes, Standing, becomes, frames_of, instrs_of, scope_of, start_of}
 use Rattle.expanded_runs.proofs.Runs.Setup.{IsSetup, Setup, before}
@@ -65,6 +63,8 @@ use Rattle.plan_flow.specs.PlanRows.{PlanRow}
 use Rattle.plan_flow.specs.PlanScope.{PlanScope, pool_of, scope_of as plan_scope}
 use Rattle.plan_flow.specs.PlanTable.{edges_of}
 use Rattle.plan_flow.specs.ReadyForPlans.{KeepsAlong}
+use Rattle.same_runs.specs.Laws.KeptFinals.{never}
+use Rattle.same_runs.specs.Laws.Scopes.{scope_is_at}
 use Rattle.type_rules.specs.MethodBodies.{body_of, point_of}
 use Rattle.typed_runs.specs.TypedPoints.{IsLinkedOp}
 

@@ -34,7 +34,6 @@ use Rattle.expanded_runs.proofs.Ready.DecodedForms.{decoded_forms, keys_same}
 use Rattle.expanded_runs.proofs.Ready.LinkedUses.{uses_same, uses_set}
 use Rattle.expanded_runs.proofs.Ready.PointKinds.{HasNarrowing, OwnKind, entries_have, own_kind, own_returns, own_stays, returns_have}
 use Rattle.expanded_runs.proofs.Runs.ArgumentRoom.{arguments_fit}
-use Rattle.expanded_runs.proofs.Runs.NativeMethods.{IsScopeAt, scope_is_at}
 use Rattle.expanded_runs.proofs.Runs.Positions.{Standing, block_of, host_standing, inner_standing, instrs_of, scope_of}
 use Rattle.expanded_runs.proofs.Runs.Setup.{IsSetup, Setup}
 use Rattle.expanded_runs.proofs.Runs.StandingLaws.{stands_so}
@@ -52,6 +51,7 @@ use Rattle.member_link.specs.Scope.{Scope, instructions, own_descriptor}
 use Rattle.member_link.specs.Targets.{HasForm, pair_to}
 use Rattle.member_link.specs.Uses.{instr_use_checks}
 use Rattle.same_runs.specs.Laws.ComeFirst.{all_appended}
+use Rattle.same_runs.specs.Laws.Scopes.{IsScopeAt, scope_is_at}
 use Rattle.same_runs.specs.ReadyCode.{IsReadyItem}
 use Rattle.expanded_runs.proofs.Types.StoredUnits.{last_reversed}
 use Rattle.std.specs.Int.{w32}

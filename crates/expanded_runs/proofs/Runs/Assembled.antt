@@ -21,7 +21,7 @@ use Rattle.expanded_code.specs.Expanded.{expanded}
 use Rattle.expanded_code.specs.Expansions.{Coded, Expands, Expansion}
 use Rattle.expanded_code.specs.Sites.{HasFrames}
 use Rattle.expanded_runs.proofs.AloneProgram.{EachTyped, OneEach}
-use Rattle.expanded_runs.proofs.Runs.Bars.{BarLaws, bars_alike, own_bar, own_static_bar}
+use Rattle.expanded_runs.proofs.Runs.Bars.{BarLaws, bars_alike, own_stores}
 use Rattle.expanded_runs.proofs.Runs.CallLaws.{CallLaws}
 use Rattle.expanded_runs.proofs.Runs.CallTargets.{AreRead, RunsCode, runs_code}
 use Rattle.expanded_runs.proofs.Runs.CalleeLaws.{Callee, CodeLaws, replaced_callee}
@@ -32,7 +32,7 @@ use Rattle.expanded_runs.proofs.Runs.FlatOpLaws.{Bars, at_place, host_catches_at
 use Rattle.expanded_runs.proofs.Runs.FlatOps.{AtPlace, own_result}
 use Rattle.expanded_runs.proofs.Runs.FlatPoints.{catches_there, flat_code_at, host_code, host_expands, host_flat, host_frames}
 use Rattle.expanded_runs.proofs.Runs.OpTurns.{does_of}
-use Rattle.expanded_runs.proofs.Runs.OwnOps.{OwnBars, own_point_in_both}
+use Rattle.expanded_runs.proofs.Runs.OwnOps.{own_point_in_both}
 use Rattle.expanded_runs.proofs.Runs.OwnTurns.{OwnParts}
 use Rattle.expanded_runs.proofs.Runs.Positions.{IsReplacedAt, Standing, instrs_of}
 use Rattle.expanded_runs.proofs.Runs.ReplacedCallLaws.{replaced_call}
@@ -213,16 +213,10 @@ module _ (u : Setup) (is : IsSetup u) (laws : RunLaws) where
         chain p k placed frame g inner standing here;
   }
 
-  own_bars : OwnBars u
-  own_bars = record {
-    fields = λ at s number placed index r scope there stores names. own_bar u is laws.bars at s number placed index r scope there stores names;
-    statics = λ at s number placed index r scope there stores names. own_static_bar u is laws.bars at s number placed index r scope there stores names;
-  }
-
   own : OwnParts u
   own = record {
     points = λ names f g point in_own is_point.
-        let both = own_point_in_both u is own_bars f.at in_own.no_flat f.place point is_point in
+        let both = own_point_in_both u is f.at (own_stores u is laws.bars f.at) in_own.no_flat f.place point is_point in
         (ap (λ (m : MethodAt). point_at Q m g.place) in_own.at ∙ ap (point_at Q f.at) in_own.place ∙ both.0, λ work. same_op both.1);
   }
 

@@ -23,7 +23,7 @@ use Rattle.class_tree.specs.Order.{first_place, member_place, place_of}
 use Rattle.class_tree.specs.declared.place.Place.TheVariants.{Folder, Library}
 use Rattle.code_bytes.specs.Consecutive.{AreConsecutive}
 use Rattle.expanded_code.specs.Callees.{StandsAt, own_name}
-use Rattle.expanded_runs.proofs.Runs.CodedMethods.{IsConcrete, IsCoded, class_coded}
+use Rattle.expanded_code.specs.Laws.CodedMethods.{IsConcrete, IsCoded, class_coded}
 use Rattle.member_link.specs.Bodies.{item_instr}
 use Rattle.member_link.specs.CodedMethods.{placed_at}
 use Rattle.member_link.specs.DeclaredMembers.{Declared}

@@ -13,7 +13,6 @@ use Rattle.class_model.specs.declared.header.Header.{Header}
 use Rattle.class_model.specs.declared.header.Member.{Member}
 use Rattle.class_tree.specs.Headers.{Classes, Headers, Name, class_named}
 use Rattle.expanded_code.specs.Callees.{Finds, Runs, StandsAt, own_name, runs_special, runs_static, runs_virtual}
-use Rattle.expanded_runs.proofs.Runs.NativeMethods.{scope_is_at}
 use Rattle.member_link.specs.DeclaredMembers.{Declared, declared, declared_by}
 use Rattle.member_link.specs.Machine.Links.{reference_to}
 use Rattle.member_link.specs.Methods.{FindsMethod, first_named, initialiser, of_array, of_class, polymorphic}
@@ -22,6 +21,7 @@ use Rattle.member_link.specs.Scope.{Scope, is_clinit, is_init, scope_at}
 use Rattle.member_link.specs.Selection.{Choice, Selects, abstract_choice, choice_of, chosen_method, of_initialiser, of_special}
 use Rattle.member_link.specs.declared.selection.CallForm.TheVariants.{Special}
 use Rattle.same_runs.specs.Laws.NoInitLinks.{method_name, selects_name}
+use Rattle.same_runs.specs.Laws.Scopes.{scope_is_at}
 
 -- ---- the method that runs
 

@@ -1,10 +1,9 @@
 -- What is known of the instructions of methods that stand in flat code, and of their operations in the folder's program.
-use Rattle.std.proofs.Common.{◌≡◌, ◌==◌, ◌<◌, ℕ, zero, suc, true, false, List, [], ◌∷◌, slice_get, bytes_eq, Option, Some, None, option_map, IsSome, refl, sym, ap, subst, ◌∙◌, arith, inl, inr, if◌then◌else◌}
+use Rattle.std.proofs.Common.{◌≡◌, ◌==◌, ◌<◌, ℕ, zero, suc, true, false, List, [], ◌∷◌, slice_get, Option, Some, None, option_map, IsSome, refl, sym, ap, subst, ◌∙◌, arith, if◌then◌else◌}
 use Rattle.std.specs.Prelude.{option_and_then}
 use Rattle.std.proofs.lemmas.Option.{none-some, same_Some}
-use Rattle.std.proofs.lemmas.Slice.Eq.{bytes_eq-Decides}
 use Rattle.std.specs.List.{AllByRecursion}
-use Rattle.std.specs.Prelude.{Result, Ok, Err, codes, ◌⊎◌}
+use Rattle.std.specs.Prelude.{Result, Ok, Err}
 use Rattle.class_model.specs.Checks.{Fault}
 use Rattle.class_model.specs.ClassOf.{ClassOf}
 use Rattle.class_model.specs.Code.{OperandFits}
@@ -20,35 +19,31 @@ use Rattle.class_model.specs.declared.class_file.CodePart.{CodePart}
 use Rattle.class_model.specs.declared.class_file.Method.{Method}
 use Rattle.class_model.specs.declared.class_file.MethodAt.{MethodAt}
 use Rattle.class_model.specs.declared.frame.Frame.{Frame}
-use Rattle.class_model.specs.declared.header.Header.{Header}
-use Rattle.class_model.specs.declared.header.Member.{Member}
 use Rattle.class_model.specs.declared.instr.Instr.{Instr}
 use Rattle.class_model.specs.declared.instr.Instr.TheVariants.{Invoke, New}
 use Rattle.class_model.specs.declared.instr.Placed.{Placed}
 use Rattle.class_model.specs.declared.opcodes.TheConstants.{INVOKESPECIAL}
-use Rattle.class_tree.specs.Headers.{Headers, IsClassFile, Name, class_named, headers_of}
+use Rattle.class_tree.specs.Headers.{IsClassFile, Name, headers_of}
 use Rattle.code_bytes.specs.Codes.{HasOperands, HasReadOperands, HaveOperands}
 use Rattle.expanded_code.specs.Alone.{number_in}
 use Rattle.expanded_code.specs.Callees.{IsCallee, MayStandIn, is_callee}
 use Rattle.expanded_code.specs.Expansions.{Coded}
 use Rattle.expanded_code.specs.Sites.{HasFrames, IsReplaced, IsSite}
-use Rattle.expanded_runs.proofs.Runs.FlatCodes.{code_before, own_point, own_run, point_before}
-use Rattle.expanded_runs.proofs.Runs.NativeMethods.{scope_is_at}
+use Rattle.expanded_runs.proofs.Runs.FlatCodes.{code_before, own_point, point_before}
 use Rattle.expanded_runs.proofs.Runs.Setup.{IsSetup, Setup, before}
 use Rattle.member_link.specs.BodyTyping.{AreInOrder}
-use Rattle.member_link.specs.DeclaredMembers.{Declared, declared, own_method}
-use Rattle.member_link.specs.Forms.{IsInstanceForm}
 use Rattle.member_link.specs.Machine.Classes.{run_method_of}
 use Rattle.member_link.specs.Machine.Codes.{call_op, instr_op, method_code, or_meaningless, special_start}
 use Rattle.member_link.specs.Machine.Ops.{call_special}
-use Rattle.member_link.specs.Machine.Programs.{Code, Point, Program, code_run, first_member, headers_in, method_of, point_at}
-use Rattle.member_link.specs.Methods.{FindsMethod, initialiser, of_array, of_class, polymorphic}
+use Rattle.member_link.specs.Machine.Programs.{Code, Point, code_run, method_of, point_at}
 use Rattle.member_link.specs.References.{Reference}
 use Rattle.member_link.specs.Scope.{Scope, class_of_new, instructions, row_scope, scope_at}
 use Rattle.member_link.specs.Signatures.{reference_of}
+use Rattle.same_runs.specs.Laws.FoundMembers.{initialiser_there}
+use Rattle.same_runs.specs.Laws.Scopes.{own_run, scope_is_at}
 use Rattle.type_rules.specs.Laws.InstructionOrder.{Ascend, ascend}
 use Rattle.type_rules.specs.MethodBodies.{body_of}
-use Rattle.typed_runs.specs.TypedPoints.{HasMethod, IsLinkedOp, TypedPoint}
+use Rattle.typed_runs.specs.TypedPoints.{IsLinkedOp, TypedPoint}
 
 -- ---- laws of other crates
 
@@ -136,41 +131,6 @@ site_is_new laws s k placed class there makes =
 
 -- ---- typed points of methods
 
--- an instance initialiser that is found is declared by the class that is named
-own_found : {h : Headers} {class : Name} {name desc : List ℕ} {found : Option Declared} → FindsMethod h class name desc found
-    → name ≡ init → found ≡ own_method h class name desc
-own_found (initialiser is) same = refl
-own_found {name = name} (polymorphic p) same = absurd (by p.1) where
-  by : (name ≡ codes "invoke") ⊎ (name ≡ codes "invokeExact") → ⊥
-  by (inl e) = let no : bytes_eq init (codes "invoke") ≡ true = (bytes_eq-Decides init (codes "invoke")).1 (sym same ∙ e) in cc
-  by (inr e) = let no : bytes_eq init (codes "invokeExact") ≡ true = (bytes_eq-Decides init (codes "invokeExact")).1 (sym same ∙ e) in cc
-own_found (of_array found other is finds) same = absurd (other same)
-own_found (of_class found other flat single finds) same = absurd (other same)
-
-declared_first : (r : Reference) (members : List Member) → declared r.name r.desc members ≡ first_member r members
-declared_first r [] = refl
-declared_first r (member ∷ members) = rw (declared_first r members) refl
-
-module _ (P : Program) (r : Reference) (name : r.name ≡ init) where
-  initialiser_there : HasMethod (headers_in P) IsInstanceForm r → IsSome (method_of P r)
-  initialiser_there has = by (class_named (headers_in P) r.class) refl where
-    own : own_method (headers_in P) r.class r.name r.desc ≡ Some has.method
-    own = sym (own_found has.finds name)
-
-    of_member : (header : Header) → class_named (headers_in P) r.class ≡ Some header
-        → (found : Option Member) → declared r.name r.desc header.methods ≡ found
-        → IsSome (method_of P r)
-    of_member header e None d =
-        let no : None ≡ Some has.method = rw (d) at (rw (e) at own) in
-        absurd (none-some has.method no)
-    of_member header e (Some member) d =
-        let first : first_member r header.methods ≡ Some member = sym (declared_first r header.methods) ∙ d in
-        rw (e, first) refl
-
-    by : (header : Option Header) → class_named (headers_in P) r.class ≡ header → IsSome (method_of P r)
-    by None e = let no : None ≡ Some has.method = rw (e) at own in absurd (none-some has.method no)
-    by (Some header) e = of_member header e (declared r.name r.desc header.methods) refl
-
 module _ (u : Setup) (is_setup : IsSetup u) (at : MethodAt) (s : Scope) (is : scope_at u.classes at ≡ Some s) where
   -- what stands at a point of the folder's program
   pub record StandsHere (k : ℕ) (point : Point) : Type 0 where
@@ -190,10 +150,10 @@ module _ (u : Setup) (is_setup : IsSetup u) (at : MethodAt) (s : Scope) (is : sc
       let own = run_method_of u.links (headers_of u.classes) s.class s.method in
       let code = code_before u is_setup at s is in
       let runs : code_run own ≡ Some (method_code u.links s) =
-      ap (option_and_then code_run) (sym (own_run u.classes u.links at s is)) ∙ code in
+      ap (option_and_then code_run) (sym (own_run u.classes u.links at s (scope_is_at u.classes at s is))) ∙ code in
       let there : slice_get (method_code u.links s).points k ≡ Some point =
       ap (option_and_then (λ (code : Code). slice_get code.points k)) (sym code) ∙ point_is in
-      (is_setup.program.methods at own (method_code u.links s) (own_run u.classes u.links at s is) runs).points k point there
+      (is_setup.program.methods at own (method_code u.links s) (own_run u.classes u.links at s (scope_is_at u.classes at s is)) runs).points k point there
 
   -- an instance initialiser that an instruction calls is declared
   pub initialiser_called : (k : ℕ) (placed : Placed)
@@ -213,7 +173,8 @@ module _ (u : Setup) (is_setup : IsSetup u) (at : MethodAt) (s : Scope) (is : sc
       ∙ ap (λ (found : Option Reference). or_meaningless (option_map (call_op u.links (row_scope s) opcode) found)) reference in
       let op : point.op ≡ call_special r (special_start u.links (row_scope s) r.class) =
       called ∙ ap (λ (n : ℕ). call_op u.links (row_scope s) n r) special in
-      initialiser_there (before u) r name (subst (IsLinkedOp (before u) (u.typings at).scope typed.place) op typed.linked)
+      let has = subst (IsLinkedOp (before u) (u.typings at).scope typed.place) op typed.linked in
+      initialiser_there (before u) r has.method name has.finds
 
 -- ---- a callee may stand in the code of its host
 

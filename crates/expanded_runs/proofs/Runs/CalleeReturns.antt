@@ -13,11 +13,11 @@ use Rattle.expanded_code.specs.Expansions.{Coded, Expansion}
 use Rattle.expanded_runs.proofs.Runs.Entries.{GoesTo}
 use Rattle.expanded_runs.proofs.Runs.EntryLaws.{NarrowingStands, narrows_nothing, narrows_quietly}
 use Rattle.expanded_runs.proofs.Runs.FlatOps.{OpAt, ReturnStands, catches_in, narrowing_ops, own_result}
-use Rattle.expanded_runs.proofs.Runs.OpTurns.{AtMethod, has_meaning, keeps_both, step_goes_on, turned_by_op}
+use Rattle.expanded_runs.proofs.Runs.OpTurns.{AtMethod, keeps_both, step_goes_on}
 use Rattle.expanded_runs.proofs.Runs.PositionLaws.{next_start, width}
 use Rattle.expanded_runs.proofs.Runs.Positions.{Becomes, IsReplacedAt, Standing, inner_standing, instrs_of, start_of}
 use Rattle.expanded_runs.proofs.Runs.ReplacedCalls.{IsPlainMethod}
-use Rattle.expanded_runs.proofs.Runs.SameStanding.{InFlat, InPlace, Inside, SameStanding, flat_stands, in_callee, in_host, is_awaited, settled}
+use Rattle.expanded_runs.proofs.Runs.SameStanding.{InFlat, InPlace, Inside, SameStanding, flat_stands, in_callee, in_host, settled, is_awaited}
 use Rattle.expanded_runs.proofs.Runs.Setup.{Setup, after, before}
 use Rattle.expanded_runs.proofs.Runs.Together.{Basis, Related}
 use Rattle.machine_values.specs.Frames.{MethodState}
@@ -37,6 +37,7 @@ use Rattle.same_runs.specs.Laws.FieldWork.{narrowed_same}
 use Rattle.same_runs.specs.Laws.Moves.{same_joined, same_kind}
 use Rattle.same_runs.specs.Laws.Names.{names_themselves}
 use Rattle.same_runs.specs.Laws.QuietBeginnings.{standing}
+use Rattle.same_runs.specs.Laws.Turns.{has_meaning, turned_by_op}
 use Rattle.same_runs.specs.Renamings.{Names, SameValue, SameValues, and_value, no_values}
 use Rattle.same_runs.specs.SameWorlds.{both_go}
 use Rattle.same_runs.specs.Simulations.{Keeps}
@@ -243,15 +244,15 @@ module _ (u : Setup) (basis : Basis u) {names : Names} {one other : Run} {f g : 
     turned = turned ∙ ap (λ (w : World). record one { world = w }) (returned_is values);
     turned_also =
         turned_by_op Q (narrowed_run type (values_also ++ in_flat.below) goes.steps) (narrowed_frame type (values_also ++ in_flat.below)) others
-        (record { op = jump_to stands.behind; catches = catches_in p placed.at }) at.goes_also refl
+        (record { op = jump_to stands.behind; catches = catches_in p placed.at }) at.both.goes_also refl
         (goto_stands type (values_also ++ in_flat.below) result);
     after = both_go names (names_themselves names)
-        (settled (flat_stands (resumed_in values values_also same) (λ never. absurd (cc never)) below)) at.memories
-        (record { known = at.seen.known; events = at.seen.events }) at.goes at.goes_also;
+        (settled (flat_stands (resumed_in values values_also same) (λ never. absurd (cc never)) below)) at.both.memories
+        (record { known = at.both.seen.known; events = at.both.seen.events }) at.both.goes at.both.goes_also;
   })
 
   turned : turn P one ≡ record one { world = op_step P (counted one) f (map Method waiting ++ ones) point.op }
-  turned = turned_by_op P one f (map Method waiting ++ ones) point at.goes at.stands is
+  turned = turned_by_op P one f (map Method waiting ++ ones) point at.both.goes at.both.stands is
 
   -- ---- one turn
 
@@ -259,7 +260,7 @@ module _ (u : Setup) (basis : Basis u) {names : Names} {one other : Run} {f g : 
   with_nothing result is_op =
       both_return None [] [] result no_values
       (turned ∙ ap (λ (o : Op). record one { world = op_step P (counted one) f (map Method waiting ++ ones) o }) is_op)
-      (subst (λ (stack : List Value). GoesTo Q other others (narrowed_frame None stack)) stack (narrows_nothing at.stands_also)) where
+      (subst (λ (stack : List Value). GoesTo Q other others (narrowed_frame None stack)) stack (narrows_nothing at.both.stands_also)) where
         empty : f.stack ≡ []
         empty = subst (λ (type : Option FieldType). ReturnsAlone type f.stack) result alone
 
@@ -294,11 +295,12 @@ module _ (u : Setup) (basis : Basis u) {names : Names} {one other : Run} {f g : 
         (let returned_one : return_step P (counted one) f (map Method waiting ++ ones) type (one_value.0 ∷ [])
         ≡ returned P (counted one) f (map Method waiting ++ ones) (narrowed type one_value.0 ∷ []) = rw (e) refl in
         turned ∙ ap (λ (w : World). record one { world = w }) (step_is ∙ returned_one))
-        (narrows_quietly (λ i. catches_in p placed.at) at.goes_also at.stands_also type also.0 in_flat.below
+        (narrows_quietly (λ i. catches_in p placed.at) at.both.goes_also at.both.stands_also type also.0 in_flat.below
         (narrowing_stands (Some type) result) stack (same_kind (kind_of type) also.2 ∙ e))
 
   pub return_turn : Keeps P Q (Related u) measure one other
-  return_turn = by (returns_as (own_result p) kind point.op op (has_meaning u basis at is)) where
-    by : ReturnsAs (own_result p) point.op → Keeps P Q (Related u) measure one other
-    by (returns_none result is_op) = with_nothing result is_op
-    by (returns_one type result is_op) = with_value type result is_op
+  return_turn = by
+      (returns_as (own_result p) kind point.op op (has_meaning P (counted one) f (map Method waiting ++ ones) point.op (step_goes_on u basis at is))) where
+        by : ReturnsAs (own_result p) point.op → Keeps P Q (Related u) measure one other
+        by (returns_none result is_op) = with_nothing result is_op
+        by (returns_one type result is_op) = with_value type result is_op

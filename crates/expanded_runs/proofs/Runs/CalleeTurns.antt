@@ -14,7 +14,7 @@ use Rattle.expanded_runs.proofs.Runs.Entries.{GoesTo, Stores}
 use Rattle.expanded_runs.proofs.Runs.EntryLaws.{fit_units, stores_quietly, units_of_arguments}
 use Rattle.expanded_runs.proofs.Runs.FlatFacts.{FlatFacts}
 use Rattle.expanded_runs.proofs.Runs.FlatOps.{EntryStands, OpAt, catches_in}
-use Rattle.expanded_runs.proofs.Runs.OpTurns.{AtMethod, keeps_both, turned_by_op}
+use Rattle.expanded_runs.proofs.Runs.OpTurns.{AtMethod, keeps_both}
 use Rattle.expanded_runs.proofs.Runs.PositionLaws.{length_arguments}
 use Rattle.expanded_runs.proofs.Runs.Positions.{IsReplacedAt, Standing, block_of, inner_standing, scope_of, start_of}
 use Rattle.expanded_runs.proofs.Runs.ReplacedCalls.{ComesTo, FitArguments, ReplacedCall, comes_to_begin, comes_to_call, comes_to_null}
@@ -56,6 +56,7 @@ use Rattle.same_runs.specs.Laws.QuietBeginnings.{quietly_then, standing}
 use Rattle.same_runs.specs.Laws.QuietMoves.{turns_quietly}
 use Rattle.same_runs.specs.Laws.ShiftedUnits.{local_has, shifted_local}
 use Rattle.same_runs.specs.Laws.Stored.{Has}
+use Rattle.same_runs.specs.Laws.Turns.{turned_by_op}
 use Rattle.same_runs.specs.Renamings.{Names, NamesMore, SameValue, SameValues, and_value, no_values, same_null, same_reference}
 use Rattle.same_runs.specs.SameMemories.{IsInert, SameMemories}
 use Rattle.same_runs.specs.SameMoves.{ShiftedUnits}
@@ -155,13 +156,13 @@ module _ (u : Setup) (basis : Basis u) (facts : FlatFacts u) {names : Names} {on
   frames = flat_stands in_flat never_waits below
 
   turned : turn P one ≡ record one { world = perform P (counted one) f (less count f) rest (work P one.world.memory point.op operands) }
-  turned = turned_by_work P one f rest point at.goes at.stands is (step_works P f rest point.op call.works) call.enough
+  turned = turned_by_work P one f rest point at.both.goes at.both.stands is (step_works P f rest point.op call.works) call.enough
 
   enough : count ≤ length f.stack
   enough = leb-true count (length f.stack) call.enough
 
   typed : (w : World) → turn P one ≡ record one { world = w } → TypedWorld P u.typings w
-  typed w led = (turn_typed u basis at.goes (ap is_library_turn at.stands) at.typed led).0
+  typed w led = (turn_typed u basis at.both.goes (ap is_library_turn at.both.stands) at.typed led).0
 
   -- ---- its class begins
 
@@ -181,14 +182,14 @@ module _ (u : Setup) (basis : Basis u) (facts : FlatFacts u) {names : Names} {on
         ones = Method f ∷ rest;
         stands = refl;
         others = Method g ∷ others;
-        stands_also = at.stands_also;
+        stands_also = at.both.stands_also;
         frames = frames;
         alone = (record { found = found; is = is_class; inert = inert }, tt);
         no_turn = refl;
         memories = led.1;
-        seen = record { known = at.seen.known; events = at.seen.events };
-        goes = at.goes;
-        goes_also = at.goes_also;
+        seen = record { known = at.both.seen.known; events = at.both.seen.events };
+        goes = at.both.goes;
+        goes_also = at.both.goes_also;
         actions = at.actions;
         used = at.used;
         typed = typed (begun_on P class (counted one) (Method f ∷ rest)) led.0;
@@ -225,7 +226,7 @@ module _ (u : Setup) (basis : Basis u) (facts : FlatFacts u) {names : Names} {on
 
   stored : Stores Q other others g unit size (length args) given under
   stored =
-      stores_quietly (λ i. catches_in p placed.at) h.scope unit size given under at.goes_also at.stands_also
+      stores_quietly (λ i. catches_in p placed.at) h.scope unit size given under at.both.goes_also at.both.stands_also
       (λ i argument there. on_host (g.place + i) _
       (subst (λ (n : ℕ). OpAt u in_flat.expanded.host p placed.at (n + i) (store_local argument.kind argument.unit)) (sym in_flat.place)
       (entry.stores i argument there)))
@@ -311,10 +312,10 @@ module _ (u : Setup) (basis : Basis u) (facts : FlatFacts u) {names : Names} {on
     second = raised Q (counted waits) null_pointer (Method behind ∷ others);
     turned = turned ∙ ap (λ (completion : Completion). record one { world = perform P (counted one) f (less count f) rest completion }) raising;
     turned_also =
-        turned_by_op Q waits behind others (record { op = test_local unit; catches = catches_in p placed.at }) at.goes_also refl (test_stands tests)
+        turned_by_op Q waits behind others (record { op = test_local unit; catches = catches_in p placed.at }) at.both.goes_also refl (test_stands tests)
         ∙ ap (λ (found : Option Value). record waits { world = test_step Q (counted waits) behind others found }) null;
-    after = raised_same basis.same basis.compares null_pointer at.memories
-        (record { known = at.seen.known; events = at.seen.events }) at.goes at.goes_also
+    after = raised_same basis.same basis.compares null_pointer at.both.memories
+        (record { known = at.both.seen.known; events = at.both.seen.events }) at.both.goes at.both.goes_also
         (λ more grows. flat_unwinds facts basis.same (throws more grows) (standing_more grows below)
         (stands_unwind facts basis.same (standing_more grows below) ones_at));
   }) where
@@ -325,7 +326,7 @@ module _ (u : Setup) (basis : Basis u) (facts : FlatFacts u) {names : Names} {on
     null = found.1 ∙ ap Some (null_is found.2)
 
     points : AtPoints u (Method f ∷ rest)
-    points = subst (AtPoints u) at.stands (typed_at_points u one.world at.typed)
+    points = subst (AtPoints u) at.both.stands (typed_at_points u one.world at.typed)
 
     ones_at : AtPoints u ones
     ones_at = at_below facts basis.same waiting ones points.1
@@ -376,7 +377,7 @@ module _ (u : Setup) (basis : Basis u) (facts : FlatFacts u) {names : Names} {on
           steps = stored.goes.steps + 1;
           quietly = quietly_then stored.goes.quietly
               (turns_quietly other behind (next_with behind behind.stack) stored.goes.steps
-              (record { op = test_local unit; catches = catches_in p placed.at }) at.goes_also (test_stands tests) passes);
+              (record { op = test_local unit; catches = catches_in p placed.at }) at.both.goes_also (test_stands tests) passes);
         }) where
           given_one : (reference : ℕ) × (values : List Value) × (operands ≡ Ref reference ∷ values)
           given_one = receiver tests
@@ -451,10 +452,10 @@ module _ (u : Setup) (basis : Basis u) (facts : FlatFacts u) {names : Names} {on
         frames = flat_stands in_callee_now (λ never. absurd (cc never)) below;
         alone = tt;
         no_turn = tt;
-        memories = at.memories;
-        seen = record { known = at.seen.known; events = at.seen.events };
-        goes = at.goes;
-        goes_also = at.goes_also;
+        memories = at.both.memories;
+        seen = record { known = at.both.seen.known; events = at.both.seen.events };
+        goes = at.both.goes;
+        goes_also = at.both.goes_also;
         actions = at.actions;
         used = at.used;
         typed = typed (record (counted one) { frames = Method entered ∷ Method (less count f) ∷ rest }) led;
@@ -476,6 +477,6 @@ module _ (u : Setup) (basis : Basis u) (facts : FlatFacts u) {names : Names} {on
     by : ComesTo P one.world.memory point.op operands h → Keeps P Q (Related u) measure one other
     by (comes_to_begin class found is_class inert none begins_it) =
         begins class found is_class inert none
-        (operation_begins_alone one f point class at.goes at.stands is call.works call.enough begins_it none inert at.memories)
+        (operation_begins_alone one f point class at.both.goes at.both.stands is call.works call.enough begins_it none inert at.both.memories)
     by (comes_to_null values tests is_first raising) = null_receiver values tests is_first raising
     by (comes_to_call receiver calling) = frame_on_top receiver calling

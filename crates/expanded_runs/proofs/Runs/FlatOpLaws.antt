@@ -25,7 +25,7 @@ use Rattle.expanded_code.specs.Expansions.{Coded, Expands, Expansion}
 use Rattle.expanded_code.specs.Sites.{HasFrames, IsReplaced}
 use Rattle.expanded_runs.proofs.AloneProgram.{EachTyped, OneEach, pool-of-scope}
 use Rattle.expanded_runs.proofs.Runs.CalleeLaws.{Callee, CodeLaws, StandsHere, initialiser_called, operand_fits, replaced_callee, site_is_new, site_makes, stands_here}
-use Rattle.expanded_runs.proofs.Runs.FlatCodes.{number_stays, own_point, own_run, point_after}
+use Rattle.expanded_runs.proofs.Runs.FlatCodes.{own_point, point_after}
 use Rattle.expanded_runs.proofs.Runs.FlatHandlers.{at_start, begin_within, host_catches}
 use Rattle.expanded_runs.proofs.Runs.FlatOpParts.{IsKeptInstr, all_of, clinit_text, ends_plain, kept_points, kept_width, narrowed_by, no_store, returned_points, same_dynamic, same_return, static_same, stored_at}
 use Rattle.expanded_runs.proofs.Runs.FlatOps.{AtPlace, EndsHost, EntryStands, OpAt, ReturnStands, at_call, at_op, at_return, catches_in, narrowing_ops, own_result}
@@ -50,6 +50,8 @@ use Rattle.member_link.specs.RowScope.{RowScope}
 use Rattle.member_link.specs.Scope.{instructions, is_clinit, is_init, row_scope}
 use Rattle.member_link.specs.Signatures.{reference_of}
 use Rattle.same_runs.specs.Flats.{flat_points, host_scope, pool_of}
+use Rattle.same_runs.specs.Laws.FlatRuns.{number_stays}
+use Rattle.same_runs.specs.Laws.Scopes.{own_run, scope_is_at}
 use Rattle.same_runs.specs.SameMoves.{moved}
 use Rattle.same_runs.specs.SamePrograms.{SameBar, SameOp, same_initialiser, same_op, same_store}
 
@@ -369,7 +371,7 @@ module _ (laws : CodeLaws) (each : EachTyped) (one : OneEach) (u : Setup) (is_se
   no_callee_initialiser : (g : Coded) → HasFrames u.classes u.typed g.at g.scope g.frames → IsPlainMethod u g → is_clinit g.scope ≡ false
   no_callee_initialiser g own method = by (is_clinit g.scope) refl where
     same : run_method_of u.links (headers_of u.classes) g.scope.class g.scope.method ≡ method.method
-    same = same_Some _ method.method (sym (own_run u.classes u.links g.at g.scope own.is_scope) ∙ method.is)
+    same = same_Some _ method.method (sym (own_run u.classes u.links g.at g.scope (scope_is_at u.classes g.at g.scope own.is_scope)) ∙ method.is)
 
     other : bytes_eq (text_or_empty (utf8_at g.scope.class.pool g.scope.method.name)) clinit ≡ false
     other = ap is_class_initialiser same ∙ method.no_initialiser

@@ -13,7 +13,7 @@ use Rattle.expanded_code.specs.Expanded.{Argument, Narrowing, Setting, arguments
 use Rattle.expanded_code.specs.Expansions.{Coded, Expands, Expansion}
 use Rattle.expanded_code.specs.Sites.{HasFrames}
 use Rattle.expanded_runs.proofs.AloneProgram.{EachTyped, OneEach}
-use Rattle.expanded_runs.proofs.Runs.FlatCodes.{code_after, code_before, flat_run_point, point_after}
+use Rattle.expanded_runs.proofs.Runs.FlatCodes.{code_after, code_before, point_after}
 use Rattle.expanded_runs.proofs.Runs.FlatHandlers.{begin_within}
 use Rattle.expanded_runs.proofs.Runs.FlatOps.{catches_in}
 use Rattle.expanded_runs.proofs.Runs.PositionLaws.{Fits, fits_none, fits_replaced, fits_site, fits_stays, length_fits, part_stands, points_at, slice_left}
@@ -28,6 +28,7 @@ use Rattle.member_link.specs.Machine.Codes.{method_code}
 use Rattle.member_link.specs.Machine.Programs.{Code, Point, code_at, point_at}
 use Rattle.member_link.specs.Scope.{Scope, instructions}
 use Rattle.same_runs.specs.Flats.{flat_catch, flat_code}
+use Rattle.same_runs.specs.Laws.FlatRuns.{flat_run_point}
 
 -- ---- the first of some points
 

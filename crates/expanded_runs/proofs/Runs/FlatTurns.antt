@@ -8,7 +8,7 @@ use Rattle.class_model.specs.declared.instr.Placed.{Placed}
 use Rattle.expanded_code.specs.Expansions.{Coded, Expansion}
 use Rattle.expanded_runs.proofs.Runs.FlatFacts.{FlatFacts}
 use Rattle.expanded_runs.proofs.Runs.FlatOps.{EndsHost, OpStands, catches_in}
-use Rattle.expanded_runs.proofs.Runs.OpTurns.{AtMethod, Family, both_step, both_work_on, family_of, has_meaning, has_operands, keeps_both, means_nothing, moves, returns_nothing, returns_value, step_goes_on, works}
+use Rattle.expanded_runs.proofs.Runs.OpTurns.{AtMethod, keeps_both, step_goes_on}
 use Rattle.expanded_runs.proofs.Runs.Positions.{Standing, start_of}
 use Rattle.expanded_runs.proofs.Runs.SameStanding.{InFlat, Inside, SameStanding, WaitsInFlat, comparison, in_callee, in_host, is_awaited}
 use Rattle.expanded_runs.proofs.Runs.Setup.{Setup, after, before}
@@ -27,10 +27,12 @@ use Rattle.member_link.specs.Machine.Runs.{Run}
 use Rattle.member_link.specs.Machine.Stepping.{op_step}
 use Rattle.member_link.specs.Machine.Work.{arity, work}
 use Rattle.same_runs.specs.Laws.BothBegin.{counted}
+use Rattle.same_runs.specs.Laws.BothTurns.{both_step, both_work_on}
 use Rattle.same_runs.specs.Laws.CaughtUp.{less, operands_of}
 use Rattle.same_runs.specs.Laws.Moved.{moved_is, moved_same}
 use Rattle.same_runs.specs.Laws.Operations.{WorksOnOperands, same_arity}
 use Rattle.same_runs.specs.Laws.Returned.{return_step_same, returned_same}
+use Rattle.same_runs.specs.Laws.Turns.{Family, family_of, has_meaning, has_operands, means_nothing, moves, returns_nothing, returns_value, works}
 use Rattle.same_runs.specs.Renamings.{Names, no_values, SameValues}
 use Rattle.same_runs.specs.SameMoves.{IsMove, moved}
 use Rattle.same_runs.specs.SamePrograms.{SameOp, same_op, same_store, same_initialiser}
@@ -126,19 +128,19 @@ module _ (u : Setup) (basis : Basis u) (facts : FlatFacts u) {names : Names} {on
       (ap (point_at Q in_flat.expanded.host.at) in_flat.place ∙ stands.is_also)
 
   points : AtPoints u (Method f ∷ rest)
-  points = subst (AtPoints u) at.stands (typed_at_points u one.world at.typed)
+  points = subst (AtPoints u) at.both.stands (typed_at_points u one.world at.typed)
 
   waits_here : WaitsInFlat u in_flat.expanded.host in_flat.p f.at f.place
   waits_here = record { placed = placed; point = point; is_point = is; stands = stands }
 
   seen : SameSeen (comparison u) names (counted one) (counted other)
-  seen = record { known = at.seen.known; events = at.seen.events }
+  seen = record { known = at.both.seen.known; events = at.both.seen.events }
 
   abbrev After : Op → Op → Type 0
   After op second = SameAfter P (comparison u) names (op_step P (counted one) f rest op) (op_step Q (counted other) g others second)
 
   steps : After point.op stands.also → Keeps P Q (Related u) measure one other
-  steps then = keeps_both u basis at is measure (both_step u basis at is also is_also then)
+  steps then = keeps_both u basis at is measure (both_step at.both is also is_also then)
 
   abbrev base : ℕ
   base = in_flat.p.setting.unit
@@ -149,18 +151,19 @@ module _ (u : Setup) (basis : Basis u) (facts : FlatFacts u) {names : Names} {on
   moves_on : IsMove point.op → Keeps P Q (Related u) measure one other
   moves_on move =
       steps (subst (After point.op) (sym (moved_is base start move stands.same))
-      (moved_same {first = counted one} {second = counted other} basis.same basis.compares at.memories seen at.goes at.goes_also
+      (moved_same {first = counted one} {second = counted other} basis.same basis.compares at.both.memories seen at.both.goes at.both.goes_also
       (flat_moves facts basis.same in_flat stands.next points below) point.op move (stands.fits f.locals)
       (step_goes_on u basis at is)))
 
   works_on : WorksOnOperands point.op → Keeps P Q (Related u) measure one other
   works_on working =
       keeps_both u basis at is measure
-      (both_work_on u basis at is also in_flat.top in_flat.below is_also working same in_flat.stack in_flat.in_place.same
+      (both_work_on at.both is basis.same basis.alike basis.compares (step_goes_on u basis at is) also in_flat.top in_flat.below is_also working same
+      in_flat.stack in_flat.in_place.same
       (subst (λ (n : ℕ). Goes P Q (comparison u) names (work P one.world.memory point.op (operands_of (arity point.op) f)) f
       (less (arity point.op) f) g (less n g) rest others) (sym (same_arity same))
       (flat_goes facts basis.same (arity point.op) in_flat waits_here
-      (leb-true (arity point.op) (length f.stack) (has_operands u basis at is working)) points below))) where
+      (leb-true (arity point.op) (length f.stack) (has_operands P (counted one) f rest point.op working (step_goes_on u basis at is))) points below))) where
         same : SameOp P Q point.op stands.also
         same = subst (λ (op : Op). SameOp P Q op stands.also) (moved_works base start point.op working) stands.same
 
@@ -168,16 +171,16 @@ module _ (u : Setup) (basis : Basis u) (facts : FlatFacts u) {names : Names} {on
   ends_host : in_flat.chain ≡ [] → Family point.op → Keeps P Q (Related u) measure one other
   ends_host none (moves move) = moves_on move
   ends_host none (works work) = works_on work
-  ends_host none (means_nothing op) = absurd (has_meaning u basis at is op)
+  ends_host none (means_nothing op) = absurd (has_meaning P (counted one) f rest point.op (step_goes_on u basis at is) op)
   ends_host none (returns_nothing op) =
       steps (subst (λ (o : Op). After o stands.also) (sym op)
       (subst (After return_nothing) (sym (same_return stands.same (ap (moved base start) op)))
-      (returned_same basis.same basis.compares (counted one) (counted other) at.memories seen at.goes at.goes_also
+      (returned_same basis.same basis.compares (counted one) (counted other) at.both.memories seen at.both.goes at.both.goes_also
       (host_returns facts basis.same in_flat none below) no_values)))
   ends_host none (returns_value type op) =
       steps (subst (λ (o : Op). After o stands.also) (sym op)
       (subst (After (return_value type)) (sym (same_return_value type stands.same (ap (moved base start) op)))
-      (return_step_same basis.same basis.compares (counted one) (counted other) at.memories seen at.goes at.goes_also type
+      (return_step_same basis.same basis.compares (counted one) (counted other) at.both.memories seen at.both.goes at.both.goes_also type
       (host_returns facts basis.same in_flat none below)
       (subst (SameValues names f.stack) (sym stack) in_flat.in_place.same)))) where
         stack : g.stack ≡ in_flat.top
@@ -190,7 +193,7 @@ module _ (u : Setup) (basis : Basis u) (facts : FlatFacts u) {names : Names} {on
     by [] none family = ends_host none family
     by (callee ∷ chain) some (moves move) = moves_on move
     by (callee ∷ chain) some (works work) = works_on work
-    by (callee ∷ chain) some (means_nothing op) = absurd (has_meaning u basis at is op)
+    by (callee ∷ chain) some (means_nothing op) = absurd (has_meaning P (counted one) f rest point.op (step_goes_on u basis at is) op)
     by (callee ∷ chain) some (returns_nothing op) =
         let never : EndsHost (callee ∷ chain) return_nothing = subst (EndsHost (callee ∷ chain)) op (subst (λ (c : List MethodAt). EndsHost c point.op) some ends) in
         absurd never

@@ -1,5 +1,5 @@
 -- Frames of a folder's program, and those of the program whose hosts run flat code, that go together.
-use Rattle.std.specs.Prelude.{◌≡◌, ◌≤◌, ◌++◌, not, ℕ, Bool, true, false, List, [], ◌∷◌, length, map, Option, Some, None, IsTrue}
+use Rattle.std.specs.Prelude.{◌≡◌, ◌≤◌, ◌++◌, ℕ, Bool, true, false, List, [], ◌∷◌, length, map, Option, Some, None, IsTrue}
 use Rattle.class_model.specs.declared.class_file.MethodAt.{MethodAt}
 use Rattle.class_model.specs.declared.frame.Frame.{Frame}
 use Rattle.class_model.specs.declared.instr.Placed.{Placed}
@@ -14,8 +14,8 @@ use Rattle.machine_values.specs.declared.frame.RunFrame.{RunFrame}
 use Rattle.machine_values.specs.declared.frame.RunFrame.TheVariants.{Beginning, Library, Method}
 use Rattle.machine_values.specs.declared.value.Value.{Value}
 use Rattle.member_link.specs.Machine.Beginnings.{frame_with}
-use Rattle.member_link.specs.Machine.Performing.{is_initialiser}
-use Rattle.member_link.specs.Machine.Programs.{Point, RunMethod, point_at, run_method}
+use Rattle.member_link.specs.Machine.Programs.{Point, point_at}
+use Rattle.same_runs.specs.Laws.MethodPoints.{is_awaited_in}
 use Rattle.same_runs.specs.Renamings.{Names, SameHeld, SameUnits, SameValues}
 use Rattle.same_runs.specs.SameMoves.{ShiftedUnits}
 use Rattle.same_runs.specs.SameWorlds.{Comparison}
@@ -89,10 +89,7 @@ pub record WaitsInFlat (u : Setup) (host : Coded) (p : Standing) (at : MethodAt)
 
 -- the frame below a method's waits for it, where the method is no class initialiser
 abbrev pub is_awaited : Setup → MethodAt → Bool
-is_awaited u at = of_method (run_method (before u) at) where
-  of_method : Option RunMethod → Bool
-  of_method None = true
-  of_method (Some method) = not (is_initialiser method)
+is_awaited u at = is_awaited_in (before u) at
 
 -- Frames one by one. A frame below that of a called method or of the library waits; of one that is on top, or that stands below the
 -- beginning of a class or its initialiser, nothing is asked.

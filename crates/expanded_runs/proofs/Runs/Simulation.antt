@@ -1,7 +1,5 @@
 -- Each turn of the folder's program keeps runs related: so the program whose hosts run flat code runs equally.
 use Rattle.std.proofs.Common.{◌≡◌, ◌⊎◌, ◌≤◌, ◌++◌, ℕ, Bool, false, List, [], ◌∷◌, length, map, slice_get, Option, Some, None, refl, sym, ap, subst, ◌∙◌, arith, inl, inr}
-use Rattle.std.proofs.lemmas.Bool.{false≢true}
-use Rattle.std.proofs.lemmas.Option.{none-some}
 use Rattle.class_model.specs.declared.class_file.MethodAt.{MethodAt}
 use Rattle.class_model.specs.declared.descriptor.Kind.{Kind}
 use Rattle.class_model.specs.declared.frame.Frame.{Frame}
@@ -21,11 +19,11 @@ use Rattle.expanded_runs.proofs.Runs.OpTurns.{AtMethod, does_of}
 use Rattle.expanded_runs.proofs.Runs.OwnTurns.{OwnParts, own_turn}
 use Rattle.expanded_runs.proofs.Runs.Positions.{IsReplacedAt, block_of, inner_standing, instrs_of}
 use Rattle.expanded_runs.proofs.Runs.ReplacedCalls.{IsPlainMethod, ReplacedCall}
-use Rattle.expanded_runs.proofs.Runs.SameStanding.{Holds, InFlat, SameStanding, comparison, beginnings_stand, flat_stands, is_awaited, libraries_stand, none_stand, own_stand}
+use Rattle.expanded_runs.proofs.Runs.SameStanding.{Holds, InFlat, SameStanding, comparison, beginnings_stand, flat_stands, libraries_stand, none_stand, own_stand, is_awaited}
 use Rattle.expanded_runs.proofs.Runs.Setup.{Setup, after, before}
 use Rattle.expanded_runs.proofs.Runs.StandingCodes.{standing_of}
 use Rattle.expanded_runs.proofs.Runs.Standings.{Stands}
-use Rattle.expanded_runs.proofs.Runs.Together.{Basis, Over, Related, Together, NoTurnBelow, beginning_keeps, depth, over_keeps, weight}
+use Rattle.expanded_runs.proofs.Runs.Together.{Basis, Over, Related, Together, beginning_keeps, depth, over_keeps, weight}
 use Rattle.machine_values.specs.Frames.{MethodState}
 use Rattle.machine_values.specs.declared.action.Action.{Action}
 use Rattle.machine_values.specs.declared.frame.RunFrame.{RunFrame}
@@ -36,12 +34,14 @@ use Rattle.member_link.specs.Machine.Runs.{Run, begins_with, shown}
 use Rattle.member_link.specs.Machine.Stepping.{is_library_turn}
 use Rattle.member_link.specs.Machine.Worlds.{World, start}
 use Rattle.same_runs.specs.EqualRuns.{EqualRuns}
+use Rattle.same_runs.specs.Laws.AloneRuns.{same_turn_below}
 use Rattle.same_runs.specs.Laws.QuietCalls.{quiet_keeps}
-use Rattle.same_runs.specs.Laws.Simulated.{ends_over_same, ends_same, events_equal, shows_equal, simulated_equally}
+use Rattle.same_runs.specs.Laws.Simulated.{ends_over_same, ends_same, events_equal, memories_at_start, none_named, shows_equal, simulated_equally}
+use Rattle.same_runs.specs.Laws.Turns.{quietly_shows}
 use Rattle.same_runs.specs.Renamings.{Names, no_references, none_held as no_held}
-use Rattle.same_runs.specs.SameMemories.{HasOwnConstants, SameMemories}
+use Rattle.same_runs.specs.SameMemories.{SameMemories}
 use Rattle.same_runs.specs.SameWorlds.{no_events}
-use Rattle.same_runs.specs.Simulations.{Keeps, Quietly, at_once, turn_first}
+use Rattle.same_runs.specs.Simulations.{Keeps, at_once}
 use Rattle.typed_runs.specs.TypedFrames.{FramesConform, nothing_awaited}
 use Rattle.typed_runs.specs.TypedWorlds.{TypedWorld}
 
@@ -122,12 +122,14 @@ module _ (u : Setup) (parts : Parts u) where
     at_method : (f g : MethodState) (rest others : List RunFrame) → t.ones ≡ Method f ∷ rest → t.others ≡ Method g ∷ others
         → AtMethod u t.names one other f g rest others
     at_method f g rest others is is_also = record {
-      stands = stands ∙ is;
-      stands_also = t.stands_also ∙ is_also;
-      memories = memories;
-      seen = t.seen;
-      goes = t.goes;
-      goes_also = t.goes_also;
+      both = record {
+        stands = stands ∙ is;
+        stands_also = t.stands_also ∙ is_also;
+        memories = memories;
+        seen = t.seen;
+        goes = t.goes;
+        goes_also = t.goes_also;
+      };
       actions = t.actions;
       used = t.used;
       typed = t.typed;
@@ -202,10 +204,6 @@ module _ (u : Setup) (parts : Parts u) where
 
   -- ---- what is shown
 
-  quietly_shows : {R : Program} {r later : Run} → Quietly R r later → shown later ≡ shown r
-  quietly_shows at_once = refl
-  quietly_shows (turn_first same more) = quietly_shows more ∙ same
-
   -- it is the library's turn in both or in none
   same_turn : {waits : Bool} {names : Names} {ones others : List RunFrame} → SameStanding u waits names ones others
       → is_library_turn others ≡ is_library_turn ones
@@ -218,15 +216,8 @@ module _ (u : Setup) (parts : Parts u) where
   together_shows : (measure : ℕ) (one other : Run) → Together u measure one other → shown one ≡ shown other
   together_shows measure one other t =
       shows_equal one other (events_equal {c = comparison u} (λ n m is. is) (λ n m is. is) t.seen.events)
-      (ends_same one other (t.goes_also ∙ sym t.goes) (by t.now refl) t.actions t.used) where
-        by : (now : List ℕ) → t.now ≡ now → is_library_turn other.world.frames ≡ is_library_turn one.world.frames
-        by [] none =
-            ap is_library_turn t.stands_also ∙ same_turn t.frames
-            ∙ sym (ap is_library_turn (t.stands ∙ ap (λ (classes : List ℕ). map Beginning classes ++ t.ones) none))
-        by (class ∷ now) some =
-            let below = subst (λ (classes : List ℕ). NoTurnBelow classes t.ones) some t.no_turn in
-            ap is_library_turn t.stands_also ∙ same_turn t.frames ∙ below
-            ∙ sym (ap is_library_turn (t.stands ∙ ap (λ (classes : List ℕ). map Beginning classes ++ t.ones) some))
+      (ends_same one other (t.goes_also ∙ sym t.goes)
+      (same_turn_below t.now t.ones t.others one.world other.world t.stands t.stands_also t.no_turn (same_turn t.frames)) t.actions t.used)
 
   over_shows : (one other : Run) → Over u one other → shown one ≡ shown other
   over_shows one other over =
@@ -240,9 +231,6 @@ module _ (u : Setup) (parts : Parts u) where
     by (inr over) = over_shows one related.waits over
 
   -- ---- both runs from the start
-
-  abbrev none_named : Names
-  none_named reference = None
 
   starts_together : (actions : List Action) → (measure : ℕ) × Related u measure (begins_with actions) (begins_with actions)
   starts_together actions = (
@@ -260,7 +248,7 @@ module _ (u : Setup) (parts : Parts u) where
         frames = libraries_stand no_held none_stand;
         alone = tt;
         no_turn = tt;
-        memories = start_memories;
+        memories = memories_at_start P refl refl;
         seen = record { known = no_references; events = no_events };
         goes = refl;
         goes_also = refl;
@@ -270,36 +258,7 @@ module _ (u : Setup) (parts : Parts u) where
         low = omega arith;
       });
     },
-  ) where
-    no_constants : HasOwnConstants start.memory.heap
-    no_constants = record {
-      there = λ constant reference kept. absurd (none-some reference kept);
-      is_of = λ constant reference kept. absurd (none-some reference kept);
-      has = λ constant reference kept. absurd (none-some constant kept);
-    }
-
-    start_memories : SameMemories P (λ n m. n ≡ m) (λ n m. n ≡ m) [] none_named [] start.memory start.memory
-    start_memories = record {
-      heaps = record {
-        renaming = record { once = λ first second reference is also. absurd (none-some reference is) };
-        objects = λ reference named is. absurd (none-some named is);
-        own = no_constants;
-        own_also = no_constants;
-        kept = λ constant named is. absurd (none-some named is);
-        named = λ constant reference named kept is. absurd (none-some named is);
-        fresh = λ constant reference kept none. absurd (none-some reference kept);
-        stays = tt;
-      };
-      statics = record {
-        begun = λ class is. is;
-        values = λ class field begun. absurd (false≢true begun);
-        alone = λ class begun none. absurd (false≢true begun);
-        unwritten = λ class field none. refl;
-        unwritten_also = λ class field none. refl;
-      };
-      allocations = refl;
-      entries = refl;
-    }
+  )
 
   -- The program whose hosts run flat code runs equally.
   pub runs_equally : EqualRuns P Q

@@ -30,7 +30,6 @@ use Rattle.expanded_runs.proofs.Runs.CalledNames.{clinit_named, init_named, init
 use Rattle.expanded_runs.proofs.Runs.CalleeLaws.{site_makes}
 use Rattle.expanded_runs.proofs.Runs.FlatSites.{HasSite, becomes_site, site_is_candidate, site_stands}
 use Rattle.expanded_runs.proofs.Runs.LinkedInstrs.{EachInstrTyped, IsOn, call_linked, initialiser_on}
-use Rattle.expanded_runs.proofs.Runs.NativeMethods.{scope_is_at}
 use Rattle.expanded_runs.proofs.Runs.Positions.{IsReplacedAt, Standing, becomes, frames_of, instrs_of, scope_of}
 use Rattle.expanded_runs.proofs.Runs.Setup.{IsSetup, Setup, before}
 use Rattle.expanded_runs.proofs.Runs.StandingLaws.{BecomesAs, as_replaced, becomes_as, stands_so}
@@ -42,6 +41,7 @@ use Rattle.member_link.specs.Machine.Programs.{RunClass, number_of_first}
 use Rattle.member_link.specs.References.{Reference}
 use Rattle.member_link.specs.Rows.MemberRows.{MayInitialise, receiver}
 use Rattle.member_link.specs.Scope.{Scope, class_of_new, instructions, is_clinit, is_init, row_scope, scope_at}
+use Rattle.same_runs.specs.Laws.Scopes.{scope_is_at}
 
 -- ---- chains
 

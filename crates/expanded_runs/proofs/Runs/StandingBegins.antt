@@ -1,5 +1,5 @@
 -- Frames with which methods begin go together, and those on top of typed worlds settle.
-use Rattle.std.proofs.Common.{◌≡◌, ◌≤◌, ◌+◌, ◌-◌, ◌++◌, ℕ, zero, suc, false, List, [], ◌∷◌, length, length-append, replicate, Option, Some, None, refl, sym, ap, subst, ◌∙◌, arith}
+use Rattle.std.proofs.Common.{◌≡◌, ◌≤◌, ◌+◌, ◌-◌, ◌++◌, ℕ, suc, false, List, [], ◌∷◌, length, length-append, replicate, Option, Some, None, refl, sym, ap, subst, ◌∙◌, arith}
 use Rattle.std.proofs.lemmas.List.{length-replicate}
 use Rattle.std.proofs.lemmas.Option.{same_Some}
 use Rattle.class_model.specs.declared.class_file.MethodAt.{MethodAt}
@@ -10,9 +10,9 @@ use Rattle.expanded_code.specs.ExpandAnswers.{IsExpanded}
 use Rattle.expanded_runs.proofs.Runs.EntryFits.{entry_fits}
 use Rattle.expanded_runs.proofs.Runs.FlatFacts.{FlatFacts}
 use Rattle.expanded_runs.proofs.Runs.Positions.{host_standing}
-use Rattle.expanded_runs.proofs.Runs.SameStanding.{InFlat, IsFresh, SameStanding, SameTop, begins_class, begins_fresh, beginnings_stand, flat_stands, in_host, is_awaited, own_stand, settled}
+use Rattle.expanded_runs.proofs.Runs.SameStanding.{InFlat, IsFresh, SameStanding, SameTop, begins_class, begins_fresh, beginnings_stand, flat_stands, in_host, own_stand, settled, is_awaited}
 use Rattle.expanded_runs.proofs.Runs.Setup.{IsSetup, Setup, after, before}
-use Rattle.expanded_runs.proofs.Runs.StandingCodes.{AtPoint, AtPoints, method_of_code}
+use Rattle.expanded_runs.proofs.Runs.StandingCodes.{AtPoint, AtPoints}
 use Rattle.flow_code.specs.FlatCode.{FlatCode}
 use Rattle.machine_values.specs.Frames.{MethodState}
 use Rattle.machine_values.specs.Heaps.{Heap}
@@ -25,9 +25,10 @@ use Rattle.member_link.specs.Machine.Programs.{Code, Program, RunMethod, code_at
 use Rattle.member_link.specs.Machine.Worlds.{World}
 use Rattle.member_link.specs.RowScope.{RowScope}
 use Rattle.member_link.specs.Rows.FrameAssignability.{AreAssignable}
+use Rattle.same_runs.specs.Laws.MethodPoints.{method_of_code}
 use Rattle.same_runs.specs.Laws.ShiftedUnits.{shifted_begins}
-use Rattle.same_runs.specs.Laws.Units.{same_size}
-use Rattle.same_runs.specs.Renamings.{Names, SameHeld, SameUnits, and_unit, no_units, no_value, no_values}
+use Rattle.same_runs.specs.Laws.Units.{begun_same, same_size}
+use Rattle.same_runs.specs.Renamings.{Names, SameHeld, SameUnits, no_values}
 use Rattle.same_runs.specs.SameMoves.{ShiftedUnits}
 use Rattle.typed_runs.specs.Conforming.{UnitsConform, and_unit as and_conforming, no_units as none_conform}
 use Rattle.typed_runs.specs.TypedFrames.{Above, Does, FramesConform, MethodConforms, StandsAt, asked_library, called_method, lowest, nothing_awaited, upon}
@@ -76,15 +77,6 @@ assignable_count headers (low ∷ lows) (high ∷ highs) are = ap suc (assignabl
 abbrev padded_units : List (Option Value) → ℕ → List (Option Value)
 padded_units units count = units ++ replicate (count - length units) None
 
-none_same : {names : Names} (count : ℕ) → SameUnits names (replicate count None) (replicate count None)
-none_same zero = no_units
-none_same (suc count) = and_unit no_value (none_same count)
-
-padded_same : {names : Names} {units also : List (Option Value)} (count : ℕ) → SameUnits names units also
-    → SameUnits names (units ++ replicate count None) (also ++ replicate count None)
-padded_same count no_units = none_same count
-padded_same count (and_unit one rest) = and_unit one (padded_same count rest)
-
 begins_with : (P : Program) (at : MethodAt) (units : List (Option Value)) (held : Option ℕ) (code : Code) → code_at P at ≡ Some code
     → (frame_with P at units held).locals ≡ padded_units units code.locals
 begins_with P at units held code is = rw (is) refl
@@ -101,16 +93,6 @@ module _ {u : Setup} (facts : FlatFacts u) where
 
   -- ---- a method begins in both
 
-  own_begins : {names : Names} (at : MethodAt) {units also : List (Option Value)} (held held_also : Option ℕ) → u.flats at ≡ None
-      → SameUnits names units also
-      → SameUnits names (frame_with P at units held).locals (frame_with Q at also held_also).locals
-  own_begins {names = names} at {units = units} {also = also} held held_also none same = by (code_at P at) refl where
-    by : (code : Option Code) → code_at P at ≡ code
-        → SameUnits names (frame_with P at units held).locals (frame_with Q at also held_also).locals
-    by None is = rw (facts.own_code at none, is) same
-    by (Some code) is =
-        rw (facts.own_code at none, is, same_size same) (padded_same (code.locals - length units) same)
-
   pub begins_same : {names : Names} (at : MethodAt) {units also : List (Option Value)} {held held_also : Option ℕ} {ones others : List RunFrame}
       → SameUnits names units also
       → SameHeld names held held_also
@@ -124,7 +106,7 @@ module _ {u : Setup} (facts : FlatFacts u) where
           no_flat = is;
           at = refl;
           place = refl;
-          locals = own_begins at held held_also is same;
+          locals = begun_same P Q at held held_also (facts.own_code at is) same;
           stack = no_values;
           held = held_same;
         }) rest)

@@ -1,12 +1,9 @@
 -- The codes and points of methods that stand in flat code, and of methods that run their own.
-use Rattle.std.proofs.Common.{◌≡◌, ℕ, zero, suc, List, [], ◌∷◌, map, slice_get, Option, Some, None, refl, sym, ap, ◌∙◌}
-use Rattle.std.specs.Prelude.{option_and_then, bytes_eq}
+use Rattle.std.proofs.Common.{◌≡◌, ℕ, zero, suc, List, [], ◌∷◌, map, slice_get, Option, Some, refl, sym, ap, ◌∙◌}
 use Rattle.std.proofs.lemmas.Option.{none-some, same_Some}
-use Rattle.class_model.specs.Names.{clinit}
 use Rattle.class_model.specs.Pool.{Constants}
 use Rattle.class_model.specs.declared.class_file.Handler.{Handler}
 use Rattle.class_model.specs.declared.class_file.MethodAt.{MethodAt}
-use Rattle.class_model.specs.declared.header.Member.{Member}
 use Rattle.class_model.specs.declared.instr.Placed.{Placed}
 use Rattle.expanded_code.specs.ExpandAnswers.{IsExpanded}
 use Rattle.expanded_code.specs.Expansions.{Coded, Expansion}
@@ -21,13 +18,12 @@ use Rattle.machine_values.specs.declared.frame.RunFrame.{RunFrame}
 use Rattle.machine_values.specs.declared.frame.RunFrame.TheVariants.{Beginning, Library, Method}
 use Rattle.machine_values.specs.declared.value.Value.{Value}
 use Rattle.member_link.specs.Machine.Codes as codes
-use Rattle.member_link.specs.Machine.Codes.{CodePoint, code_points, method_code}
-use Rattle.member_link.specs.Machine.Programs.{Code, Links, Point, Program, RunMethod, code_at, code_run, point_at, run_method}
+use Rattle.member_link.specs.Machine.Codes.{code_points, method_code}
+use Rattle.member_link.specs.Machine.Programs.{Links, Point, code_at, point_at}
 use Rattle.member_link.specs.Scope.{Scope, instructions}
-use Rattle.same_runs.specs.Laws.Methods.{same_run_method}
+use Rattle.same_runs.specs.Laws.MethodPoints.{point_in_code}
 use Rattle.same_runs.specs.Renamings.{Names}
-use Rattle.same_runs.specs.SameFrames.{EndSame, catches_at}
-use Rattle.same_runs.specs.SamePrograms.{SamePrograms}
+use Rattle.same_runs.specs.SameFrames.{catches_at}
 
 -- ---- lists
 
@@ -46,31 +42,6 @@ maps_at f (first ∷ items) zero item is = ap (λ (i : _). Some (f i)) (same_Som
 maps_at f (first ∷ items) (suc k) item is = maps_at f items k item is
 
 -- ---- points
-
--- a method with a code, and one with a point
-pub method_of_code : (P : Program) (at : MethodAt) (code : Code) → code_at P at ≡ Some code
-    → (method : RunMethod) × (run_method P at ≡ Some method) × (code_run method ≡ Some code)
-method_of_code P at code is = by (run_method P at) refl is where
-  by : (found : Option RunMethod) → run_method P at ≡ found → option_and_then code_run found ≡ Some code
-      → (method : RunMethod) × (run_method P at ≡ Some method) × (code_run method ≡ Some code)
-  by None e none = absurd (none-some code none)
-  by (Some method) e some = (method, e, some)
-
-pub code_of_point : (P : Program) (at : MethodAt) (place : ℕ) (point : Point) → point_at P at place ≡ Some point
-    → (code : Code) × (code_at P at ≡ Some code) × (slice_get code.points place ≡ Some point)
-code_of_point P at place point is = by (code_at P at) refl is where
-  by : (found : Option Code) → code_at P at ≡ found → option_and_then (λ (code : Code). slice_get code.points place) found ≡ Some point
-      → (code : Code) × (code_at P at ≡ Some code) × (slice_get code.points place ≡ Some point)
-  by None e none = absurd (none-some point none)
-  by (Some code) e some = (code, e, some)
-
-pub point_in_code : (P : Program) (at : MethodAt) (place : ℕ) (code : Code) → code_at P at ≡ Some code
-    → point_at P at place ≡ slice_get code.points place
-point_in_code P at place code is = rw (is) refl
-
--- the handlers around a frame are those of its point
-pub catches_are : (P : Program) (f : MethodState) (point : Point) → point_at P f.at f.place ≡ Some point → catches_at P f ≡ point.catches
-catches_are P f point is = rw (is) refl
 
 -- without handlers nothing is caught
 catch_none : (pool : Constants) (handlers : List Handler) (at : ℕ) → handlers ≡ [] → codes.catches_at pool handlers at ≡ []
@@ -101,23 +72,6 @@ AtPoints u [] = Unit {0}
 AtPoints u (Library made ∷ frames) = AtPoints u frames
 AtPoints u (Beginning class ∷ frames) = AtPoints u frames
 AtPoints u (Method f ∷ frames) = AtPoint u f × AtPoints u frames
-
--- ---- methods
-
--- methods at the same numbers are class initialisers in both programs, or in none
-pub ends_same : {P Q : Program} → SamePrograms P Q → (f g : MethodState) (method : RunMethod)
-    → run_method P f.at ≡ Some method
-    → g.at ≡ f.at
-    → EndSame P Q f g
-ends_same {Q = Q} same f g method is at =
-    let found = same_run_method same f.at method is in
-    record {
-      method = method;
-      also = found.0;
-      is = is;
-      is_also = ap (run_method Q) at ∙ found.1;
-      same = ap (λ (member : Member). bytes_eq member.name clinit) found.2.member;
-    }
 
 -- ---- methods that stand in flat code
 

@@ -1,15 +1,14 @@
 -- Frames that go together, behind each way in which a turn may end.
-use Rattle.std.proofs.Common.{◌≡◌, ◌≤◌, ◌+◌, ◌++◌, not, ℕ, Bool, true, false, List, [], ◌∷◌, drop, length, map, reverse, Option, Some, None, option_map, refl, sym, ap, subst, ◌∙◌, arith}
+use Rattle.std.proofs.Common.{◌≡◌, ◌≤◌, ◌+◌, ◌++◌, ℕ, Bool, true, false, List, [], ◌∷◌, drop, length, map, reverse, Option, Some, None, option_map, refl, sym, ap, subst, ◌∙◌, arith}
 use Rattle.std.proofs.lemmas.List.{append_assoc, drop-append-le}
 use Rattle.class_model.specs.declared.class_file.MethodAt.{MethodAt}
 use Rattle.expanded_code.specs.Expansions.{Coded, Expansion}
-use Rattle.expanded_runs.proofs.Runs.ClassInitialisers.{initialiser_named}
 use Rattle.expanded_runs.proofs.Runs.FlatFacts.{FlatFacts}
 use Rattle.expanded_runs.proofs.Runs.Positions.{Standing, start_of}
-use Rattle.expanded_runs.proofs.Runs.SameStanding.{Holds, InFlat, InOwn, Inside, SameStanding, SameTop, WaitsInFlat, begins_class, beginnings_stand, comparison, flat_stands, in_callee, in_host, is_awaited, libraries_stand, none_stand, own_stand, settled}
+use Rattle.expanded_runs.proofs.Runs.SameStanding.{Holds, InFlat, InOwn, Inside, SameStanding, SameTop, WaitsInFlat, begins_class, beginnings_stand, comparison, flat_stands, in_callee, in_host, libraries_stand, none_stand, own_stand, settled, is_awaited}
 use Rattle.expanded_runs.proofs.Runs.Setup.{Setup, after, before}
 use Rattle.expanded_runs.proofs.Runs.StandingBegins.{begins_same}
-use Rattle.expanded_runs.proofs.Runs.StandingCodes.{AtPoint, AtPoints, code_of_point, ends_same, method_of_code, own_point}
+use Rattle.expanded_runs.proofs.Runs.StandingCodes.{AtPoint, AtPoints, own_point}
 use Rattle.expanded_runs.proofs.Runs.StandingMore.{standing_any, standing_free, standing_more}
 use Rattle.expanded_runs.proofs.Runs.StandingMoves.{flat_changed}
 use Rattle.expanded_runs.proofs.Runs.StandingUnwinds.{stands_unwind}
@@ -21,10 +20,12 @@ use Rattle.member_link.specs.Machine.Acting.{Pending, pending_of, waiting_in}
 use Rattle.member_link.specs.Machine.Codes.{method_code}
 use Rattle.member_link.specs.Machine.Completions.{Completion}
 use Rattle.member_link.specs.Machine.Ops.{Op, no_operation}
-use Rattle.member_link.specs.Machine.Performing.{is_initialiser, resumed}
+use Rattle.member_link.specs.Machine.Performing.{resumed}
 use Rattle.member_link.specs.Machine.Programs.{Point, Program, RunMethod, code_run, point_at, run_method}
 use Rattle.same_runs.specs.Laws.BothBegin.{BeginsOn}
 use Rattle.same_runs.specs.Laws.CaughtUp.{less}
+use Rattle.same_runs.specs.Laws.ClassInitialisers.{initialiser_named}
+use Rattle.same_runs.specs.Laws.MethodPoints.{awaited_is, code_of_point, ends_same, method_of_code, pending_same}
 use Rattle.same_runs.specs.Laws.Moves.{same_count, same_dropped, same_joined, same_reversed}
 use Rattle.same_runs.specs.Laws.Names.{held_more}
 use Rattle.same_runs.specs.Laws.ShiftedUnits.{outside_itself}
@@ -32,7 +33,7 @@ use Rattle.same_runs.specs.Laws.Units.{same_arguments}
 use Rattle.same_runs.specs.Renamings.{Names, SameHeld, SameValues, no_units, none_held, one_held}
 use Rattle.same_runs.specs.SameFrames.{EndSame, in_library}
 use Rattle.same_runs.specs.SameMoves.{moved}
-use Rattle.same_runs.specs.SamePrograms.{SameOp, SamePrograms, same_initialiser, same_op, same_store}
+use Rattle.same_runs.specs.SamePrograms.{SamePrograms}
 use Rattle.same_runs.specs.SameWorlds.{AtLibrary, Goes, Returns, SameBelow, SameWaiting, beginnings_below, both_wait, library_below, methods_below, none_below, none_waits}
 
 -- ---- frames that are given values
@@ -94,16 +95,6 @@ taken_flat {f = f} {g = g} taken i enough =
 pending_moved : (base : ℕ) (start : ℕ → ℕ) (op : Op) → pending_of (moved base start op) ≡ pending_of op
 pending_moved base start no_operation = refl
 pending_moved base start op = refl
-
-pending_same : {P Q : Program} {op also : Op} → SameOp P Q op also → pending_of also ≡ pending_of op
-pending_same (same_op both) = refl
-pending_same (same_store bar) = refl
-pending_same (same_initialiser name there) = refl
-
--- the frame below that of a method that is no class initialiser waits for it
-awaited_is : (u : Setup) (at : MethodAt) (method : RunMethod) (b : Bool) → run_method (before u) at ≡ Some method → is_initialiser method ≡ b
-    → is_awaited u at ≡ not b
-awaited_is u at method b is named = rw (is, named) refl
 
 module _ {u : Setup} (facts : FlatFacts u) (same : SamePrograms (before u) (after u)) where
   abbrev P : Program
@@ -171,7 +162,7 @@ module _ {u : Setup} (facts : FlatFacts u) (same : SamePrograms (before u) (afte
     initialised = λ is. settled (standing_free rest);
     below = λ no.
         below_same (subst (λ (b : Bool). SameStanding u b names ones others)
-        (awaited_is u g.at ends.method false (ap (run_method P) at ∙ ends.is) no) rest);
+        (awaited_is P g.at ends.method false (ap (run_method P) at ∙ ends.is) no) rest);
   }
 
   pub own_returns : {names : Names} {f g : MethodState} {rest rest_also : List RunFrame}
@@ -224,7 +215,7 @@ module _ {u : Setup} (facts : FlatFacts u) (same : SamePrograms (before u) (afte
     initialises = λ more at method grows is is_method.
         begins_same facts at no_units none_held
         (subst (λ (b : Bool). SameStanding u b more rest rest_also)
-        (sym (awaited_is u at method true is_method (initialiser_named P class at method is is_method)))
+        (sym (awaited_is P at method true is_method (initialiser_named P class at method is is_method)))
         (standing_more grows stand));
   }
 

@@ -5,7 +5,7 @@ use Rattle.expanded_code.specs.Expanded.{units_in}
 use Rattle.expanded_code.specs.Expansions.{Coded, Expansion, no_more, replaced, site, stays}
 use Rattle.expanded_runs.proofs.Runs.FlatFacts.{FlatFacts}
 use Rattle.expanded_runs.proofs.Runs.Positions.{Standing, block_from, scope_of, start_of}
-use Rattle.expanded_runs.proofs.Runs.SameStanding.{InFlat, InOwn, Inside, SameStanding, comparison, flat_stands, in_callee, in_host, is_awaited, own_stand, settled}
+use Rattle.expanded_runs.proofs.Runs.SameStanding.{InFlat, InOwn, Inside, SameStanding, comparison, flat_stands, in_callee, in_host, own_stand, settled, is_awaited}
 use Rattle.expanded_runs.proofs.Runs.Setup.{Setup, after, before}
 use Rattle.expanded_runs.proofs.Runs.StandingCodes.{AtPoints}
 use Rattle.expanded_runs.proofs.Runs.StandingMore.{standing_more}

@@ -21,7 +21,7 @@ use Rattle.expanded_runs.proofs.Runs.EntryLaws.{arguments_units, units_of_argume
 use Rattle.expanded_runs.proofs.Runs.FlatFacts.{FlatFacts}
 use Rattle.expanded_runs.proofs.Runs.FlatOps.{catches_in}
 use Rattle.expanded_runs.proofs.Runs.Positions.{instrs_of}
-use Rattle.expanded_runs.proofs.Runs.SameStanding.{InFlat, InPlace, Inside, SameStanding, SameTop, beginnings_stand, comparison, is_awaited, libraries_stand}
+use Rattle.expanded_runs.proofs.Runs.SameStanding.{InFlat, InPlace, Inside, SameStanding, SameTop, beginnings_stand, comparison, libraries_stand, is_awaited}
 use Rattle.expanded_runs.proofs.Runs.Setup.{Setup, after, before}
 use Rattle.expanded_runs.proofs.Runs.StandingCodes.{AtPoints}
 use Rattle.expanded_runs.proofs.Runs.StandingFrames.{at_library, begins_on}

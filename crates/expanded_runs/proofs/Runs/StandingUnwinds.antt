@@ -8,9 +8,9 @@ use Rattle.expanded_runs.proofs.Runs.FlatFacts.{FlatFacts}
 use Rattle.expanded_runs.proofs.Runs.FlatOps.{catches_in}
 use Rattle.expanded_runs.proofs.Runs.Positions.{Standing, host_standing, instrs_of, start_of}
 use Rattle.expanded_runs.proofs.Runs.ReplacedCalls.{IsPlainMethod}
-use Rattle.expanded_runs.proofs.Runs.SameStanding.{InFlat, InOwn, InPlace, Inside, SameStanding, SameTop, beginnings_stand, flat_stands, in_callee, in_host, is_awaited, libraries_stand, none_stand, own_stand, settled}
+use Rattle.expanded_runs.proofs.Runs.SameStanding.{InFlat, InOwn, InPlace, Inside, SameStanding, SameTop, beginnings_stand, flat_stands, in_callee, in_host, libraries_stand, none_stand, own_stand, settled, is_awaited}
 use Rattle.expanded_runs.proofs.Runs.Setup.{Setup, after, before}
-use Rattle.expanded_runs.proofs.Runs.StandingCodes.{AtPoint, AtPoints, catches_are, code_of_point, ends_same, instr_of_point, method_of_code, own_point, point_in_code, point_of_instr, standing_instr, standing_of}
+use Rattle.expanded_runs.proofs.Runs.StandingCodes.{AtPoint, AtPoints, instr_of_point, own_point, point_of_instr, standing_instr, standing_of}
 use Rattle.expanded_runs.proofs.Runs.StandingMore.{in_place_more, standing_free, standing_more}
 use Rattle.expanded_runs.proofs.Runs.Standings.{IsStanding}
 use Rattle.flow_code.specs.FlatCode.{FlatCode}
@@ -21,6 +21,7 @@ use Rattle.machine_values.specs.declared.value.Value.{Value}
 use Rattle.machine_values.specs.declared.value.Value.TheVariants.{Ref}
 use Rattle.member_link.specs.Machine.Codes.{method_code}
 use Rattle.member_link.specs.Machine.Programs.{Catch, Point, Program, RunMethod, code_at, code_run, point_at, run_method}
+use Rattle.same_runs.specs.Laws.MethodPoints.{catches_are, code_of_point, ends_same, method_of_code, point_in_code}
 use Rattle.same_runs.specs.Laws.Names.{held_more, units_more}
 use Rattle.same_runs.specs.Renamings.{Names, NamesMore, and_value, no_values, none_held, same_reference}
 use Rattle.same_runs.specs.SameFrames.{PassesOn, SameCatches, Unwinds, and_catch, catches_at, caught, in_beginnings, in_both, in_first, in_library, in_none, no_catches}

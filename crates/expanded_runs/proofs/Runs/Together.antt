@@ -1,22 +1,22 @@
 -- Runs of both programs that go together, and how they do behind a turn of both, or of the first alone.
-use Rattle.std.proofs.Common.{◌≡◌, ◌≢◌, ◌⊎◌, ◌<◌, ◌≤◌, ◌+◌, ◌-◌, ◌*◌, ℕ, Bool, false, List, [], ◌∷◌, ◌++◌, length, map, slice_get, Some, refl, sym, ap, subst, ◌∙◌, arith, inl, inr}
+use Rattle.std.proofs.Common.{◌≡◌, ◌≢◌, ◌⊎◌, ◌<◌, ◌≤◌, ◌+◌, ◌-◌, ◌*◌, ℕ, Bool, false, List, [], ◌∷◌, ◌++◌, length, map, refl, sym, ap, subst, ◌∙◌, arith, inl, inr}
 use Rattle.std.specs.List.{AllByRecursion}
 use Rattle.expanded_runs.proofs.Runs.SameStanding.{SameStanding, SameTop, comparison, beginnings_stand, flat_stands, libraries_stand, none_stand, own_stand}
 use Rattle.expanded_runs.proofs.Runs.Setup.{Setup, after, before}
 use Rattle.machine_values.specs.declared.frame.RunFrame.{RunFrame}
 use Rattle.machine_values.specs.declared.frame.RunFrame.TheVariants.{Beginning}
-use Rattle.member_link.specs.Machine.Beginnings.{begun_memory, begun_on}
-use Rattle.member_link.specs.Machine.Programs.{Program, RunClass}
-use Rattle.member_link.specs.Machine.Runs.{Run, turn, turn_by}
+use Rattle.member_link.specs.Machine.Programs.{Program}
+use Rattle.member_link.specs.Machine.Runs.{Run, turn}
 use Rattle.member_link.specs.Machine.Stepping.{is_library_turn, step}
-use Rattle.member_link.specs.Machine.Worlds.{Halt, Memory, World, going, stuck}
-use Rattle.same_runs.specs.Laws.AloneTurn.{AloneTurn, beginning_alone, begins_deeper, begins_fewer, is_over, unbegun_in}
-use Rattle.same_runs.specs.Laws.BothBegin.{counted}
+use Rattle.member_link.specs.Machine.Worlds.{Memory, World, going, stuck}
+use Rattle.same_runs.specs.Laws.AloneRuns.{AloneGoesOn, AloneOnTop, BeginsAlone, NoTurnBelow, alone_goes_on, seen_still}
+use Rattle.same_runs.specs.Laws.AloneTurn.{unbegun_in}
+use Rattle.same_runs.specs.Laws.BothTurns.{BehindBoth, behind_both, both_are_over, both_go_on}
 use Rattle.same_runs.specs.Laws.CaughtUp.{BothTurn, turn_keeps}
 use Rattle.same_runs.specs.Laws.QuietBeginnings.{BeginAlike}
-use Rattle.same_runs.specs.Laws.Settled.{SameSettled, SettlesTo, settled_going, settled_landed, settled_over, settles}
+use Rattle.same_runs.specs.Laws.Turns.{over_stays, turn_is_step, turns_keep}
 use Rattle.same_runs.specs.Renamings.{Names}
-use Rattle.same_runs.specs.SameMemories.{IsInert, SameMemories}
+use Rattle.same_runs.specs.SameMemories.{SameMemories}
 use Rattle.same_runs.specs.SamePrograms.{SamePrograms}
 use Rattle.same_runs.specs.SameWorlds.{Compares, SameAfter, SameSeen}
 use Rattle.same_runs.specs.Simulations.{Keeps, Quietly, at_once}
@@ -31,17 +31,6 @@ depth (libraries_stand held rest) = 0
 depth (beginnings_stand rest) = 0
 depth (own_stand in_own rest) = 0
 depth (flat_stands in_flat waits rest) = length in_flat.chain
-
--- the first alone has begun it, and its beginning runs nothing
-pub record BeginsAlone (P : Program) (class : ℕ) : Type 0 where
-  pub found : RunClass
-  pub is : slice_get P.classes class ≡ Some found
-  pub inert : IsInert P class
-
--- where beginnings of the first alone stand on top, it is not the library's turn below them
-abbrev pub NoTurnBelow : List ℕ → List RunFrame → Type 0
-NoTurnBelow [] frames = Unit {0}
-NoTurnBelow (class ∷ now) frames = is_library_turn frames ≡ false
 
 -- What falls where the first takes a turn alone: it begins a class, goes on with a beginning, or enters a callee.
 abbrev pub weight : Program → Memory → List ℕ → ℕ → ℕ
@@ -102,11 +91,6 @@ module _ (u : Setup) (basis : Basis u) where
 
   -- ---- turns
 
-  -- a run that goes on, where it is not the library's turn, takes a step
-  pub turn_steps : (r : Run) → r.world.halt ≡ going → is_library_turn r.world.frames ≡ false
-      → turn P r ≡ record r { world = step P r.world }
-  turn_steps r goes no_turn = ap (turn_by P r) goes ∙ rw (no_turn) refl
-
   -- what a turn leads to is typed, and not stuck
   pub turn_typed : {one : Run} {w : World}
       → one.world.halt ≡ going
@@ -117,20 +101,13 @@ module _ (u : Setup) (basis : Basis u) where
   turn_typed {one = one} {w = w} goes no_turn typed turned =
       (subst (TypedWorld P u.typings) led stays.typed, λ is. stays.not_stuck going_on (ap (λ (v : World). v.halt) led ∙ is)) where
         led : step P one.world ≡ w
-        led = ap (λ (r : Run). r.world) (sym (turn_steps one goes no_turn) ∙ turned)
+        led = turn_is_step P one w goes no_turn turned
 
         stays : StaysTyped P u.typings one.world (step P one.world)
         stays = basis.steps_typed one.world typed
 
         going_on : one.world.halt ≢ stuck
         going_on is = absurd (cc (sym goes ∙ is))
-
-  -- a run that is over stays
-  over_stays : (R : Program) (r : Run) → r.world.halt ≢ going → turn R r ≡ r
-  over_stays R r over = by r.world.halt refl where
-    by : (h : Halt) → r.world.halt ≡ h → turn R r ≡ r
-    by going is = absurd (over is)
-    by h is = ap (turn_by R r) is
 
   -- ---- behind a turn of both
 
@@ -173,30 +150,22 @@ module _ (u : Setup) (basis : Basis u) where
       → other.actions ≡ one.actions
       → other.used ≡ one.used
       → (later : ℕ) × Related u later one other
-  after_both {names = names} one other then typed actions used = by (settles basis.same basis.alike basis.compares then) where
-    settled : (waits : Run) → Quietly Q other waits → waits.actions ≡ other.actions → waits.used ≡ other.used
-        → SameSettled P (comparison u) names one.world waits.world
-        → (later : ℕ) × Related u later one other
-    settled waits quietly left taken (settled_going more grows frames memories seen goes goes_also) =
-        let now = together more one waits (basis.settles more one.world waits.world.frames typed frames) memories seen goes goes_also
-        (left ∙ actions) (taken ∙ used) typed in
-        (now.0, record { waits = waits; quietly = quietly; state = inl now.1 })
-    settled waits quietly left taken (settled_landed more grows frames memories seen goes goes_also) =
-        let now = together more one waits (basis.settles more one.world waits.world.frames typed frames) memories seen goes goes_also
-        (left ∙ actions) (taken ∙ used) typed in
-        (now.0, record { waits = waits; quietly = quietly; state = inl now.1 })
-    settled waits quietly left taken (settled_over more seen over same) = (
-      0,
-      record {
-        waits = waits;
-        quietly = quietly;
-        state =
-            inr (record { names = more; seen = seen; over = over; same = same; actions = left ∙ actions; used = taken ∙ used });
-      },
-    )
-
-    by : SettlesTo P Q (comparison u) names one.world other → (later : ℕ) × Related u later one other
-    by to = settled to.waits to.quietly to.actions to.used to.same
+  after_both one other then typed actions used =
+      by (behind_both basis.same basis.alike basis.compares (λ more ones others is. is) then) where
+        by : BehindBoth P Q (comparison u) one.world other → (later : ℕ) × Related u later one other
+        by (both_go_on waits more quietly left taken frames memories seen goes goes_also) =
+            let now = together more one waits (basis.settles more one.world waits.world.frames typed frames) memories seen goes goes_also
+            (left ∙ actions) (taken ∙ used) typed in
+            (now.0, record { waits = waits; quietly = quietly; state = inl now.1 })
+        by (both_are_over waits more quietly left taken seen over same) = (
+          0,
+          record {
+            waits = waits;
+            quietly = quietly;
+            state =
+                inr (record { names = more; seen = seen; over = over; same = same; actions = left ∙ actions; used = taken ∙ used });
+          },
+        )
 
   -- a turn of both keeps runs related
   pub both_keep : {names : Names} {measure : ℕ} {one other : Run}
@@ -214,14 +183,9 @@ module _ (u : Setup) (basis : Basis u) where
 
   -- runs that are over
   pub over_keeps : (measure : ℕ) (one other : Run) → Over u one other → Keeps P Q (Related u) measure one other
-  over_keeps measure one other over = record {
-    waits = other;
-    quietly = at_once;
-    measure_then = measure;
-    goes_on = inr (subst (λ (r : Run). Related u measure r (turn Q other)) (sym (over_stays P one over.over))
-        (subst (Related u measure one) (sym (over_stays Q other (λ is. over.over (sym over.same ∙ is))))
-        (record { waits = other; quietly = at_once; state = inr over })));
-  }
+  over_keeps measure one other over =
+      turns_keep measure measure (over_stays P one over.over) (over_stays Q other (λ is. over.over (sym over.same ∙ is)))
+      (record { waits = other; quietly = at_once; state = inr over })
 
   -- ---- turns of the first alone
 
@@ -247,77 +211,33 @@ module _ (u : Setup) (basis : Basis u) where
   pub beginning_keeps : {measure : ℕ} {one other : Run} (t : Together u measure one other) (class : ℕ) (now : List ℕ)
       → t.now ≡ class ∷ now
       → Keeps P Q (Related u) measure one other
-  beginning_keeps {measure = measure} {one = one} {other = other} t class now is = by
-      (beginning_alone class rest here.found basis.alike t.goes stands here.is here.inert memories) where
-        rest : List RunFrame
-        rest = map Beginning now ++ t.ones
+  beginning_keeps {measure = measure} {one = one} {other = other} t class now is =
+      alone_keeps {later = weight P on.world.memory on.later (depth t.frames)} at_once on.turned
+      (let falls = on.falls in
+      let low = subst (λ (classes : List ℕ). weight P one.world.memory classes (depth t.frames) ≤ measure) is t.low in omega (arith, falls, low))
+      (record {
+        names = t.names;
+        now = on.later;
+        ones = t.ones;
+        stands = on.top.stands;
+        others = t.others;
+        stands_also = t.stands_also;
+        frames = t.frames;
+        alone = on.top.alone;
+        no_turn = on.top.no_turn;
+        memories = on.top.memories;
+        seen = seen_still on.known on.events t.seen;
+        goes = on.goes;
+        goes_also = t.goes_also;
+        actions = t.actions;
+        used = t.used;
+        typed = (turn_typed t.goes (ap is_library_turn top.stands) t.typed on.turned).0;
+        low = omega arith;
+      }) where
+        top : AloneOnTop P (λ n m. n ≡ m) (λ n m. n ≡ m) [] t.names (class ∷ now) t.ones one.world other.world.memory
+        top =
+            subst (λ (classes : List ℕ). AloneOnTop P (λ n m. n ≡ m) (λ n m. n ≡ m) [] t.names classes t.ones one.world other.world.memory) is
+            (record { stands = t.stands; alone = t.alone; no_turn = t.no_turn; memories = t.memories })
 
-        stands : one.world.frames ≡ Beginning class ∷ rest
-        stands = t.stands ∙ ap (λ (classes : List ℕ). map Beginning classes ++ t.ones) is
-
-        alone : AllByRecursion (BeginsAlone P) (class ∷ now)
-        alone = subst (AllByRecursion (BeginsAlone P)) is t.alone
-
-        here : BeginsAlone P class
-        here = alone.0
-
-        memories : SameMemories P (λ n m. n ≡ m) (λ n m. n ≡ m) [] t.names (class ∷ now) one.world.memory other.world.memory
-        memories = subst (λ (classes : List ℕ). SameMemories P (λ n m. n ≡ m) (λ n m. n ≡ m) [] t.names classes one.world.memory other.world.memory) is t.memories
-
-        no_turn : is_library_turn t.ones ≡ false
-        no_turn = subst (λ (classes : List ℕ). NoTurnBelow classes t.ones) is t.no_turn
-
-        low : weight P one.world.memory (class ∷ now) (depth t.frames) ≤ measure
-        low = subst (λ (classes : List ℕ). weight P one.world.memory classes (depth t.frames) ≤ measure) is t.low
-
-        below : (classes : List ℕ) → NoTurnBelow classes t.ones
-        below [] = tt
-        below (first ∷ classes) = no_turn
-
-        typed : (w : World) → turn P one ≡ record one { world = w } → TypedWorld P u.typings w
-        typed w turned = (turn_typed t.goes (ap is_library_turn stands) t.typed turned).0
-
-        by : AloneTurn P (λ n m. n ≡ m) (λ n m. n ≡ m) [] t.names now class rest one other.world.memory → Keeps P Q (Related u) measure one other
-        by (begins_deeper first found found_is inert none turned memories_then) =
-            alone_keeps {later = weight P (begun_memory P first one.world.memory) (first ∷ class ∷ now) (depth t.frames)} at_once turned
-            (let fewer = begins_fewer P P first found one.world.memory found_is none in omega (arith, fewer, low))
-            (record {
-              names = t.names;
-              now = first ∷ class ∷ now;
-              ones = t.ones;
-              stands = refl;
-              others = t.others;
-              stands_also = t.stands_also;
-              frames = t.frames;
-              alone = (record { found = found; is = found_is; inert = inert }, alone);
-              no_turn = no_turn;
-              memories = memories_then;
-              seen = record { known = t.seen.known; events = t.seen.events };
-              goes = t.goes;
-              goes_also = t.goes_also;
-              actions = t.actions;
-              used = t.used;
-              typed = typed (begun_on P first (counted one) (Beginning class ∷ rest)) turned;
-              low = omega arith;
-            })
-        by (is_over turned memories_then) =
-            alone_keeps {later = weight P one.world.memory now (depth t.frames)} at_once turned (omega (arith, low))
-            (record {
-              names = t.names;
-              now = now;
-              ones = t.ones;
-              stands = refl;
-              others = t.others;
-              stands_also = t.stands_also;
-              frames = t.frames;
-              alone = alone.1;
-              no_turn = below now;
-              memories = memories_then;
-              seen = record { known = t.seen.known; events = t.seen.events };
-              goes = t.goes;
-              goes_also = t.goes_also;
-              actions = t.actions;
-              used = t.used;
-              typed = typed (record (counted one) { frames = rest }) turned;
-              low = omega arith;
-            })
+        on : AloneGoesOn P (λ n m. n ≡ m) (λ n m. n ≡ m) [] t.names (class ∷ now) t.ones one other.world.memory
+        on = alone_goes_on class now basis.alike t.goes top

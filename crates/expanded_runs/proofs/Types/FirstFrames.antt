@@ -23,7 +23,6 @@ use Rattle.class_model.specs.declared.instr.Placed.{Placed}
 use Rattle.class_tree.specs.Headers.{Classes, IsClassFile}
 use Rattle.expanded_code.specs.Sites.{HasFrames}
 use Rattle.expanded_runs.proofs.Runs.ArgumentRoom.{arguments_fit}
-use Rattle.expanded_runs.proofs.Runs.NativeMethods.{scope_is_at}
 use Rattle.expanded_runs.proofs.TypedAloneNumbers.{frame_found, number_of_placed}
 use Rattle.expanded_runs.proofs.Types.OwnPoints.{IsTyped, TypingLaws, itself, typed_method}
 use Rattle.expanded_runs.proofs.Types.RowUnits.{filled_long}
@@ -32,6 +31,7 @@ use Rattle.flow_code.specs.TypedFrames.{FolderFrames}
 use Rattle.member_link.specs.BodyTyping.{FlowsInto, Reaches, begins_at}
 use Rattle.member_link.specs.Rows.FrameAssignability.{IsFrameAssignable}
 use Rattle.member_link.specs.Scope.{Scope, instructions, scope_at}
+use Rattle.same_runs.specs.Laws.Scopes.{scope_is_at}
 use Rattle.type_rules.specs.MethodBodies.{body_of, point_of}
 use Rattle.type_rules.specs.Stated.{entry}
 use Rattle.type_rules.specs.Verified.{TypesFolder}

@@ -34,7 +34,6 @@ use Rattle.class_tree.specs.Trees.{IsTree}
 use Rattle.class_tree.specs.declared.place.Place.TheVariants as places
 use Rattle.code_bytes.specs.Codes.{HasOperands, HasReadMethods, HasReadOperands, HaveOperands, IsReadMethod}
 use Rattle.expanded_code.specs.Sites.{HasFrames}
-use Rattle.expanded_runs.proofs.Runs.NativeMethods.{IsScopeAt, scope_is_at}
 use Rattle.expanded_runs.proofs.Types.EachFrame.{each_frame, framed_is}
 use Rattle.expanded_runs.proofs.Types.FirstFrames.{frames_entered, frames_long}
 use Rattle.expanded_runs.proofs.Types.FrameFacts.{FrameFacts}
@@ -57,6 +56,7 @@ use Rattle.member_link.specs.References.{DescriptorNames, IsNamedThere, TypeName
 use Rattle.member_link.specs.Rows.Table.{row_of}
 use Rattle.member_link.specs.Scope.{Scope, instructions, own_descriptor, row_scope, scope_at}
 use Rattle.member_link.specs.Uses.{frame_checks, instr_use_checks}
+use Rattle.same_runs.specs.Laws.Scopes.{IsScopeAt, scope_is_at}
 use Rattle.type_rules.specs.MethodBodies.{point_of}
 use Rattle.type_rules.specs.Stated.{entry, stated, stated_at}
 use Rattle.type_rules.specs.Verified.{TypesFolder}

@@ -1,5 +1,5 @@
 -- A program of a folder whose methods run flat code is the program of the folder but for these codes.
-use Rattle.std.proofs.Common.{◌≡◌, ℕ, suc, Bool, true, false, List, [], ◌∷◌, map, slice_get, Option, Some, None, option_map, refl, sym, subst, ◌∙◌}
+use Rattle.std.proofs.Common.{◌≡◌, ℕ, suc, Bool, true, false, List, [], ◌∷◌, map, slice_get, Option, Some, None, option_map, IsTrue, refl, sym, subst, ◌∙◌}
 use Rattle.std.specs.List.{AllByRecursion}
 use Rattle.std.proofs.lemmas.Option.{none-some, same_Some, slice_get-map}
 use Rattle.class_model.specs.Header.{method_member}
@@ -12,12 +12,14 @@ use Rattle.class_model.specs.declared.class_file.Method.{Method}
 use Rattle.class_model.specs.declared.pool.Const.{Const}
 use Rattle.class_model.specs.declared.pool.Const.TheVariants as consts
 use Rattle.class_tree.specs.Headers.{Classes, Headers, Name, headers_of}
+use Rattle.class_tree.specs.Names.{is_interface}
 use Rattle.member_link.specs.Machine.Classes.{constant_of, program_of, run_class_of, run_method_of, start_of, starts_from}
 use Rattle.member_link.specs.Machine.Links.{AreLinksOf}
 use Rattle.member_link.specs.Machine.Programs.{Links, RunClass, RunMethod, StartValue, start_string}
+use Rattle.member_link.specs.Machine.Replaced.{Replacement}
 use Rattle.member_link.specs.References.{Reference}
 use Rattle.same_runs.specs.Flats.{Flats, flat_program, flats_for_codes}
-use Rattle.same_runs.specs.SamePrograms.{IsPlainStart, SameBar, SamePrograms}
+use Rattle.same_runs.specs.SamePrograms.{IsAdded, IsPlainStart, SameBar, SamePrograms}
 use Rattle.same_runs.specs.Laws.ClearedFlags.{bar_as_before}
 use Rattle.same_runs.specs.Laws.NoInitLinks.{links_no_init}
 use Rattle.same_runs.specs.Laws.ReplacedPrograms.{ReplacesAlike, replaced_same}
@@ -78,31 +80,58 @@ members_of_class links headers class (method ∷ methods) = rw (members_of_class
 -- ---- the program of a folder
 
 -- each class of the program is that of a class file
-class_of_file : (classes : Classes) (links : Links) (number : ℕ) (class : RunClass)
+pub class_of_file : (classes : Classes) (links : Links) (number : ℕ) (class : RunClass)
     → slice_get (program_of classes links).classes number ≡ Some class
-    → (file : ClassFile) × (run_class_of links (headers_of classes) file ≡ class)
-class_of_file classes links number class is = by (slice_get classes.folder number)
+    → (file : ClassFile) × (run_class_of links (headers_of classes) file ≡ class) × (slice_get classes.folder number ≡ Some file)
+class_of_file classes links number class is = by (slice_get classes.folder number) refl
     (sym (slice_get-map (run_class_of links (headers_of classes)) classes.folder number) ∙ is) where
-      by : (file : Option ClassFile) → option_map (run_class_of links (headers_of classes)) file ≡ Some class
-          → (file : ClassFile) × (run_class_of links (headers_of classes) file ≡ class)
-      by None is = absurd (none-some class is)
-      by (Some file) is = (file, same_Some (run_class_of links (headers_of classes) file) class is)
+      by : (file : Option ClassFile) → slice_get classes.folder number ≡ file → option_map (run_class_of links (headers_of classes)) file ≡ Some class
+          → (file : ClassFile) × (run_class_of links (headers_of classes) file ≡ class) × (slice_get classes.folder number ≡ Some file)
+      by None there is = absurd (none-some class is)
+      by (Some file) there is = (file, same_Some (run_class_of links (headers_of classes) file) class is, there)
+
+-- ---- what takes the place
+
+-- A folder's program in which initialisers are added to classes, whatever codes and flags are replaced.
+pub added_alike : (classes : Classes) (links : Links) → AreLinksOf (headers_of classes) links
+    → (r : Replacement)
+    → ((number : ℕ) (class : RunClass)
+    → slice_get (program_of classes links).classes number ≡ Some class
+    → AllByRecursion (IsAdded (program_of classes links) class) (r.added number))
+    → ((number : ℕ) (class : RunClass)
+    → slice_get (program_of classes links).classes number ≡ Some class
+    → IsTrue (is_interface class.header)
+    → r.added number ≡ [])
+    → ReplacesAlike (program_of classes links) r
+added_alike classes links linked r are_added of_interface =
+    record {
+      no_init = links_no_init (headers_of classes) links linked;
+      members = λ number class is.
+          let file = class_of_file classes links number class is in
+          subst (λ (c : RunClass). map (λ (method : RunMethod). method.member) c.methods ≡ c.header.methods) file.1
+          (members_of_class links (headers_of classes) file.0 file.0.methods);
+      plain_starts = λ number class is.
+          let file = class_of_file classes links number class is in
+          subst (λ (c : RunClass). AllByRecursion IsPlainStart c.starts) file.1 (starts_plain file.0.pool 0 file.0.fields);
+      are_added = are_added;
+      of_interface = of_interface;
+    }
+
+-- one to which nothing is added
+pub none_added_alike : (classes : Classes) (links : Links) → AreLinksOf (headers_of classes) links
+    → (r : Replacement)
+    → ((number : ℕ) → r.added number ≡ [])
+    → ReplacesAlike (program_of classes links) r
+none_added_alike classes links linked r none =
+    added_alike classes links linked r
+    (λ number class there.
+    subst (AllByRecursion (IsAdded (program_of classes links) class)) (sym (none number)) tt)
+    (λ number class there interface. none number)
 
 -- Flat codes of any methods of a folder leave its program the same but for these codes.
 pub flats_alike : (classes : Classes) (links : Links) (flats : Flats) → AreLinksOf (headers_of classes) links
     → ReplacesAlike (program_of classes links) (flats_for_codes classes links flats)
-flats_alike classes links flats are = record {
-  no_init = links_no_init (headers_of classes) links are;
-  members = λ number class is.
-      let file = class_of_file classes links number class is in
-      subst (λ (c : RunClass). map (λ (method : RunMethod). method.member) c.methods ≡ c.header.methods) file.1
-      (members_of_class links (headers_of classes) file.0 file.0.methods);
-  plain_starts = λ number class is.
-      let file = class_of_file classes links number class is in
-      subst (λ (c : RunClass). AllByRecursion IsPlainStart c.starts) file.1 (starts_plain file.0.pool 0 file.0.fields);
-  are_added = λ number class is. tt;
-  of_interface = λ number class is interface. refl;
-}
+flats_alike classes links flats linked = none_added_alike classes links linked (flats_for_codes classes links flats) (λ number. refl)
 
 pub flat_program_same : (classes : Classes) (links : Links) (flats : Flats) → AreLinksOf (headers_of classes) links
     → SamePrograms (program_of classes links) (flat_program classes links flats)

@@ -1,12 +1,13 @@
 -- A program in which some methods run other code, flags of fields are cleared, and instance initialisers are added is the same but for
 -- these.
-use Rattle.std.proofs.Common.{arith, ◌≡◌, ◌+◌, ◌*◌, ◌≤◌, ◌<◌, ◌%◌, ◌^◌, ◌==◌, not, ℕ, zero, suc, Bool, true, false, List, [], ◌∷◌, ◌++◌, map, slice_get, bit_and, is_some, Option, Some, None, IsTrue, refl, sym, ap, subst, ◌∙◌}
+use Rattle.std.proofs.Common.{arith, ◌≡◌, ◌+◌, ◌*◌, ◌≤◌, ◌<◌, ◌%◌, ◌^◌, ◌==◌, not, ℕ, zero, suc, Bool, true, false, List, [], ◌∷◌, ◌++◌, map, slice_get, bit_and, is_some, Option, Some, None, option_map, if◌then◌else◌, IsTrue, refl, sym, ap, subst, ◌∙◌}
 use Rattle.std.specs.Int.{bit_at}
 use Rattle.std.specs.Int.Bits.{and_self, bit_xor, xor_add_and}
 use Rattle.std.specs.List.{AllByRecursion}
 use Rattle.std.proofs.lemmas.Bool.{eqb-true, false≢true}
 use Rattle.std.proofs.lemmas.List.{map-append}
 use Rattle.std.proofs.lemmas.Nat.{and_assoc, and_le_l}
+use Rattle.std.proofs.lemmas.Option.{none-some, same_Some}
 use Rattle.std.proofs.lemmas.Nat.Bits.{and_pow, bit_at-lt, bit_at_and, bit_at_xor}
 use Rattle.class_model.specs.Members.{FINAL, NATIVE, PRIVATE, STATIC, has}
 use Rattle.class_model.specs.declared.header.Member.{Member}
@@ -113,6 +114,14 @@ body_code method (Some code) = by (has method.member.flags NATIVE) refl method.c
   by true is old has_code = rw (is) refl
   by false is None has_code = rw (is, has_code) refl
   by false is (Some old) has_code = rw (is, has_code) refl
+
+-- the code of a method is another one where it has code
+pub body_is : (method : RunMethod) (body code : Code) → code_run (with_body method (Some body)) ≡ Some code → code ≡ body
+body_is method body code runs = by (has method.member.flags NATIVE) method.code runs where
+  by : (native : Bool) (own : Option Code) → (if native then None else option_map (λ (old : Code). body) own) ≡ Some code → code ≡ body
+  by true own e = absurd (none-some code e)
+  by false None e = absurd (none-some code e)
+  by false (Some old) e = sym (same_Some body code e)
 
 methods_same : (r : Replacement) (class number : ℕ) (methods : List RunMethod)
     → SameMethods methods (map_numbered (method_replaced r class) number methods)

@@ -1,5 +1,7 @@
 -- Programs whose runs a simulation relates from the start run the same, or equally.
-use Rattle.std.proofs.Common.{◌≡◌, ◌≤◌, ℕ, List, ◌∷◌, refl, sym, ap, ◌∙◌}
+use Rattle.std.proofs.Common.{◌≡◌, ◌≤◌, ℕ, List, [], ◌∷◌, None, refl, sym, ap, ◌∙◌}
+use Rattle.std.proofs.lemmas.Bool.{false≢true}
+use Rattle.std.proofs.lemmas.Option.{none-some}
 use Rattle.machine_values.specs.declared.action.Action.{Action}
 use Rattle.machine_values.specs.declared.event.End.{End}
 use Rattle.machine_values.specs.declared.event.Event.{Event}
@@ -7,8 +9,10 @@ use Rattle.member_link.specs.Machine.Programs.{Program}
 use Rattle.member_link.specs.Machine.Runs.{Run, begins_with, end_of, shown}
 use Rattle.member_link.specs.Machine.SameRuns.{AreSameEvents, IsSameShown, SameRuns}
 use Rattle.member_link.specs.Machine.Stepping.{is_library_turn}
-use Rattle.member_link.specs.Machine.Worlds.{Halt, going, stopped, faulted, init_threw, array_too_long, stuck}
+use Rattle.member_link.specs.Machine.Worlds.{Halt, going, start, stopped, faulted, init_threw, array_too_long, stuck}
 use Rattle.same_runs.specs.EqualRuns.{EqualRuns}
+use Rattle.same_runs.specs.Renamings.{Names}
+use Rattle.same_runs.specs.SameMemories.{HasOwnConstants, SameMemories}
 use Rattle.same_runs.specs.SameWorlds.{Comparison, SameEvents, no_events, and_event}
 use Rattle.same_runs.specs.Simulations.{IsSimulation, ShowBothWays}
 use Rattle.same_runs.specs.Laws.BothWays.{both_ways}
@@ -123,3 +127,39 @@ pub shows_equal : (one other : Run) → one.world.events ≡ other.world.events 
 shows_equal one other events end =
     ap (λ (events : List Event). record { events = events; end = end_of one }) events
     ∙ ap (λ (end : End). record { events = other.world.events; end = end }) (sym end)
+
+-- ---- memories at the start
+
+-- no object has a name yet
+abbrev pub none_named : Names
+none_named reference = None
+
+pub memories_at_start : (P : Program) {Allocated Entered : ℕ → ℕ → Type 0} → Allocated 0 0 → Entered 0 0
+    → SameMemories P Allocated Entered [] none_named [] start.memory start.memory
+memories_at_start P allocations entries = record {
+  heaps = record {
+    renaming = record { once = λ first second reference is also. absurd (none-some reference is) };
+    objects = λ reference named is. absurd (none-some named is);
+    own = no_constants;
+    own_also = no_constants;
+    kept = λ constant named is. absurd (none-some named is);
+    named = λ constant reference named kept is. absurd (none-some named is);
+    fresh = λ constant reference kept none. absurd (none-some reference kept);
+    stays = tt;
+  };
+  statics = record {
+    begun = λ class is. is;
+    values = λ class field begun. absurd (false≢true begun);
+    alone = λ class begun none. absurd (false≢true begun);
+    unwritten = λ class field none. refl;
+    unwritten_also = λ class field none. refl;
+  };
+  allocations = allocations;
+  entries = entries;
+} where
+  no_constants : HasOwnConstants start.memory.heap
+  no_constants = record {
+    there = λ constant reference kept. absurd (none-some reference kept);
+    is_of = λ constant reference kept. absurd (none-some reference kept);
+    has = λ constant reference kept. absurd (none-some constant kept);
+  }

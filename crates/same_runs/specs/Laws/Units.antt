@@ -1,9 +1,12 @@
 -- Local units that are the same in both runs: what is read is the same, and they stay so where the same is stored.
-use Rattle.std.proofs.Common.{◌≡◌, ◌+◌, nat_le, ℕ, zero, suc, ℤ, Bool, true, false, List, length, slice_get, slice_set, Option, Some, None, if◌then◌else◌, refl, ap}
+use Rattle.std.proofs.Common.{◌≡◌, ◌+◌, ◌-◌, ◌++◌, nat_le, ℕ, zero, suc, ℤ, Bool, true, false, List, length, replicate, slice_get, slice_set, Option, Some, None, if◌then◌else◌, refl, ap}
+use Rattle.class_model.specs.declared.class_file.MethodAt.{MethodAt}
 use Rattle.class_model.specs.declared.descriptor.Kind.{Kind}
 use Rattle.machine_values.specs.Values.{has_kind, is_wide_value, units_of_values}
 use Rattle.machine_values.specs.declared.value.Value.{Value}
+use Rattle.member_link.specs.Machine.Beginnings.{frame_with}
 use Rattle.member_link.specs.Machine.Locals.{cut_before, incremented, local_value, stored, width_of}
+use Rattle.member_link.specs.Machine.Programs.{Code, Program, code_at}
 use Rattle.same_runs.specs.Renamings.{Names, SameUnit, no_value, has_value, SameUnits, no_units, and_unit, SameValue, same_int, same_long, same_float, same_double, same_null, same_reference, SameValues, no_values, and_value}
 use Rattle.same_runs.specs.SameMoves.{SameStores, no_store, have_store}
 use Rattle.same_runs.specs.Laws.Moves.{same_kind, same_wide}
@@ -111,3 +114,24 @@ module _ {names : Names} where
   same_arguments (and_value same_double rest) = and_unit (has_value same_double) (and_unit no_value (same_arguments rest))
   same_arguments (and_value same_null rest) = and_unit (has_value same_null) (same_arguments rest)
   same_arguments (and_value (same_reference is) rest) = and_unit (has_value (same_reference is)) (same_arguments rest)
+
+-- units with which a method begins, where its arguments are the same
+none_same : {names : Names} (count : ℕ) → SameUnits names (replicate count None) (replicate count None)
+none_same zero = no_units
+none_same (suc count) = and_unit no_value (none_same count)
+
+padded_same : {names : Names} {units also : List (Option Value)} (count : ℕ) → SameUnits names units also
+    → SameUnits names (units ++ replicate count None) (also ++ replicate count None)
+padded_same count no_units = none_same count
+padded_same count (and_unit one rest) = and_unit one (padded_same count rest)
+
+-- A method that runs the same code in two programs begins with the same units, where its arguments are the same.
+pub begun_same : (P Q : Program) {names : Names} (at : MethodAt) {units also : List (Option Value)} (held held_also : Option ℕ)
+    → code_at Q at ≡ code_at P at
+    → SameUnits names units also
+    → SameUnits names (frame_with P at units held).locals (frame_with Q at also held_also).locals
+begun_same P Q {names = names} at {units = units} {also = also} held held_also codes same = by (code_at P at) refl where
+  by : (code : Option Code) → code_at P at ≡ code
+      → SameUnits names (frame_with P at units held).locals (frame_with Q at also held_also).locals
+  by None is = rw (codes, is) same
+  by (Some code) is = rw (codes, is, same_size same) (padded_same (code.locals - length units) same)

@@ -1,15 +1,14 @@
 -- All frames of the two runs that go together, and how runs are compared while the first has objects that the second has not.
-use Rattle.std.specs.Prelude.{◌≡◌, ◌≤◌, ◌+◌, not, ℕ, Bool, true, false, List, [], ◌∷◌, length, map, slice_get, Option, Some, None, IsTrue}
+use Rattle.std.specs.Prelude.{◌≡◌, ◌≤◌, ◌+◌, ℕ, Bool, true, false, List, [], ◌∷◌, length, map, slice_get, Option, Some, None, IsTrue}
 use Rattle.class_model.specs.declared.class_file.MethodAt.{MethodAt}
 use Rattle.machine_values.specs.Frames.{MethodState}
 use Rattle.machine_values.specs.declared.frame.RunFrame.{RunFrame}
 use Rattle.machine_values.specs.declared.frame.RunFrame.TheVariants.{Beginning, Library, Method}
 use Rattle.machine_values.specs.declared.value.Value.{Value}
 use Rattle.member_link.specs.Machine.Beginnings.{frame_with}
-use Rattle.member_link.specs.Machine.Performing.{is_initialiser}
-use Rattle.member_link.specs.Machine.Programs.{RunMethod, run_method}
 use Rattle.plan_flow.specs.Written.Blocks.{Block}
 use Rattle.plan_flow.specs.Written.WrittenPrograms.{WrittenMethod}
+use Rattle.same_runs.specs.Laws.MethodPoints.{is_awaited_in}
 use Rattle.same_runs.specs.Renamings.{Names, SameHeld, SameUnits, SameValues}
 use Rattle.same_runs.specs.SameMemories.{Apart}
 use Rattle.same_runs.specs.SameWorlds.{Comparison}
@@ -30,10 +29,7 @@ pub record InOwn (u : Setup) (names : Names) (f g : MethodState) : Type 0 where
 
 -- the frame below a method's waits for it, where the method is no class initialiser
 abbrev pub is_awaited : Setup → MethodAt → Bool
-is_awaited u at = of_method (run_method (first u) at) where
-  of_method : Option RunMethod → Bool
-  of_method None = true
-  of_method (Some method) = not (is_initialiser method)
+is_awaited u at = is_awaited_in (first u) at
 
 -- a frame waits at an instruction that is written as it is
 abbrev pub IsWaiting : {u : Setup} {known : Known} {one : WrittenMethod} {f g : MethodState} {block : Block}

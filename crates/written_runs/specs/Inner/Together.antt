@@ -1,5 +1,5 @@
 -- Runs of the two programs that go together, and the relation that the simulation keeps.
-use Rattle.std.specs.Prelude.{◌≡◌, ◌≢◌, ◌⊎◌, ◌≤◌, ◌+◌, ◌-◌, ◌*◌, ◌++◌, ℕ, Bool, false, List, [], ◌∷◌, length, map, reverse, slice_get, Some, IsTrue}
+use Rattle.std.specs.Prelude.{◌≡◌, ◌≢◌, ◌⊎◌, ◌≤◌, ◌+◌, ◌-◌, ◌*◌, ◌++◌, ℕ, Bool, false, List, length, map, reverse, slice_get, Some, IsTrue}
 use Rattle.std.specs.List.{AllByRecursion}
 use Rattle.flow_code.specs.declared.point.Point.{Point}
 use Rattle.machine_values.specs.Frames.{MethodState}
@@ -8,17 +8,17 @@ use Rattle.machine_values.specs.declared.frame.RunFrame.TheVariants.{Beginning, 
 use Rattle.machine_values.specs.Heaps.{Heap, object_at}
 use Rattle.machine_values.specs.declared.object.Object.{Object}
 use Rattle.machine_values.specs.declared.object.Shape.TheVariants.{Folder}
-use Rattle.member_link.specs.Machine.Programs.{Program, RunClass}
+use Rattle.member_link.specs.Machine.Programs.{Program}
 use Rattle.member_link.specs.Machine.Runs.{Run}
-use Rattle.member_link.specs.Machine.Stepping.{is_library_turn}
 use Rattle.member_link.specs.Machine.Worlds.{Memory, going, is_begun}
 use Rattle.plan_flow.specs.MetPlans.{MeetsState}
 use Rattle.plan_flow.specs.Written.Blocks.{Block}
 use Rattle.plan_flow.specs.Written.Routes.{Route}
 use Rattle.plan_flow.specs.Written.WrittenPrograms.{WrittenMethod, plan_scope}
+use Rattle.same_runs.specs.Laws.AloneRuns.{BeginsAlone, NoTurnBelow}
 use Rattle.same_runs.specs.Laws.AloneTurn.{unbegun_in}
 use Rattle.same_runs.specs.Renamings.{Names}
-use Rattle.same_runs.specs.SameMemories.{IsInert, SameMemories}
+use Rattle.same_runs.specs.SameMemories.{SameMemories}
 use Rattle.same_runs.specs.SameWorlds.{SameSeen}
 use Rattle.same_runs.specs.Simulations.{Quietly}
 use Rattle.typed_runs.specs.TypedWorlds.{TypedWorld}
@@ -82,17 +82,6 @@ points_left (own_stand in_own below) = 0
 points_left (planned_stand {f = f} in_planned waiting below) = length in_planned.one.flat.points - f.place
 
 -- ---- what goes together
-
--- the first has begun it alone, and its beginning runs nothing
-pub record BeginsAlone (P : Program) (class : ℕ) : Type 0 where
-  pub found : RunClass
-  pub is : slice_get P.classes class ≡ Some found
-  pub inert : IsInert P class
-
--- where beginnings of the first alone stand on top, it is not the library's turn below them
-abbrev pub NoTurnBelow : List ℕ → List RunFrame → Type 0
-NoTurnBelow [] frames = Unit {0}
-NoTurnBelow (class ∷ now) frames = is_library_turn frames ≡ false
 
 -- What falls where the first takes a turn alone: it begins a class, goes on with a beginning, or goes on to a later point over what is written as
 -- nothing.

@@ -2,7 +2,7 @@
 use Rattle.std.proofs.Common.{◌≡◌, ◌≢◌, inl, inr, ◌==◌, not, ℕ, Bool, true, false, List, [], ◌∷◌, filter, map, bytes_eq, slice_get, Option, Some, None, option_map, IsTrue, IsFalse, refl, sym, ap, subst, ◌∙◌}
 use Rattle.std.specs.List.{AllByRecursion, list_any}
 use Rattle.std.proofs.lemmas.Bool.{and_from, and_parts, both_ways, false≢true, or_right}
-use Rattle.std.proofs.lemmas.Option.{none-some, same_Some, slice_get-map}
+use Rattle.std.proofs.lemmas.Option.{none-some, slice_get-map}
 use Rattle.std.proofs.lemmas.Slice.Eq.{bytes_eq-Decides}
 use Rattle.class_model.specs.Header.{header_of}
 use Rattle.class_model.specs.Names.{init}
@@ -32,9 +32,8 @@ use Rattle.member_link.specs.Machine.Programs.{RunClass, RunMethod}
 use Rattle.member_link.specs.References.{Reference}
 use Rattle.member_link.specs.Signatures.{reference_of}
 use Rattle.plan_flow.specs.Written.WrittenPrograms.{constructor_method}
-use Rattle.same_runs.specs.Flats.{flats_for_codes}
 use Rattle.same_runs.specs.Laws.BothReplaced.{both_replaced_same}
-use Rattle.same_runs.specs.Laws.FlatPrograms.{flats_alike, members_of_class}
+use Rattle.same_runs.specs.Laws.FlatPrograms.{added_alike, class_of_file, members_of_class, none_added_alike}
 use Rattle.same_runs.specs.Laws.ReplacedPrograms.{ReplacesAlike, replaced_same}
 use Rattle.same_runs.specs.SamePrograms.{IsAdded, SamePrograms}
 use Rattle.written_runs.specs.Inner.Setup.{IsSetup, Setup, first, second}
@@ -192,6 +191,11 @@ handle_differs class desc pool (Some (MethodHandle kind index) ∷ entries) none
       by (Some r) e rest = rw (e) (rw (differs r e) rest)
 handle_differs class desc pool (Some constant ∷ entries) none = handle_differs class desc pool entries none.1
 
+-- ---- the first program
+
+pub first_alike : (u : Setup) → IsSetup u → ReplacesAlike (program_of u.classes u.links) u.r
+first_alike u setup = none_added_alike u.classes u.links setup.linked u.r setup.replaces.none_added
+
 module _ (u : Setup) (setup : IsSetup u) (hierarchy : IsHierarchy (headers_of u.classes)) (adds : AddsToCandidates u) where
   -- a class to which a field constructor is added
   pub record IsAddedTo (file : ClassFile) : Type 0 where
@@ -297,70 +301,43 @@ module _ (u : Setup) (setup : IsSetup u) (hierarchy : IsHierarchy (headers_of u.
     free : HasFree file
     free = has_free file (added_to number file is_file added)
 
-  -- what is added to the class of a number
-  file_of : (number : ℕ) (class : RunClass) → slice_get (program_of u.classes u.links).classes number ≡ Some class
-      → (file : ClassFile) × (slice_get u.classes.folder number ≡ Some file) × (run_class_of u.links (headers_of u.classes) file ≡ class)
-  file_of number class is =
-      by (slice_get u.classes.folder number) refl
-      (sym (slice_get-map (run_class_of u.links (headers_of u.classes)) u.classes.folder number) ∙ is) where
-        by : (found : Option ClassFile) → slice_get u.classes.folder number ≡ found
-            → option_map (run_class_of u.links (headers_of u.classes)) found ≡ Some class
-            → (file : ClassFile) × (slice_get u.classes.folder number ≡ Some file) × (run_class_of u.links (headers_of u.classes) file ≡ class)
-        by None e told = absurd (none-some class told)
-        by (Some file) e told = (file, e, same_Some (run_class_of u.links (headers_of u.classes) file) class told)
-
   pub written_alike : ReplacesAlike (program_of u.classes u.links) u.s
-  written_alike = record {
-    no_init = flats.no_init;
-    members = flats.members;
-    plain_starts = flats.plain_starts;
-    are_added = λ number class is. let file = file_of number class is in all_added number file.0 class file.1 file.2;
-    of_interface = λ number class is interface.
-        let file = file_of number class is in none_added number file.0 class file.1 file.2 interface;
-  } where
-    flats : ReplacesAlike (program_of u.classes u.links) (flats_for_codes u.classes u.links u.flats)
-    flats = flats_alike u.classes u.links u.flats setup.linked
+  written_alike =
+      added_alike u.classes u.links setup.linked u.s
+      (λ number class is.
+      let file = class_of_file u.classes u.links number class is in
+      all_added number file.0 class file.2 file.1)
+      (λ number class is interface.
+      let file = class_of_file u.classes u.links number class is in
+      none_added number file.0 class file.2 file.1 interface) where
+        all_added : (number : ℕ) (file : ClassFile) (class : RunClass) → slice_get u.classes.folder number ≡ Some file
+            → run_class_of u.links (headers_of u.classes) file ≡ class
+            → AllByRecursion (IsAdded (program_of u.classes u.links) class) (u.s.added number)
+        all_added number file class is_file same = elim (setup.replaces_also.added number file is_file) [
+          | inl none ↦ subst (AllByRecursion (IsAdded (program_of u.classes u.links) class)) (sym none) tt
+          | inr one ↦
+              subst (AllByRecursion (IsAdded (program_of u.classes u.links) class)) (sym one) (
+                subst (λ (c : RunClass). IsAdded (program_of u.classes u.links) c (constructor_method u.classes u.links u.constructor file)) same
+                    (is_added number file is_file one),
+                tt,
+              )
+        ]
 
-    all_added : (number : ℕ) (file : ClassFile) (class : RunClass) → slice_get u.classes.folder number ≡ Some file
-        → run_class_of u.links (headers_of u.classes) file ≡ class
-        → AllByRecursion (IsAdded (program_of u.classes u.links) class) (u.s.added number)
-    all_added number file class is_file same = elim (setup.replaces_also.added number file is_file) [
-      | inl none ↦ subst (AllByRecursion (IsAdded (program_of u.classes u.links) class)) (sym none) tt
-      | inr one ↦
-          subst (AllByRecursion (IsAdded (program_of u.classes u.links) class)) (sym one) (
-            subst (λ (c : RunClass). IsAdded (program_of u.classes u.links) c (constructor_method u.classes u.links u.constructor file)) same
-                (is_added number file is_file one),
-            tt,
-          )
-    ]
-
-    none_added : (number : ℕ) (file : ClassFile) (class : RunClass) → slice_get u.classes.folder number ≡ Some file
-        → run_class_of u.links (headers_of u.classes) file ≡ class
-        → IsTrue (is_interface class.header)
-        → u.s.added number ≡ []
-    none_added number file class is_file same interface = elim (setup.replaces_also.added number file is_file) [
-      | inl none ↦ none
-      | inr one ↦
-          absurd (both_ways (is_interface (header_of file)) (added_to number file is_file one).no_interface
-          (ap (λ (c : RunClass). is_interface c.header) same ∙ interface))
-    ]
+        none_added : (number : ℕ) (file : ClassFile) (class : RunClass) → slice_get u.classes.folder number ≡ Some file
+            → run_class_of u.links (headers_of u.classes) file ≡ class
+            → IsTrue (is_interface class.header)
+            → u.s.added number ≡ []
+        none_added number file class is_file same interface = elim (setup.replaces_also.added number file is_file) [
+          | inl none ↦ none
+          | inr one ↦
+              absurd (both_ways (is_interface (header_of file)) (added_to number file is_file one).no_interface
+              (ap (λ (c : RunClass). is_interface c.header) same ∙ interface))
+        ]
 
   -- the folder's own program and the second
   pub own_second_same : SamePrograms (program_of u.classes u.links) (second u)
   own_second_same = replaced_same written_alike
 
   -- the first program and the second
-  pub first_alike : ReplacesAlike (program_of u.classes u.links) u.r
-  first_alike = record {
-    no_init = flats.no_init;
-    members = flats.members;
-    plain_starts = flats.plain_starts;
-    are_added = λ number class is.
-        subst (AllByRecursion (IsAdded (program_of u.classes u.links) class)) (sym (setup.replaces.none_added number)) tt;
-    of_interface = λ number class is interface. setup.replaces.none_added number;
-  } where
-    flats : ReplacesAlike (program_of u.classes u.links) (flats_for_codes u.classes u.links u.flats)
-    flats = flats_alike u.classes u.links u.flats setup.linked
-
   pub first_second_same : SamePrograms (first u) (second u)
-  first_second_same = both_replaced_same first_alike written_alike setup.replaces.none_added
+  first_second_same = both_replaced_same (first_alike u setup) written_alike setup.replaces.none_added

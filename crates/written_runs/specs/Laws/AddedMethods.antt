@@ -1,41 +1,29 @@
 -- A method that is added at the end of a class is found there, where the class has none of its name and descriptor before.
-use Rattle.std.proofs.Common.{◌≡◌, ◌+◌, ◌&&◌, ℕ, zero, suc, Bool, true, false, List, [], ◌∷◌, ◌++◌, bytes_eq, length, map, slice_get, Option, Some, None, option_and_then, option_map, if◌then◌else◌, refl, sym, ap, ◌∙◌, arith}
+use Rattle.std.proofs.Common.{◌≡◌, ◌+◌, ℕ, zero, suc, Bool, true, false, List, [], ◌∷◌, ◌++◌, length, slice_get, Option, Some, None, option_map, if◌then◌else◌, refl, sym, ap, ◌∙◌}
 use Rattle.std.proofs.lemmas.Option.{none-some, slice_get-map}
 use Rattle.std.proofs.lemmas.Slice.Eq.{bytes_eq-Decides}
-use Rattle.class_model.specs.Names.{init}
 use Rattle.class_model.specs.declared.class_file.ClassFile.{ClassFile}
 use Rattle.class_model.specs.declared.class_file.MethodAt.{MethodAt}
 use Rattle.class_model.specs.declared.header.Member.{Member}
 use Rattle.class_tree.specs.Headers.{Name, Classes, headers_of}
 use Rattle.member_link.specs.Machine.Classes.{program_of, run_class_of}
 use Rattle.member_link.specs.Machine.Programs.{Links, Program, RunClass, RunMethod, first_member, folder_number, member_of, number_of_first, place_of_method, run_method}
-use Rattle.member_link.specs.Machine.Replaced.{Replacement, map_numbered, replaced, replaced_class}
+use Rattle.member_link.specs.Machine.Replaced.{Replacement, replaced, replaced_class}
 use Rattle.member_link.specs.References.{Reference}
 use Rattle.same_runs.specs.Laws.Methods.{is_method}
+use Rattle.same_runs.specs.Laws.Numbered.{replaced_at}
 use Rattle.same_runs.specs.Laws.Objects.{get_new}
 
 -- ---- the class of a number
-
-pub get_numbered : {A B : Type 0} (change : ℕ → A → B) (from number : ℕ) (xs : List A)
-    → slice_get (map_numbered change from xs) number ≡ option_map (change (from + number)) (slice_get xs number)
-get_numbered change from number [] = refl
-get_numbered {A = A} {B = B} change from zero (x ∷ xs) =
-    let same : from ≡ from + 0 = omega arith in ap (λ (n : ℕ). Some (change n x)) same
-get_numbered {A = A} {B = B} change from (suc number) (x ∷ xs) =
-    let same : suc from + number ≡ from + suc number = omega arith in
-    get_numbered change (suc from) number xs ∙ ap (λ (n : ℕ). option_map (change n) (slice_get xs number)) same
 
 -- the class of a class file in a program in which codes are replaced and methods are added
 pub class_replaced : (classes : Classes) (links : Links) (s : Replacement) (number : ℕ) (file : ClassFile)
     → slice_get classes.folder number ≡ Some file
     → slice_get (replaced (program_of classes links) s).classes number ≡ Some (replaced_class s number (run_class_of links (headers_of classes) file))
 class_replaced classes links s number file is =
-    get_numbered (replaced_class s) 0 number (program_of classes links).classes
-    ∙ ap (λ (n : ℕ). option_map (replaced_class s n) (slice_get (program_of classes links).classes number)) same
+    replaced_at (program_of classes links) s number
     ∙ ap (option_map (replaced_class s number)) (slice_get-map (run_class_of links (headers_of classes)) classes.folder number
-    ∙ ap (option_map (run_class_of links (headers_of classes))) is) where
-      same : 0 + number ≡ number
-      same = omega arith
+    ∙ ap (option_map (run_class_of links (headers_of classes))) is)
 
 -- ---- the method
 

@@ -5,7 +5,7 @@ use Rattle.machine_values.specs.declared.frame.RunFrame.{RunFrame}
 use Rattle.machine_values.specs.declared.frame.RunFrame.TheVariants.{Beginning, Method}
 use Rattle.member_link.specs.Machine.Beginnings.{beginning_of, begun_memory, begun_next, come_first, first_unbegun, frame_with, initialiser_of, past_beginning}
 use Rattle.member_link.specs.Machine.Programs.{RunClass}
-use Rattle.member_link.specs.Machine.Runs.{Run, turn}
+use Rattle.member_link.specs.Machine.Runs.{Run}
 use Rattle.member_link.specs.Machine.Stepping.{is_library_turn}
 use Rattle.member_link.specs.Machine.Worlds.{Memory, World}
 use Rattle.same_runs.specs.Laws.BothBegin.{beginning_kept, counted, turned_by_beginning}

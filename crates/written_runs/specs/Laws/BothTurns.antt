@@ -1,28 +1,29 @@
 -- How runs that go together do behind a turn of both: the second goes on quietly to where they go together again, or both are over.
-use Rattle.std.proofs.Common.{◌≡◌, ◌≤◌, ◌+◌, ℕ, Bool, false, List, [], None, Some, IsTrue, refl, sym, ap, subst, ◌∙◌, arith, inr}
+use Rattle.std.proofs.Common.{◌≡◌, ◌≤◌, ◌+◌, ℕ, Bool, false, List, [], Some, IsTrue, refl, subst, ◌∙◌, arith, inr}
 use Rattle.class_model.specs.declared.class_file.MethodAt.{MethodAt}
 use Rattle.machine_values.specs.Frames.{MethodState}
 use Rattle.machine_values.specs.declared.frame.RunFrame.{RunFrame}
 use Rattle.member_link.specs.Machine.Beginnings.{initialiser_of}
 use Rattle.member_link.specs.Machine.Performing.{is_initialiser}
-use Rattle.member_link.specs.Machine.Programs.{Program, RunMethod, code_at, run_method}
-use Rattle.member_link.specs.Machine.Runs.{Run, turn, turn_by}
+use Rattle.member_link.specs.Machine.Programs.{Program, RunMethod, run_method}
+use Rattle.member_link.specs.Machine.Runs.{Run, turn}
 use Rattle.member_link.specs.Machine.Stepping.{is_library_turn, step}
 use Rattle.member_link.specs.Machine.Worlds.{World, going}
+use Rattle.same_runs.specs.Laws.BothTurns.{BehindBoth, behind_both, both_are_over, both_go_on}
 use Rattle.same_runs.specs.Laws.CaughtUp.{BothTurn, turn_keeps}
 use Rattle.same_runs.specs.Laws.Names.{held_more, units_more}
-use Rattle.same_runs.specs.Laws.QuietBeginnings.{BeginAlike, quietly_then}
-use Rattle.same_runs.specs.Laws.Settled.{SameSettled, SettlesTo, settled_going, settled_landed, settled_over, settles}
+use Rattle.same_runs.specs.Laws.QuietBeginnings.{BeginAlike}
+use Rattle.same_runs.specs.Laws.Turns.{turn_is_step}
 use Rattle.same_runs.specs.Renamings.{Names, NamesMore}
 use Rattle.same_runs.specs.SameMemories.{SameMemories}
 use Rattle.same_runs.specs.SamePrograms.{SamePrograms}
 use Rattle.same_runs.specs.SameWorlds.{Compares, SameAfter, SameSeen}
-use Rattle.same_runs.specs.Simulations.{Quietly}
 use Rattle.typed_runs.specs.TypedWorlds.{StaysTyped, TypedWorld}
 use Rattle.written_runs.specs.Inner.PlannedFrames.{Known}
 use Rattle.written_runs.specs.Laws.Settling.{SettleLaws, settles as planned_settles}
 use Rattle.written_runs.specs.Inner.Setup.{Setup, first, second}
-use Rattle.written_runs.specs.Laws.Simulation.{KeepsTurn}
+use Rattle.written_runs.specs.Laws.MethodsBegin.{RunsOwnCodes}
+use Rattle.written_runs.specs.Laws.Simulation.{KeepsTurn, quietly_related}
 use Rattle.written_runs.specs.Inner.Standing.{IsFresh, SameTop, Stands, apart, begins_class, begins_fresh, comparison, stands}
 use Rattle.written_runs.specs.Laws.StandingMore.{stands_more}
 use Rattle.written_runs.specs.Inner.Together.{Along, AreKnown, AreOwned, Related, points_left, weight}
@@ -34,11 +35,7 @@ pub record Basis (u : Setup) : Type 0 where
   pub same : SamePrograms (first u) (second u)
   pub alike : BeginAlike (first u) (second u)
   pub steps_typed : (w : World) → TypedWorld (first u) u.typings w → StaysTyped (first u) u.typings w (step (first u) w)
-  -- a method that is not rewritten runs its own code in both
-  pub own_code : (at : MethodAt) (method : RunMethod)
-      → u.written at ≡ None
-      → run_method (first u) at ≡ Some method
-      → code_at (second u) at ≡ code_at (first u) at
+  pub codes : RunsOwnCodes u
   -- what a class begins with is a class initialiser
   pub initialisers : (class : ℕ) (at : MethodAt) (method : RunMethod)
       → initialiser_of (first u) class ≡ Some at
@@ -111,11 +108,6 @@ module _ (u : Setup) (basis : Basis u) where
   abbrev Q : Program
   Q = second u
 
-  -- a run that goes on, where it is not the library's turn, takes a step
-  turn_steps : (r : Run) → r.world.halt ≡ going → is_library_turn r.world.frames ≡ false
-      → turn P r ≡ record r { world = step P r.world }
-  turn_steps r goes no_turn = ap (turn_by P r) goes ∙ rw (no_turn) refl
-
   -- what a turn leads to is typed
   pub turn_typed : {one : Run} {w : World}
       → one.world.halt ≡ going
@@ -124,9 +116,7 @@ module _ (u : Setup) (basis : Basis u) where
       → turn P one ≡ record one { world = w }
       → TypedWorld P u.typings w
   turn_typed {one = one} {w = w} goes no_turn typed turned =
-      subst (TypedWorld P u.typings) led (basis.steps_typed one.world typed).typed where
-        led : step P one.world ≡ w
-        led = ap (λ (r : Run). r.world) (sym (turn_steps one goes no_turn) ∙ turned)
+      subst (TypedWorld P u.typings) (turn_is_step P one w goes no_turn turned) (basis.steps_typed one.world typed).typed
 
   -- runs whose frames and memories go together are related
   goes_together : {virtuals : Virtuals} {known : Known} {names : Names} (one other : Run)
@@ -183,28 +173,13 @@ module _ (u : Setup) (basis : Basis u) where
       → other.actions ≡ one.actions
       → other.used ≡ one.used
       → (later : ℕ) × Related u later one other
-  after_both {virtuals = virtuals} {known = known} {names = names} one other are_apart has then typed actions used =
-      by (settles basis.same basis.alike (compared u virtuals known) then) where
-        quietly_related : (waits : Run) → Quietly Q other waits → ((later : ℕ) × Related u later one waits) → (later : ℕ) × Related u later one other
-        quietly_related waits quietly related = (
-          related.0,
-          record {
-            later = related.1.later;
-            quietly = quietly_then quietly related.1.quietly;
-            state = related.1.state;
-          },
-        )
-
-        settled : (waits : Run) → Quietly Q other waits → waits.actions ≡ other.actions → waits.used ≡ other.used
-            → SameSettled P (comparison u virtuals known) names one.world waits.world
-            → (later : ℕ) × Related u later one other
-        settled waits quietly left taken (settled_going more grows frames memories seen goes goes_also) =
-            quietly_related waits quietly
+  after_both {virtuals = virtuals} {known = known} one other are_apart has then typed actions used =
+      by (behind_both basis.same basis.alike (compared u virtuals known) (λ more ones others is. is) then) where
+        by : BehindBoth P Q (comparison u virtuals known) one.world other → (later : ℕ) × Related u later one other
+        by (both_go_on waits more quietly left taken frames memories seen goes goes_also) =
+            quietly_related quietly
             (goes_together one waits are_apart has frames memories seen goes goes_also (left ∙ actions) (taken ∙ used) typed)
-        settled waits quietly left taken (settled_landed more grows frames memories seen goes goes_also) =
-            quietly_related waits quietly
-            (goes_together one waits are_apart has frames memories seen goes goes_also (left ∙ actions) (taken ∙ used) typed)
-        settled waits quietly left taken (settled_over more seen over same) = (
+        by (both_are_over waits more quietly left taken seen over same) = (
           0,
           record {
             later = waits;
@@ -221,9 +196,6 @@ module _ (u : Setup) (basis : Basis u) where
             });
           },
         )
-
-        by : SettlesTo P Q (comparison u virtuals known) names one.world other → (later : ℕ) × Related u later one other
-        by to = settled to.waits to.quietly to.actions to.used to.same
 
   -- a turn of both keeps runs related
   pub both_keep : {virtuals : Virtuals} {known : Known} {names : Names} {measure : ℕ} {one other : Run}

@@ -155,7 +155,7 @@ is_under height virtual = nat_le (suc virtual.frame) height
 abbrev pub under : ℕ → Virtuals → Virtuals
 under height virtuals = filter (is_under height) virtuals
 
-under_owned : {u : Setup} {virtuals : Virtuals} {ones : List RunFrame}
+pub under_owned : {u : Setup} {virtuals : Virtuals} {ones : List RunFrame}
     → OwnedBelow u virtuals ones
     → AllOwned u (under (length ones) virtuals) ones
 under_owned {virtuals = virtuals} {ones = ones} owned = record {
@@ -173,7 +173,7 @@ none_under height virtuals frame high = record {
       absurd (omega (arith, high, of_frame, low));
 }
 
-same_under : (height : ℕ) (virtuals : Virtuals) → SameBelow virtuals (under height virtuals) height
+pub same_under : (height : ℕ) (virtuals : Virtuals) → SameBelow virtuals (under height virtuals) height
 same_under height virtuals = λ frame low. record {
   forth = λ site virtual there.
       let of_frame = there.of_frame in

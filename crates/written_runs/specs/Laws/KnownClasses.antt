@@ -119,7 +119,7 @@ classes_are names heap (first ∷ virtuals) stays number reference class is =
 -- ---- what a state tells
 
 -- a slot of a list names its site
-slot_names : (slots : List Slot) (place site : ℕ) → slice_get slots place ≡ Some (Virt site) → IsTrue (names_site slots site)
+pub slot_names : (slots : List Slot) (place site : ℕ) → slice_get slots place ≡ Some (Virt site) → IsTrue (names_site slots site)
 slot_names [] place site is = absurd (none-some (Virt site) is)
 slot_names (first ∷ slots) zero site is =
     rw (ap (is_virtual site) (same_Some first (Virt site) is) ∙ eq-eqb site site refl) refl
@@ -188,7 +188,7 @@ module _ {u : Setup} {one other : Run} {f : MethodState} {rest : List RunFrame} 
         of_site slot.0 site value slot.1 (h.tells.stack entry site value is here);
   }
 
-  knows : KnowsMore known more
+  pub knows : KnowsMore known more
   knows = record {
     keeps = λ reference class is.
         record { number = is.number; is_there = known_left known (classes_in h.virtuals) is.number (reference, class) is.is_there };

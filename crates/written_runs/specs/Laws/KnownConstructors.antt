@@ -43,6 +43,7 @@ use Rattle.member_link.specs.Machine.Programs.{RunClass, RunMethod, field_of, fi
 use Rattle.member_link.specs.Machine.Replaced.{map_numbered, method_replaced, replaced_class}
 use Rattle.member_link.specs.References.{Reference}
 use Rattle.plan_flow.specs.Written.WrittenPrograms.{constructor_method}
+use Rattle.same_runs.specs.Laws.Numbered.{replaced_at}
 use Rattle.same_runs.specs.Laws.FlatPrograms.{members_of_class}
 use Rattle.same_runs.specs.Laws.Layouts.{same_slot}
 use Rattle.same_runs.specs.Laws.Methods.{is_method}
@@ -51,7 +52,7 @@ use Rattle.same_runs.specs.Laws.ReplacedPrograms.{members_same}
 use Rattle.same_runs.specs.SamePrograms.{SamePrograms}
 use Rattle.written_runs.specs.Inner.Setup.{IsSetup, Setup, second}
 use Rattle.written_runs.specs.Laws.AddedConstructors.{AddsToCandidates, HasFree, IsAddedTo, added_to, has_free, of_chain, own_second_same}
-use Rattle.written_runs.specs.Laws.AddedMethods.{FindsLast, class_replaced, finds_last, first_of_last, get_numbered, member_itself}
+use Rattle.written_runs.specs.Laws.AddedMethods.{FindsLast, class_replaced, finds_last, first_of_last, member_itself}
 use Rattle.written_runs.specs.Laws.ApartFields.{AreDistinct, declared_itself, distinct_still, fields_distinct}
 use Rattle.written_runs.specs.Laws.ConstructorTexts.{ReadsParameters, parameters_are}
 use Rattle.written_runs.specs.Laws.Constructs.{Constructs, KnowsEach, constructs_by, fields_above_and_own, object_without_fields}
@@ -402,14 +403,10 @@ module _ (u : Setup) (setup : IsSetup u) (hierarchy : IsHierarchy (headers_of u.
 
     low : IsLow
     low = by (slice_get u.classes.folder shape) refl where
-      zeroth : 0 + shape ≡ shape
-      zeroth = omega arith
-
       own : slice_get (second u).classes shape
           ≡ option_map (replaced_class u.s shape) (option_map (run_class_of u.links (headers_of u.classes)) (slice_get u.classes.folder shape))
       own =
-          get_numbered (replaced_class u.s) 0 shape (map (run_class_of u.links (headers_of u.classes)) u.classes.folder)
-          ∙ ap (λ (n : ℕ). option_map (replaced_class u.s n) (slice_get (map (run_class_of u.links (headers_of u.classes)) u.classes.folder) shape)) zeroth
+          replaced_at (program_of u.classes u.links) u.s shape
           ∙ ap (option_map (replaced_class u.s shape)) (slice_get-map (run_class_of u.links (headers_of u.classes)) u.classes.folder shape)
 
       by : (found : Option ClassFile) → slice_get u.classes.folder shape ≡ found → IsLow

@@ -1,5 +1,5 @@
 -- What goes together behind each way in which an action of the library may end, where its frame is on top of both.
-use Rattle.std.proofs.Common.{◌≡◌, ◌⊎◌, ℕ, suc, Bool, true, List, [], ◌∷◌, length, Option, Some, None, option_map, IsTrue, refl, arith, inl, inr}
+use Rattle.std.proofs.Common.{◌≡◌, ◌⊎◌, ℕ, suc, Bool, true, List, [], ◌∷◌, length, Option, Some, None, option_map, refl, arith, inl, inr}
 use Rattle.machine_values.specs.Frames.{MethodState}
 use Rattle.machine_values.specs.Heaps.{Heap}
 use Rattle.machine_values.specs.Values.{units_of_values}
@@ -12,7 +12,7 @@ use Rattle.member_link.specs.Machine.Beginnings.{frame_with}
 use Rattle.member_link.specs.Machine.Performing.{resumed}
 use Rattle.member_link.specs.Machine.Programs.{Point, Program, point_at}
 use Rattle.member_link.specs.Machine.Stepping.{is_library_turn}
-use Rattle.member_link.specs.Machine.Worlds.{World, is_begun}
+use Rattle.member_link.specs.Machine.Worlds.{World, going}
 use Rattle.same_runs.specs.Laws.Names.{held_more, names_themselves}
 use Rattle.same_runs.specs.Laws.Units.{same_arguments}
 use Rattle.same_runs.specs.Renamings.{Names, SameHeld, SameValues, one_held}
@@ -20,13 +20,14 @@ use Rattle.same_runs.specs.SameFrames.{in_library}
 use Rattle.same_runs.specs.SameWorlds.{AtLibrary, SameWaiting, both_wait, none_waits}
 use Rattle.typed_runs.specs.TypedFrames.{Above, FramesConform, asked_library}
 use Rattle.typed_runs.specs.TypedWorlds.{StaysTyped, TypedWorld}
-use Rattle.written_runs.specs.Laws.FewerVirtuals.{GoesFewer, OwnedBelow, goes_above, none_under, over_turn, owned_below, owned_over, stands_under, under}
+use Rattle.written_runs.specs.Laws.FewerVirtuals.{GoesFewer, OwnedBelow, goes_above, none_under, over_turn, owned_below, owned_over, stands_under}
 use Rattle.written_runs.specs.Laws.OwnFrames.{IsAwaited, WaitsPlanned, library_goes, names_grown, own_goes_on, own_point, own_resumed, point_on_top, waiting_unwind, waits_planned}
+use Rattle.written_runs.specs.Laws.MethodsBegin.{begins_same}
 use Rattle.written_runs.specs.Laws.OwnTurns.{TurnLaws}
+use Rattle.written_runs.specs.Laws.StillThere.{MemoryStays}
 use Rattle.written_runs.specs.Inner.PlannedFrames.{Known}
 use Rattle.written_runs.specs.Inner.Setup.{Setup, first, second}
 use Rattle.written_runs.specs.Inner.Standing.{Stands, begins_class, beginnings_stand, libraries_stand, none_stand, own_stand, planned_stand, stands}
-use Rattle.written_runs.specs.Inner.Together.{AreKnown}
 use Rattle.written_runs.specs.VirtualObjects.{Virtuals}
 
 -- ---- what other parts of the proof give
@@ -39,6 +40,12 @@ pub record PendAlike (u : Setup) (f g : MethodState) : Type 0 where
   pub is_also : point_at (second u) g.at g.place ≡ Some also
   pub same : pending_of also.op ≡ pending_of point.op
 
+-- a planned frame waits at an instruction that is written as it is
+pub record PendsPlanned (u : Setup) : Type 0 where
+  pub pends : (virtuals : Virtuals) (known : Known) (names : Names) (heap : Heap) (f g : MethodState) (ones others : List RunFrame)
+      → WaitsPlanned u virtuals known names heap f g ones others
+      → PendAlike u f g
+
 pub record LibraryLaws (u : Setup) : Type 0 where
   pub turns : TurnLaws u
   pub acts_typed : (w : World) (action : Action)
@@ -46,20 +53,12 @@ pub record LibraryLaws (u : Setup) : Type 0 where
       → is_library_turn w.frames ≡ true
       → StaysTyped (first u) u.typings w (act (first u) action w)
   -- an action leaves objects what they are, and classes begun
-  pub keeps_known : (w : World) (action : Action) (known : Known)
+  pub keeps : (w : World) (action : Action)
       → TypedWorld (first u) u.typings w
+      → w.halt ≡ going
       → is_library_turn w.frames ≡ true
-      → AreKnown w.memory.heap known
-      → AreKnown (act (first u) action w).memory.heap known
-  pub keeps_begun : (w : World) (action : Action) (class : ℕ)
-      → TypedWorld (first u) u.typings w
-      → is_library_turn w.frames ≡ true
-      → IsTrue (is_begun w.memory class)
-      → IsTrue (is_begun (act (first u) action w).memory class)
-  -- a planned frame waits at an instruction that is written as it is
-  pub pends : (virtuals : Virtuals) (known : Known) (names : Names) (heap : Heap) (f g : MethodState) (ones others : List RunFrame)
-      → WaitsPlanned u virtuals known names heap f g ones others
-      → PendAlike u f g
+      → MemoryStays w.memory (act (first u) action w).memory
+  pub pends : PendsPlanned u
 
 -- ---- frames
 
@@ -125,7 +124,7 @@ module _ (u : Setup) (laws : LibraryLaws u) (virtuals : Virtuals) (known : Known
   library_waits {names = names} {heap = heap} made made_also (planned_stand {f = f} {g = g} {ones = ones} {others = others} in_planned waits below) owned
       awaited typed =
       waits_by made made_also
-      (laws.pends virtuals known names heap f g ones others
+      (laws.pends.pends virtuals known names heap f g ones others
       (waits_planned u laws.turns.frames virtuals known in_planned (waits refl) below owned awaited typed))
       (planned_stand in_planned waits below) owned awaited typed
 
@@ -144,14 +143,12 @@ module _ (u : Setup) (laws : LibraryLaws u) (virtuals : Virtuals) (known : Known
     called = λ more at method ones others lock lock_also is grows are locks.
         goes_above (Method (frame_with P at (units_of_values ones) lock) ∷ Library made ∷ [])
         (Method (frame_with Q at (units_of_values others) lock_also) ∷ Library made_also ∷ []) rest rest_also owned
-        (laws.turns.frames.begins (under (length rest) virtuals) known more at (units_of_values ones) (units_of_values others) lock lock_also
-        (Library made ∷ rest) (Library made_also ∷ rest_also) (same_arguments are) locks
+        (begins_same laws.turns.frames.codes at method is (same_arguments are) locks
         (none_under (length rest) virtuals (suc (length rest)) (omega arith)) (libraries_stand (held_more grows held) (stands_under grows below)));
     constructs = λ more at method ones others lock lock_also reference named is grows name are locks.
         goes_above (Method (frame_with P at (units_of_values ones) lock) ∷ Library (Some reference) ∷ [])
         (Method (frame_with Q at (units_of_values others) lock_also) ∷ Library (Some named) ∷ []) rest rest_also owned
-        (laws.turns.frames.begins (under (length rest) virtuals) known more at (units_of_values ones) (units_of_values others) lock lock_also
-        (Library (Some reference) ∷ rest) (Library (Some named) ∷ rest_also) (same_arguments are) locks
+        (begins_same laws.turns.frames.codes at method is (same_arguments are) locks
         (none_under (length rest) virtuals (suc (length rest)) (omega arith)) (libraries_stand (one_held name) (stands_under grows below)));
     begins = λ more class ones others goes. record {
       left = goes.left;

@@ -1,11 +1,7 @@
 -- Frames that go together, behind each way in which a turn of a method may end that runs its own code in both.
-use Rattle.std.proofs.Common.{◌≡◌, ◌+◌, ◌++◌, not, ℕ, suc, Bool, true, false, List, [], ◌∷◌, drop, length, reverse, Option, Some, None, refl, sym, ap, subst, ◌∙◌, arith}
-use Rattle.std.specs.Prelude.{bytes_eq}
+use Rattle.std.proofs.Common.{◌≡◌, ◌+◌, ◌++◌, ℕ, suc, Bool, true, false, List, [], ◌∷◌, drop, length, reverse, Option, Some, None, refl, sym, ap, subst, ◌∙◌, arith}
 use Rattle.std.proofs.lemmas.Bool.{false≢true}
-use Rattle.std.proofs.lemmas.Option.{none-some}
-use Rattle.class_model.specs.Names.{clinit}
 use Rattle.class_model.specs.declared.class_file.MethodAt.{MethodAt}
-use Rattle.class_model.specs.declared.header.Member.{Member}
 use Rattle.machine_values.specs.Frames.{MethodState}
 use Rattle.machine_values.specs.Heaps.{Heap}
 use Rattle.machine_values.specs.Values.{units_of_values}
@@ -16,22 +12,23 @@ use Rattle.machine_values.specs.declared.value.Value.TheVariants.{Ref}
 use Rattle.member_link.specs.Machine.Beginnings.{frame_with}
 use Rattle.member_link.specs.Machine.Completions.{Completion}
 use Rattle.member_link.specs.Machine.Performing.{is_initialiser, resumed}
-use Rattle.member_link.specs.Machine.Programs.{Catch, Point, Program, RunMethod, code_at, point_at, run_method}
+use Rattle.member_link.specs.Machine.Programs.{Catch, Point, Program, RunMethod, point_at, run_method}
 use Rattle.same_runs.specs.Laws.CaughtUp.{less}
-use Rattle.same_runs.specs.Laws.Methods.{same_run_method}
+use Rattle.same_runs.specs.Laws.MethodPoints.{awaited_is, catches_are, ends_there, method_there}
 use Rattle.same_runs.specs.Laws.Moves.{same_dropped, same_joined, same_reversed}
 use Rattle.same_runs.specs.Laws.Names.{held_more, names_themselves, units_more, values_more}
 use Rattle.same_runs.specs.Laws.Units.{same_arguments}
-use Rattle.same_runs.specs.Renamings.{Names, NamesMore, SameHeld, SameUnits, SameValues, and_value, no_values, none_held, same_reference}
+use Rattle.same_runs.specs.Renamings.{Names, NamesMore, SameUnits, SameValues, and_value, no_values, none_held, same_reference}
 use Rattle.same_runs.specs.SameFrames.{EndSame, SameCatches, Unwinds, and_catch, catches_at, in_beginnings, in_both, in_library, in_none, no_catches}
 use Rattle.same_runs.specs.SameMoves.{MovesAlike}
 use Rattle.same_runs.specs.SamePrograms.{SamePrograms}
 use Rattle.same_runs.specs.SameWorlds.{Goes, Returns, SameBelow, beginnings_below, library_below, methods_below, none_below}
 use Rattle.typed_runs.specs.TypedFrames.{Above, FramesConform, MethodConforms, StandsAt, above_of, asked_library, called_method, nothing_awaited, upon}
-use Rattle.written_runs.specs.Laws.FewerVirtuals.{GoesFewer, OwnedBelow, goes_above, none_under, over_turn, owned_below, stands_under, under}
+use Rattle.written_runs.specs.Laws.FewerVirtuals.{GoesFewer, OwnedBelow, goes_above, none_under, over_turn, owned_below, stands_under}
+use Rattle.written_runs.specs.Laws.MethodsBegin.{RunsOwnCodes, begins_same}
 use Rattle.written_runs.specs.Inner.PlannedFrames.{InPlanned, Known}
 use Rattle.written_runs.specs.Inner.Setup.{Setup, first, second}
-use Rattle.written_runs.specs.Inner.Standing.{HasNone, InOwn, IsWaiting, SameTop, Stands, beginnings_stand, is_awaited, libraries_stand, none_stand, own_stand, planned_stand, stands}
+use Rattle.written_runs.specs.Inner.Standing.{InOwn, IsWaiting, Stands, beginnings_stand, libraries_stand, none_stand, own_stand, planned_stand, stands, is_awaited}
 use Rattle.written_runs.specs.Laws.StandingMore.{stands_more}
 use Rattle.written_runs.specs.VirtualObjects.{Virtuals}
 
@@ -70,16 +67,7 @@ pub record ReturnsToPlanned (u : Setup) : Type 0 where
 
 pub record FrameLaws (u : Setup) : Type 0 where
   pub same : SamePrograms (first u) (second u)
-  -- a method that is not rewritten runs its own code in both
-  pub own_code : (at : MethodAt) → u.written at ≡ None → code_at (second u) at ≡ code_at (first u) at
-  -- a method begins in both
-  pub begins : (virtuals : Virtuals) (known : Known) (names : Names) (at : MethodAt) (units also : List (Option Value)) (held held_also : Option ℕ)
-      (ones others : List RunFrame)
-      → SameUnits names units also
-      → SameHeld names held held_also
-      → HasNone virtuals (length ones)
-      → Stands u virtuals known (is_awaited u at) names ones others
-      → SameTop u virtuals known names (Method (frame_with (first u) at units held) ∷ ones) (Method (frame_with (second u) at also held_also) ∷ others)
+  pub codes : RunsOwnCodes u
   pub unwinds : UnwindsPlanned u
   pub returns : ReturnsToPlanned u
 
@@ -98,18 +86,6 @@ pub point_on_top : (u : Setup) {heap : Heap} {above : Above} {f : MethodState} {
     → (point : Point) × (point_at (first u) f.at f.place ≡ Some point)
 point_on_top u {heap = heap} {above = above} {f = f} (upon conforms rest) =
     let here = stands_at (first u) u heap f above conforms in (here.point, here.is_point)
-
--- a method that has a point is there
-method_there : (P : Program) (at : MethodAt) (place : ℕ) (point : Point)
-    → point_at P at place ≡ Some point
-    → (method : RunMethod) × (run_method P at ≡ Some method)
-method_there P at place point is = by (run_method P at) refl where
-  by : (found : Option RunMethod) → run_method P at ≡ found → (method : RunMethod) × (run_method P at ≡ Some method)
-  by None none = absurd (none-some point (sym (rw (none) refl) ∙ is))
-  by (Some method) some = (method, some)
-
-catches_are : (P : Program) (f : MethodState) (point : Point) → point_at P f.at f.place ≡ Some point → catches_at P f ≡ point.catches
-catches_are P f point is = rw (is) refl
 
 -- ---- frames one by one
 
@@ -173,20 +149,13 @@ stands_free (beginnings_stand below) = beginnings_stand below
 stands_free (own_stand own below) = own_stand own below
 stands_free (planned_stand in_planned waits below) = planned_stand in_planned (λ impossible. absurd (false≢true impossible)) below
 
--- the frame below that of a method that is no class initialiser waits for it
-called_awaited : (u : Setup) (at : MethodAt) (method : RunMethod)
-    → run_method (first u) at ≡ Some method
-    → is_initialiser method ≡ false
-    → is_awaited u at ≡ true
-called_awaited u at method is named = rw (is, named) refl
-
-above_awaited : (u : Setup) (f : MethodState) (method : RunMethod)
+pub above_awaited : (u : Setup) (f : MethodState) (method : RunMethod)
     → run_method (first u) f.at ≡ Some method
     → is_initialiser method ≡ false
     → IsAwaited (above_of (first u) (Method f))
 above_awaited u f method is named = rw (is, named) tt
 
-typed_below : (u : Setup) {heap : Heap} {above : Above} {f : MethodState} {ones : List RunFrame}
+pub typed_below : (u : Setup) {heap : Heap} {above : Above} {f : MethodState} {ones : List RunFrame}
     → FramesConform (first u) u.typings heap above (Method f ∷ ones)
     → FramesConform (first u) u.typings heap (above_of (first u) (Method f)) ones
 typed_below u (upon conforms rest) = rest
@@ -196,7 +165,9 @@ pub own_point : (u : Setup) (laws : FrameLaws u) {names : Names} {f g : MethodSt
     → InOwn u names f g
     → point_at (first u) f.at f.place ≡ Some point
     → point_at (second u) g.at g.place ≡ Some point
-own_point u laws {f = f} point own is = rw (own.at, own.place, laws.own_code f.at own.not_written) is
+own_point u laws {f = f} point own is =
+    let method = method_there (first u) f.at f.place point is in
+    rw (own.at, own.place, laws.codes.same f.at method.0 own.not_written method.1) is
 
 module _ (u : Setup) (laws : FrameLaws u) (virtuals : Virtuals) (known : Known) where
   abbrev P : Program
@@ -211,32 +182,16 @@ module _ (u : Setup) (laws : FrameLaws u) (virtuals : Virtuals) (known : Known) 
   abbrev UnwindsSo : Names → List RunFrame → List RunFrame → Type 0
   UnwindsSo names ones others = Unwinds P Q (GoesFewer u virtuals known) (GoesFewer u virtuals known) names ones others
 
-  -- ---- methods that end
-
-  ends_same : (f g : MethodState) (method : RunMethod) → run_method P f.at ≡ Some method → g.at ≡ f.at → EndSame P Q f g
-  ends_same f g method is at =
-      let found = same_run_method laws.same f.at method is in
-      record {
-        method = method;
-        also = found.0;
-        is = is;
-        is_also = ap (run_method Q) at ∙ found.1;
-        same = ap (λ (member : Member). bytes_eq member.name clinit) found.2.member;
-      }
-
-  ends_there : (f g : MethodState) (point : Point) → point_at P f.at f.place ≡ Some point → g.at ≡ f.at → EndSame P Q f g
-  ends_there f g point is at = let method = method_there P f.at f.place point is in ends_same f g method.0 method.1 at
-
   -- below a method that is no class initialiser frames wait
-  waits_below : (f g : MethodState) (method : RunMethod)
+  pub waits_below : (f g : MethodState) (method : RunMethod)
       → run_method P f.at ≡ Some method
       → g.at ≡ f.at
       → is_initialiser method ≡ false
       → is_awaited u g.at ≡ true
-  waits_below f g method is at plain = ap (is_awaited u) at ∙ called_awaited u f.at method is plain
+  waits_below f g method is at plain = ap (is_awaited u) at ∙ awaited_is (first u) f.at method false is plain
 
   -- frames that stood below go together by themselves
-  goes_below : {waiting : Bool} {names : Names} {rest rest_also : List RunFrame}
+  pub goes_below : {waiting : Bool} {names : Names} {rest rest_also : List RunFrame}
       → OwnedBelow u virtuals rest
       → Stands u virtuals known waiting names rest rest_also
       → Together names rest rest_also
@@ -293,7 +248,7 @@ module _ (u : Setup) (laws : FrameLaws u) (virtuals : Virtuals) (known : Known) 
       (own_catches own owned below (catches_at P f)))
       (goes_below owned below) (λ plain. unwinds ends.method ends.is plain) where
         ends : EndSame P Q f g
-        ends = ends_there f g point is own.at
+        ends = ends_there laws.same f g point is own.at
 
         is_also : point_at Q g.at g.place ≡ Some point
         is_also = own_point u laws point own is
@@ -338,7 +293,7 @@ module _ (u : Setup) (laws : FrameLaws u) (virtuals : Virtuals) (known : Known) 
   waiting_unwind {names = names} {heap = heap} (planned_stand {f = f} {g = g} {ones = ones} {others = others} in_planned waits below) told owned awaited
       typed =
       let point = point_on_top u typed in
-      let ends : EndSame P Q f g = ends_there f g point.0 point.1 (sym in_planned.at) in
+      let ends : EndSame P Q f g = ends_there laws.same f g point.0 point.1 (sym in_planned.at) in
       in_both ends in_planned.held
       (laws.unwinds.catches virtuals known names heap f g ones others (waits_planned in_planned (waits told) below owned awaited typed))
       (goes_below (owned_below owned) below)
@@ -347,6 +302,25 @@ module _ (u : Setup) (laws : FrameLaws u) (virtuals : Virtuals) (known : Known) 
       (above_awaited u f ends.method ends.is plain) (typed_below u typed))
 
   -- ---- a method on top that runs its own code
+
+  -- a result goes to the frame below
+  pub below_same : {names : Names} {heap : Heap} {waiting : Bool} {above : Above} {ones others : List RunFrame}
+      → Stands u virtuals known waiting names ones others
+      → waiting ≡ true
+      → OwnedBelow u virtuals ones
+      → IsAwaited above
+      → FramesConform P u.typings heap above ones
+      → SameBelow P Q (over_turn u virtuals known) names ones others
+  below_same none_stand told there awaited conforms = none_below
+  below_same (libraries_stand held lower) told there awaited conforms = library_below held (library_goes (owned_below there) lower)
+  below_same (beginnings_stand lower) told there awaited conforms = beginnings_below
+  below_same {names = names} (own_stand own_there lower) told there awaited conforms =
+      methods_below (λ values also are.
+      own_goes_on (owned_below there) (names_themselves names) (own_resumed values also (names_themselves names) own_there are) lower)
+  below_same {names = names} {heap = heap} (planned_stand {f = one} {g = other} {ones = ones} {others = others} in_planned waits lower) told there awaited conforms =
+      methods_below (λ values also are.
+      laws.returns.resumes virtuals known names heap one other ones others values also
+      (waits_planned in_planned (waits told) lower there awaited conforms) are)
 
   module _ {names : Names} {heap : Heap} {f g : MethodState} {rest rest_also : List RunFrame} (own : InOwn u names f g)
       (below : Stands u virtuals known (is_awaited u g.at) names rest rest_also) (owned : OwnedBelow u virtuals rest)
@@ -382,8 +356,7 @@ module _ (u : Setup) (laws : FrameLaws u) (virtuals : Virtuals) (known : Known) 
       called = λ more at method ones others held held_also grows is are same_held.
           goes_above (Method (frame_with P at (units_of_values ones) held) ∷ Method (less taken f) ∷ [])
           (Method (frame_with Q at (units_of_values others) held_also) ∷ Method (less taken g) ∷ []) rest rest_also owned
-          (laws.begins (under (length rest) virtuals) known more at (units_of_values ones) (units_of_values others) held held_also
-          (Method (less taken f) ∷ rest) (Method (less taken g) ∷ rest_also) (same_arguments are) same_held
+          (begins_same laws.codes at method is (same_arguments are) same_held
           (none_under (length rest) virtuals (suc (length rest)) (omega arith)) (own_stand (own_taken taken grows own) (stands_under grows below)));
       unwinds = λ more throwing grows. throws grows (own_taken taken grows own) refl refl refl;
     }
@@ -400,30 +373,11 @@ module _ (u : Setup) (laws : FrameLaws u) (virtuals : Virtuals) (known : Known) 
       unwinds = λ more grows. throws grows (own_more grows own) refl refl refl;
     }
 
-    -- a result goes to the frame below
-    below_same : {waiting : Bool} {above : Above} {ones others : List RunFrame}
-        → Stands u virtuals known waiting names ones others
-        → waiting ≡ true
-        → OwnedBelow u virtuals ones
-        → IsAwaited above
-        → FramesConform P u.typings heap above ones
-        → SameBelow P Q (over_turn u virtuals known) names ones others
-    below_same none_stand told there awaited conforms = none_below
-    below_same (libraries_stand held lower) told there awaited conforms = library_below held (library_goes (owned_below there) lower)
-    below_same (beginnings_stand lower) told there awaited conforms = beginnings_below
-    below_same (own_stand own_there lower) told there awaited conforms =
-        methods_below (λ values also are.
-        own_goes_on (owned_below there) (names_themselves names) (own_resumed values also (names_themselves names) own_there are) lower)
-    below_same (planned_stand {f = one} {g = other} {ones = ones} {others = others} in_planned waits lower) told there awaited conforms =
-        methods_below (λ values also are.
-        laws.returns.resumes virtuals known names heap one other ones others values also
-        (waits_planned in_planned (waits told) lower there awaited conforms) are)
-
     -- behind the method's end
     pub own_returns : Returns P Q (over_turn u virtuals known) names f g rest rest_also
     own_returns =
         let point = point_on_top u typed in
-        let ends : EndSame P Q f g = ends_there f g point.0 point.1 own.at in
+        let ends : EndSame P Q f g = ends_there laws.same f g point.0 point.1 own.at in
         record {
           ends = ends;
           held = own.held;

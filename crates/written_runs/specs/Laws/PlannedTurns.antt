@@ -11,12 +11,10 @@ use Rattle.member_link.specs.Machine.Runs.{Run}
 use Rattle.plan_flow.specs.Written.Blocks.{state_written}
 use Rattle.plan_flow.specs.Written.Templates.{template}
 use Rattle.written_runs.specs.Inner.PlannedFrames.{InPlanned, scope_in}
-use Rattle.written_runs.specs.Laws.Settling.{SettleLaws}
 use Rattle.written_runs.specs.Inner.Setup.{Setup, first}
 use Rattle.written_runs.specs.Laws.Simulation.{KeepsTurn}
 use Rattle.written_runs.specs.Inner.Standing.{Stands, is_awaited}
 use Rattle.written_runs.specs.Inner.Together.{IsSettled, Together, weight}
-use Rattle.written_runs.specs.Laws.Turned.{BehindMoves, turns_by_moves}
 
 -- Runs that go together, where a planned frame stands on top and its instruction is next in both.
 pub record AtPlanned (u : Setup) (measure : ℕ) (one other : Run) : Type 0 where
@@ -38,13 +36,14 @@ abbrev pub written_at : {u : Setup} {measure : ℕ} {one other : Run} → AtPlan
 written_at {u = u} a class instr =
     template (scope_in u a.in_planned.one) a.f.place a.settled.point.typed (state_written a.settled.route) a.settled.route class instr
 
--- What is left to show of planned frames: an instruction of which a template is written is done by moves, jumps and pushes; one that is written as it is,
--- is a turn of both; a test for null.
+-- What is left to show of planned frames: an instruction of which a template is written; one that is written as it is; a test for null. What is written of a
+-- template mostly moves, jumps and pushes (`BehindMoves`); but a new object's class may have to begin in the first run, objects may be made
+-- before a jump, and what is stored into a field is narrowed.
 pub record PlannedParts (u : Setup) : Type 0 where
   pub by_template : (measure : ℕ) (one other : Run) (a : AtPlanned u measure one other) (class : ℕ) (instr : Instr) (instrs : List WInstr)
       → a.settled.point.instr ≡ Of class instr
       → written_at a class instr ≡ Some instrs
-      → BehindMoves u measure one other
+      → KeepsTurn u measure one other
   pub as_it_is : (measure : ℕ) (one other : Run) (a : AtPlanned u measure one other) (class : ℕ) (instr : Instr)
       → a.settled.point.instr ≡ Of class instr
       → written_at a class instr ≡ None
@@ -53,17 +52,16 @@ pub record PlannedParts (u : Setup) : Type 0 where
       → a.settled.point.instr ≡ NullTest local
       → KeepsTurn u measure one other
 
-pub planned_turn : (u : Setup) → SettleLaws u → PlannedParts u → (measure : ℕ) (one other : Run) → AtPlanned u measure one other
+pub planned_turn : (u : Setup) → PlannedParts u → (measure : ℕ) (one other : Run) → AtPlanned u measure one other
     → KeepsTurn u measure one other
-planned_turn u laws parts measure one other a = by a.settled.point.instr refl where
+planned_turn u parts measure one other a = by a.settled.point.instr refl where
   of_template : (class : ℕ) (instr : Instr)
       → a.settled.point.instr ≡ Of class instr
       → (written : Option (List WInstr))
       → written_at a class instr ≡ written
       → KeepsTurn u measure one other
   of_template class instr is None none = parts.as_it_is measure one other a class instr is none
-  of_template class instr is (Some instrs) some =
-      turns_by_moves u laws measure one other (parts.by_template measure one other a class instr instrs is some)
+  of_template class instr is (Some instrs) some = parts.by_template measure one other a class instr instrs is some
 
   by : (instr : FlatInstr) → a.settled.point.instr ≡ instr → KeepsTurn u measure one other
   by (Of class instr) is = of_template class instr is (written_at a class instr) refl

@@ -1,6 +1,6 @@
 -- The second run goes on quietly to where the instruction of the topmost planned frame is next in both: through make code before the instruction, or
 -- on the edge over which control comes, and over the goto at the end of a pad.
-use Rattle.std.proofs.Common.{◌≡◌, ◌≢◌, ◌≤◌, ◌+◌, ◌-◌, ◌++◌, ℕ, zero, suc, Bool, true, false, List, [], ◌∷◌, drop, length, map, slice_get, Some, None, IsTrue, refl, sym, ap, subst, ◌∙◌, arith, inl}
+use Rattle.std.proofs.Common.{◌≡◌, ◌≢◌, ◌≤◌, ◌+◌, ◌-◌, ◌++◌, ℕ, suc, Bool, true, false, List, [], ◌∷◌, drop, length, map, slice_get, Some, None, option_map, IsTrue, refl, sym, ap, subst, ◌∙◌, arith, inl}
 use Rattle.std.specs.List.{find}
 use Rattle.std.proofs.lemmas.Bool.{false≢true}
 use Rattle.std.proofs.lemmas.Option.{none-some, same_Some}
@@ -29,9 +29,9 @@ use Rattle.plan_flow.specs.Written.Finish.{End, Finished, begins_point, comes_to
 use Rattle.plan_flow.specs.Written.Routes.{IsRoute, Route, RouteEdge, edge_by, is_kind}
 use Rattle.plan_flow.specs.declared.edge.EdgeKind.{EdgeKind}
 use Rattle.plan_flow.specs.declared.edge.EdgeKind.TheVariants as edges
-use Rattle.member_link.specs.Machine.Replaced.{map_numbered}
 use Rattle.plan_flow.specs.Written.WrittenCode.{Form, block_items, in_form, is_handler_pad, is_jump_pad, short, start_of, target_number, wide, written_code, written_items, written_point}
 use Rattle.plan_flow.specs.Written.WrittenPrograms.{WrittenMethod}
+use Rattle.same_runs.specs.Laws.Numbered.{slice_numbered}
 use Rattle.same_runs.specs.Laws.QuietBeginnings.{quietly_then}
 use Rattle.same_runs.specs.SameMemories.{SameMemories}
 use Rattle.same_runs.specs.Simulations.{at_once}
@@ -72,19 +72,8 @@ pub record SettleLaws (u : Setup) : Type 0 where
 
 -- ---- lists
 
-slice_numbered : {A B : Type 0} (change : ℕ → A → B) (number : ℕ) (items : List A) (k : ℕ) (one : A)
-    → slice_get items k ≡ Some one
-    → slice_get (map_numbered change number items) k ≡ Some (change (number + k) one)
-slice_numbered change number [] k one is = absurd (none-some one is)
-slice_numbered {A = A} {B = B} change number (first ∷ items) zero one is =
-    let here : number ≡ number + 0 = omega arith in
-    ap (λ (found : A). Some (change number found)) (same_Some first one is) ∙ ap (λ (n : ℕ). Some (change n one)) here
-slice_numbered {A = A} {B = B} change number (first ∷ items) (suc k) one is =
-    let here : suc number + k ≡ number + suc k = omega arith in
-    slice_numbered change (suc number) items k one is ∙ ap (λ (n : ℕ). Some (change n one)) here
-
 -- an edge that is found is one of the route
-found_edge : (wanted : RouteEdge → Bool) (all : List RouteEdge) (edge : RouteEdge) → find wanted all ≡ Some edge
+pub found_edge : (wanted : RouteEdge → Bool) (all : List RouteEdge) (edge : RouteEdge) → find wanted all ≡ Some edge
     → (number : ℕ) × (slice_get all number ≡ Some edge)
 found_edge wanted [] edge is = absurd (none-some edge is)
 found_edge wanted (first ∷ all) edge is = by (wanted first) refl (found_edge wanted all edge) where
@@ -97,7 +86,7 @@ found_edge wanted (first ∷ all) edge is = by (wanted first) refl (found_edge w
 -- ---- how blocks of make code end
 
 -- one that goes on to the block behind it
-ends_plain : (flat : FlatCode) (block : Block) (behind : List Finished) → block.leaves ≡ None → is_empty block.items ≡ false
+pub ends_plain : (flat : FlatCode) (block : Block) (behind : List Finished) → block.leaves ≡ None → is_empty block.items ≡ false
     → end_of flat block behind ≡ no_end
 ends_plain flat block behind none some = rw (none, some) refl
 
@@ -549,6 +538,9 @@ module _ (u : Setup) (laws : SettleLaws u) where
           code : List WInstr
           code = make_code w.flat f.place edge.state edge.made edge.order
 
+          ready : IsReadyMethod u.classes u.links f.at w
+          ready = laws.is_setup.ready f.at w written
+
           follows : suc at ≡ f.place
           follows =
               sym (next_follows s of_method.plan w.routes at before route edge of_method.routed reached.is_point reached.is_route makes.found) ∙ to
@@ -698,7 +690,9 @@ module _ (u : Setup) (laws : SettleLaws u) where
               ≡ Some (written_point s ready.scope u.constructor w.form (blocks_in u w) (0 + (first_item w.form (blocks_in u w) number + length code)) goto)
           at_goto =
               slice_numbered (written_point s ready.scope u.constructor w.form (blocks_in u w)) 0 (written_items w.form (blocks_in u w))
-              (first_item w.form (blocks_in u w) number + length code) goto
+              (first_item w.form (blocks_in u w) number + length code)
+              ∙ ap (option_map (written_point s ready.scope u.constructor w.form (blocks_in u w)
+              (0 + (first_item w.form (blocks_in u w) number + length code))))
               (behind_made w.form (blocks_in u w) number finished code goto [] is_finished items)
 
           there : GoesOn u one r f rest w known point (without edge.state (has edge.made))

@@ -10,24 +10,39 @@ use Rattle.member_link.specs.Machine.Programs.{Program}
 use Rattle.member_link.specs.Machine.Runs.{Run, begins_with, end_of, shown}
 use Rattle.member_link.specs.Machine.SameRuns.{IsSameShown, SameRuns}
 use Rattle.member_link.specs.Machine.Stepping.{is_library_turn}
-use Rattle.member_link.specs.Machine.Worlds.{World, start}
+use Rattle.member_link.specs.Machine.Worlds.{start}
+use Rattle.same_runs.specs.Laws.AloneRuns.{same_turn_below}
+use Rattle.same_runs.specs.Laws.QuietBeginnings.{quietly_then}
 use Rattle.same_runs.specs.Laws.QuietCalls.{quiet_keeps}
-use Rattle.same_runs.specs.Laws.Simulated.{ends_over_same, ends_same, events_no_more, simulated}
+use Rattle.same_runs.specs.Laws.Turns.{quietly_shows}
+use Rattle.same_runs.specs.Laws.Simulated.{ends_over_same, ends_same, events_no_more, memories_at_start, none_named, simulated}
 use Rattle.same_runs.specs.Renamings.{Names, SameHeld, no_references, none_held}
 use Rattle.same_runs.specs.SameMemories.{HasOwnConstants, SameMemories}
 use Rattle.same_runs.specs.SameWorlds.{SameSeen, no_events}
-use Rattle.same_runs.specs.Simulations.{Keeps, Quietly, at_once, turn_first}
+use Rattle.same_runs.specs.Simulations.{Keeps, Quietly, at_once}
 use Rattle.typed_runs.specs.TypedFrames.{FramesConform, nothing_awaited}
 use Rattle.typed_runs.specs.TypedWorlds.{TypedWorld}
 use Rattle.written_runs.specs.Inner.PlannedFrames.{InPlanned, Known}
 use Rattle.written_runs.specs.Inner.Setup.{Setup, first, second}
-use Rattle.written_runs.specs.Inner.Standing.{InOwn, Stands, apart, beginnings_stand, comparison, is_awaited, libraries_stand, none_stand, own_stand, planned_stand}
-use Rattle.written_runs.specs.Inner.Together.{IsSettled, NoTurnBelow, Over, Related, Together, TopIsSettled, points_left, weight}
+use Rattle.written_runs.specs.Inner.Standing.{InOwn, Stands, apart, beginnings_stand, comparison, libraries_stand, none_stand, own_stand, planned_stand, is_awaited}
+use Rattle.written_runs.specs.Inner.Together.{IsSettled, Over, Related, Together, TopIsSettled, points_left, weight}
 use Rattle.written_runs.specs.VirtualObjects.{Virtuals}
 
 -- a turn of the first, where both go together
 abbrev pub KeepsTurn : (u : Setup) → ℕ → Run → Run → Type 0
 KeepsTurn u measure one other = Keeps (first u) (second u) (Related u) measure one other
+
+-- where the second goes on quietly to a run that is related, it is so itself
+pub quietly_related : {u : Setup} {one other waits : Run} → Quietly (second u) other waits → ((later : ℕ) × Related u later one waits)
+    → (later : ℕ) × Related u later one other
+quietly_related quietly related = (
+  related.0,
+  record {
+    later = related.1.later;
+    quietly = quietly_then quietly related.1.quietly;
+    state = related.1.state;
+  },
+)
 
 -- what the parts of the proof give together: a turn of the first by what stands on top
 pub record Parts (u : Setup) : Type 0 where
@@ -128,10 +143,6 @@ module _ (u : Setup) (parts : Parts u) where
 
   -- ---- what is shown
 
-  quietly_shows : {R : Program} {r later : Run} → Quietly R r later → shown later ≡ shown r
-  quietly_shows at_once = refl
-  quietly_shows (turn_first same more) = quietly_shows more ∙ same
-
   -- it is the library's turn in both or in none
   same_turn : {virtuals : Virtuals} {known : Known} {waiting : Bool} {names : Names} {ones others : List RunFrame}
       → Stands u virtuals known waiting names ones others
@@ -152,15 +163,9 @@ module _ (u : Setup) (parts : Parts u) where
 
   together_shows : (measure : ℕ) (one other : Run) → Together u measure one other → IsSameShown (shown one) (shown other)
   together_shows measure one other t =
-      same_shown one other t.along.seen (ends_same one other (t.along.goes_also ∙ sym t.along.goes) (by t.along.now refl) t.along.actions t.along.used) where
-        by : (now : List ℕ) → t.along.now ≡ now → is_library_turn other.world.frames ≡ is_library_turn one.world.frames
-        by [] none =
-            ap is_library_turn t.along.stands_also ∙ same_turn t.along.frames
-            ∙ sym (ap is_library_turn (t.along.stands ∙ ap (λ (classes : List ℕ). map Beginning classes ++ t.along.ones) none))
-        by (class ∷ now) some =
-            let below = subst (λ (classes : List ℕ). NoTurnBelow classes t.along.ones) some t.along.no_turn in
-            ap is_library_turn t.along.stands_also ∙ same_turn t.along.frames ∙ below
-            ∙ sym (ap is_library_turn (t.along.stands ∙ ap (λ (classes : List ℕ). map Beginning classes ++ t.along.ones) some))
+      same_shown one other t.along.seen (ends_same one other (t.along.goes_also ∙ sym t.along.goes)
+      (same_turn_below t.along.now t.along.ones t.along.others one.world other.world t.along.stands t.along.stands_also t.along.no_turn
+      (same_turn t.along.frames)) t.along.actions t.along.used)
 
   shows : (measure : ℕ) (one other : Run) → Related u measure one other → IsSameShown (shown one) (shown other)
   shows measure one other related =
@@ -170,9 +175,6 @@ module _ (u : Setup) (parts : Parts u) where
         by (inr over) = same_shown one related.later over.seen (ends_over_same one related.later over.over over.same over.used)
 
   -- ---- both runs from the start
-
-  abbrev none_named : Names
-  none_named reference = None
 
   starts_together : (actions : List Action) → (measure : ℕ) × Related u measure (begins_with actions) (begins_with actions)
   starts_together actions = (
@@ -199,7 +201,7 @@ module _ (u : Setup) (parts : Parts u) where
           };
           alone = tt;
           no_turn = tt;
-          memories = start_memories;
+          memories = memories_at_start P (omega arith) (omega arith);
           seen = record { known = no_references; events = no_events };
           goes = refl;
           goes_also = refl;
@@ -211,36 +213,7 @@ module _ (u : Setup) (parts : Parts u) where
         low = omega arith;
       });
     },
-  ) where
-    no_constants : HasOwnConstants start.memory.heap
-    no_constants = record {
-      there = λ constant reference kept. absurd (none-some reference kept);
-      is_of = λ constant reference kept. absurd (none-some reference kept);
-      has = λ constant reference kept. absurd (none-some constant kept);
-    }
-
-    start_memories : SameMemories P (comparison u [] []).allocated (comparison u [] []).entered (apart []) none_named [] start.memory start.memory
-    start_memories = record {
-      heaps = record {
-        renaming = record { once = λ first second reference is also. absurd (none-some reference is) };
-        objects = λ reference named is. absurd (none-some named is);
-        own = no_constants;
-        own_also = no_constants;
-        kept = λ constant named is. absurd (none-some named is);
-        named = λ constant reference named kept is. absurd (none-some named is);
-        fresh = λ constant reference kept none. absurd (none-some reference kept);
-        stays = tt;
-      };
-      statics = record {
-        begun = λ class is. is;
-        values = λ class field begun. absurd (false≢true begun);
-        alone = λ class begun none. absurd (false≢true begun);
-        unwritten = λ class field none. refl;
-        unwritten_also = λ class field none. refl;
-      };
-      allocations = omega arith;
-      entries = omega arith;
-    }
+  )
 
   -- The program with written codes runs the same.
   pub runs_the_same : SameRuns P Q

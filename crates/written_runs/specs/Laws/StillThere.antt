@@ -1,8 +1,8 @@
 -- What still holds where objects keep their references and their shapes, and more classes are begun: which classes are known, whose virtual objects
 -- are, and where the topmost planned frame stands.
-use Rattle.std.proofs.Common.{◌≡◌, ◌++◌, ℕ, zero, suc, Bool, List, [], ◌∷◌, length, reverse, slice_get, Option, Some, None, IsTrue, refl, sym, ap, ◌∙◌}
+use Rattle.std.proofs.Common.{◌≡◌, ◌++◌, ℕ, Bool, List, [], ◌∷◌, length, reverse, slice_get, Option, Some, None, IsTrue, refl, sym, ap, ◌∙◌}
 use Rattle.std.proofs.lemmas.List.{length-reverse, reverse-append}
-use Rattle.std.proofs.lemmas.Option.{none-some, same_Some}
+use Rattle.std.proofs.lemmas.Option.{same_Some}
 use Rattle.machine_values.specs.Frames.{MethodState}
 use Rattle.machine_values.specs.Heaps.{Heap, constant_made, kept_in, object_at}
 use Rattle.machine_values.specs.declared.frame.RunFrame.{RunFrame}
@@ -18,6 +18,7 @@ use Rattle.plan_flow.specs.MetPlans.{MeetsState, RefersToSite}
 use Rattle.plan_flow.specs.PlanScope.{PlanScope}
 use Rattle.flow_code.specs.declared.point.Point.{Point}
 use Rattle.same_runs.specs.Laws.Begun.{marked}
+use Rattle.same_runs.specs.Laws.Numbered.{get_left}
 use Rattle.same_runs.specs.Laws.Objects.{get_before, get_new, get_old}
 use Rattle.same_runs.specs.Laws.QuietBeginnings.{begins_more}
 use Rattle.same_runs.specs.Renamings.{Names}
@@ -135,11 +136,6 @@ settled_still before after (planned_stand in_planned waiting below) stay settled
 
 -- ---- whose virtual objects are
 
-get_below : {A : Type 0} (xs ys : List A) (at : ℕ) (x : A) → slice_get xs at ≡ Some x → slice_get (xs ++ ys) at ≡ Some x
-get_below [] ys at x is = absurd (none-some x is)
-get_below (first ∷ xs) ys zero x is = is
-get_below (first ∷ xs) ys (suc at) x is = get_below xs ys at x is
-
 pub owned_still : {u : Setup} {virtuals : Virtuals} {before after : Memory} {ones : List RunFrame}
     → MemoryStays before after
     → AreOwned u virtuals before ones
@@ -174,7 +170,7 @@ module _ {u : Setup} {virtuals : Virtuals} {before : Memory} (class : ℕ) (rest
           was.0,
           was.1,
           ap (λ (frames : List RunFrame). slice_get frames virtual.frame) (reverse-append above rest)
-              ∙ get_below (reverse rest) (reverse above) virtual.frame (Method was.0) (stands_below was.0 virtual.frame was.2),
+              ∙ get_left (reverse rest) (reverse above) virtual.frame (Method was.0) (stands_below was.0 virtual.frame was.2),
           was.3,
         );
     begun = λ number of_class virtual is shape. stay.begun of_class (owned.begun number of_class virtual is shape);

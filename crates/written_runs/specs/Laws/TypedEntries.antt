@@ -359,7 +359,7 @@ module _ (u : Setup) (setup : IsSetup u) (hierarchy : IsHierarchy (headers_of u.
         same_types : map type_of_slot (slots_of (first u) (name_of_class (first u) class)) ≡ field_types (headers_of u.classes) name
         same_types =
             ap (λ (n : Name). map type_of_slot (slots_of (first u) n)) (folder_name (first u) name class number)
-            ∙ ap (map type_of_slot) (same_slots (replaced_same (first_alike u setup hierarchy adds)) name)
+            ∙ ap (map type_of_slot) (same_slots (replaced_same (first_alike u setup)) name)
             ∙ ap (λ (headers : Headers). map type_of_slot (slots_in headers name)) own_headers
             ∙ types_through (headers_of u.classes) (reverse (superclasses (headers_of u.classes) name))
 

@@ -1,25 +1,19 @@
 -- The second program runs written code in the methods that are rewritten.
-use Rattle.std.proofs.Common.{◌≡◌, ◌+◌, ◌++◌, ℕ, zero, suc, false, List, [], ◌∷◌, map, slice_get, Option, Some, option_and_then, option_map, refl, ap, ◌∙◌, arith}
-use Rattle.std.proofs.lemmas.Option.{none-some, slice_get-map}
+use Rattle.std.proofs.Common.{◌≡◌, false, Option, Some, option_and_then, refl, ap, ◌∙◌}
 use Rattle.class_model.specs.Members.{NATIVE, has}
 use Rattle.class_model.specs.declared.class_file.MethodAt.{MethodAt}
 use Rattle.class_tree.specs.Headers.{headers_of}
-use Rattle.expanded_code.specs.Laws.NativeMethods.{IsScopeAt, not_native, scope_is_at}
-use Rattle.member_link.specs.Machine.Classes.{run_method_of}
-use Rattle.member_link.specs.Machine.Codes.{method_code}
-use Rattle.member_link.specs.Machine.Programs.{Code, RunMethod, code_at, code_run, run_method}
-use Rattle.member_link.specs.Machine.Replaced.{map_numbered, method_replaced, with_body}
+use Rattle.expanded_code.specs.Laws.CodedMethods.{not_native}
+use Rattle.member_link.specs.Machine.Classes.{program_of, run_method_of}
+use Rattle.member_link.specs.Machine.Programs.{Code, RunMethod, code_at, code_run}
+use Rattle.member_link.specs.Machine.Replaced.{with_body}
 use Rattle.member_link.specs.Scope.{Scope, scope_at}
 use Rattle.plan_flow.specs.Written.WrittenCode.{written_code}
 use Rattle.plan_flow.specs.Written.WrittenPrograms.{WrittenMethod}
+use Rattle.same_runs.specs.Laws.Numbered.{still_runs}
+use Rattle.same_runs.specs.Laws.Scopes.{IsScopeAt, own_method_code, own_run, scope_is_at}
 use Rattle.written_runs.specs.Inner.PlannedFrames.{blocks_in, scope_in}
 use Rattle.written_runs.specs.Inner.Setup.{IsSetup, Setup, second}
-use Rattle.written_runs.specs.Laws.AddedMethods.{class_replaced, get_numbered}
-
-get_front : {A : Type 0} (xs ys : List A) (number : ℕ) (x : A) → slice_get xs number ≡ Some x → slice_get (xs ++ ys) number ≡ Some x
-get_front [] ys number x is = absurd (none-some x is)
-get_front (first ∷ xs) ys zero x is = is
-get_front (first ∷ xs) ys (suc number) x is = get_front xs ys number x is
 
 -- a method that is not native and has code runs the code that takes its place
 body_runs : (method : RunMethod) (old code : Code) → has method.member.flags NATIVE ≡ false → method.code ≡ Some old
@@ -31,35 +25,14 @@ pub written_code_at : (u : Setup) → IsSetup u → (at : MethodAt) (w : Written
     → scope_at u.classes at ≡ Some host
     → code_at (second u) at ≡ Some (written_code (scope_in u w) host u.constructor w.form (blocks_in u w))
 written_code_at u setup at w host written is =
-    ap (option_and_then code_run) runs
-    ∙ ap (λ (body : Option Code). code_run (with_body (run_method_of u.links (headers_of u.classes) host.class host.method) body)) body_is
-    ∙ body_runs (run_method_of u.links (headers_of u.classes) host.class host.method) _ _ (not_native u.classes at host setup.tree is) own_code where
-      known : IsScopeAt u.classes at host
-      known = scope_is_at u.classes at host is
+    ap (option_and_then code_run) (still_runs (program_of u.classes u.links) u.s at own (own_run u.classes u.links at host there))
+    ∙ ap (λ (body : Option Code). code_run (with_body own body)) body_is
+    ∙ body_runs own _ _ (not_native u.classes at host.class host.method host.part setup.tree there.of_folder there.of_class there.has_code) (own_method_code u.classes u.links at host there) where
+      there : IsScopeAt u.classes at host
+      there = scope_is_at u.classes at host is
+
+      own : RunMethod
+      own = run_method_of u.links (headers_of u.classes) host.class host.method
 
       body_is : u.s.body at ≡ Some (written_code (scope_in u w) host u.constructor w.form (blocks_in u w))
       body_is = setup.replaces_also.bodies at ∙ rw (written, is) refl
-
-      zeroth : 0 + at.method ≡ at.method
-      zeroth = omega arith
-
-      method_there : slice_get
-          (map_numbered (method_replaced u.s at.class) zero (map (run_method_of u.links (headers_of u.classes) host.class) host.class.methods)) at.method
-          ≡ Some (with_body (run_method_of u.links (headers_of u.classes) host.class host.method) (u.s.body at))
-      method_there =
-          get_numbered (method_replaced u.s at.class) 0 at.method (map (run_method_of u.links (headers_of u.classes) host.class) host.class.methods)
-          ∙ ap (λ (n : ℕ). option_map (method_replaced u.s at.class n)
-          (slice_get (map (run_method_of u.links (headers_of u.classes) host.class) host.class.methods) at.method)) zeroth
-          ∙ ap (option_map (method_replaced u.s at.class at.method))
-          (slice_get-map (run_method_of u.links (headers_of u.classes) host.class) host.class.methods at.method
-          ∙ ap (option_map (run_method_of u.links (headers_of u.classes) host.class)) known.of_class)
-
-      runs : run_method (second u) at ≡ Some (with_body (run_method_of u.links (headers_of u.classes) host.class host.method) (u.s.body at))
-      runs =
-          rw (class_replaced u.classes u.links u.s at.class host.class known.of_folder)
-          (get_front (map_numbered (method_replaced u.s at.class) zero (map (run_method_of u.links (headers_of u.classes) host.class) host.class.methods))
-          (u.s.added at.class) at.method _ method_there)
-
-      own_code : (run_method_of u.links (headers_of u.classes) host.class host.method).code
-          ≡ Some (method_code u.links (record { headers = headers_of u.classes; class = host.class; method = host.method; part = host.part }))
-      own_code = rw (known.has_code) refl

@@ -18,8 +18,7 @@ returns c = λ classes typed links typings flats r tree types linked program has
         each_method = c.a_typed_folder_types_each_method.ensures;
         one_each = c.a_typed_method_types_each_instruction.ensures.count;
         each_instr = c.a_typed_method_types_each_instruction.ensures.each;
-        field_above = c.a_found_field_is_above.ensures;
-        one_field = c.a_look_up_finds_one_field.ensures;
+        fields = record { above = c.a_found_field_is_above.ensures; one = c.a_look_up_finds_one_field.ensures };
       };
       calls = record {
         finds_one = c.a_look_up_finds_one_method.ensures;

@@ -1,6 +1,6 @@
 use Rattle.std.proofs.Common.{subst}
 use Rattle.class_tree.specs.Hierarchy.{IsHierarchy}
-use Rattle.typed_flats.proofs.FlatMethods.{program_headers}
+use Rattle.same_runs.specs.Laws.Scopes.{program_headers}
 use Rattle.typed_flats.proofs.FlatPrograms.{flat_frames, flat_program_typed}
 use Rattle.typed_flats.proofs.laws.flat_codes_run_typed.Goals as goal
 

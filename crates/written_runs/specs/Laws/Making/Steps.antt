@@ -26,6 +26,7 @@ use Rattle.member_link.specs.Machine.Worlds.{Memory, going}
 use Rattle.member_link.specs.Scope.{Scope}
 use Rattle.plan_flow.specs.Written.WrittenCode.{written_code, written_op, written_point}
 use Rattle.plan_flow.specs.Written.WrittenPrograms.{WrittenMethod, items_of}
+use Rattle.same_runs.specs.Laws.Numbered.{slice_numbered}
 use Rattle.same_runs.specs.Laws.QuietBeginnings.{quietly_then, standing}
 use Rattle.same_runs.specs.Laws.QuietCalls.{quiet_gives}
 use Rattle.same_runs.specs.Laws.QuietMoves.{moves_quietly}
@@ -35,7 +36,6 @@ use Rattle.same_runs.specs.Simulations.{Quietly, at_once}
 use Rattle.written_runs.specs.Inner.MadeObjects.{StandAt}
 use Rattle.written_runs.specs.Inner.PlannedFrames.{blocks_in, scope_in}
 use Rattle.written_runs.specs.Inner.Setup.{Setup, second}
-use Rattle.written_runs.specs.Laws.AddedMethods.{get_numbered}
 
 -- ---- where make code is done
 
@@ -129,7 +129,7 @@ module _ {u : Setup} {w : WrittenMethod} (d : Doing u w) where
   is_point : {place : ℕ} {instr : WInstr} {instrs : List WInstr} → StandAt u w place (instr ∷ instrs)
       → slice_get code.points place ≡ Some (point_for place instr)
   is_point {place = place} {instr = instr} stand =
-      get_numbered (written_point (scope_in u w) d.host u.constructor w.form (blocks_in u w)) 0 place (items_of u.classes u.links w)
+      slice_numbered (written_point (scope_in u w) d.host u.constructor w.form (blocks_in u w)) 0 (items_of u.classes u.links w) place
       ∙ ap (option_map (written_point (scope_in u w) d.host u.constructor w.form (blocks_in u w) (0 + place))) (item_is stand)
 
   pub at_point : {place : ℕ} {instr : WInstr} {instrs : List WInstr} → StandAt u w place (instr ∷ instrs)

@@ -1,0 +1,171 @@
+-- What is known where a planned frame's instruction is written as it is: its typed row, its operation, and that it is not stuck.
+use Rattle.std.proofs.Common.{◌≡◌, ◌≤◌, ◌<◌, ◌+◌, ◌-◌, ◌++◌, ℕ, zero, suc, Bool, true, false, List, [], ◌∷◌, drop, length, map, slice_get, Option, Some, None, IsTrue, option_and_then, option_map, refl, sym, ap, subst, ◌∙◌, arith}
+use Rattle.std.proofs.lemmas.Bool.{false≢true}
+use Rattle.std.proofs.lemmas.Option.{none-some, same_Some, slice_get_within}
+use Rattle.class_model.specs.declared.descriptor.Kind.{Kind}
+use Rattle.class_model.specs.declared.descriptor.Kind.TheVariants as kinds
+use Rattle.class_model.specs.declared.frame.VType.{VType}
+use Rattle.class_model.specs.declared.frame.VType.TheVariants as types
+use Rattle.class_model.specs.declared.instr.Instr.{Instr}
+use Rattle.class_model.specs.declared.instr.Instr.TheVariants.{Load, Nop}
+use Rattle.class_model.specs.Frames.{is_top}
+use Rattle.flow_code.specs.ReadTypes.{is_site_object, read_frame, read_type}
+use Rattle.flow_code.specs.declared.point.FlatInstr.{FlatInstr}
+use Rattle.flow_code.specs.declared.point.FlatInstr.TheVariants.{Of}
+use Rattle.flow_code.specs.declared.point.Point.{Point}
+use Rattle.machine_values.specs.Frames.{MethodState}
+use Rattle.machine_values.specs.Values.{has_kind}
+use Rattle.machine_values.specs.declared.value.Value.{Value}
+use Rattle.machine_values.specs.declared.value.Value.TheVariants.{Ref}
+use Rattle.member_link.specs.BodyTyping.{RowHolds}
+use Rattle.member_link.specs.Bodies.{item_row}
+use Rattle.member_link.specs.Machine.Codes.{item_op, number_at}
+use Rattle.member_link.specs.Machine.Locals.{local_value}
+use Rattle.member_link.specs.Machine.Ops.{Op, load_local, no_operation}
+use Rattle.member_link.specs.Machine.Performing.{resumed}
+use Rattle.member_link.specs.Machine.Programs.{Program}
+use Rattle.member_link.specs.Machine.Runs.{Run}
+use Rattle.member_link.specs.Machine.Stepping.{ends_stuck, load_step, op_step, with_top}
+use Rattle.member_link.specs.Machine.Worlds.{World, stuck}
+use Rattle.member_link.specs.Rows.LocalRows.{HoldsKind}
+use Rattle.member_link.specs.Rows.Operands.{IsOfKind}
+use Rattle.member_link.specs.Rows.Readings.{row_by}
+use Rattle.plan_flow.specs.PlanRows.{PlanRow, Source, from_place}
+use Rattle.plan_flow.specs.PlanScope.{PlanScope}
+use Rattle.plan_flow.specs.PlanSlots.{held, readable}
+use Rattle.plan_flow.specs.PlanTable.{falls_on, moving, row_at}
+use Rattle.plan_flow.specs.ReadyForPlans.{KeepsType, from_its_type, place_types}
+use Rattle.plan_flow.specs.Written.Blocks.{state_written}
+use Rattle.plan_flow.specs.Written.Routes.{Route}
+use Rattle.plan_flow.specs.Written.Templates.{nothing_of}
+use Rattle.plan_flow.specs.Written.WrittenPrograms.{WrittenMethod}
+use Rattle.same_runs.specs.Flats.{flat_item, flat_points, instr_scope}
+use Rattle.same_runs.specs.Laws.BothBegin.{counted}
+use Rattle.same_runs.specs.Laws.CaughtUp.{less}
+use Rattle.same_runs.specs.Laws.Moves.{same_kind}
+use Rattle.same_runs.specs.QuietMoves.{moved_by, pushed}
+use Rattle.same_runs.specs.Renamings.{SameValue, and_value, no_values}
+use Rattle.same_runs.specs.TypedFlats.{reading_of}
+use Rattle.virtual_state.specs.States.{State}
+use Rattle.virtual_state.specs.declared.slot.Slot.{Slot}
+use Rattle.virtual_state.specs.declared.slot.Slot.TheVariants.{Plain, Virt, Unusable}
+use Rattle.written_runs.specs.Inner.PlannedFrames.{KeptIn, scope_in}
+use Rattle.written_runs.specs.Inner.Setup.{Setup, first}
+use Rattle.written_runs.specs.Laws.Carried.Knowing.{CarriedLaws}
+use Rattle.written_runs.specs.Laws.Carried.MoveTurns.{moves_next}
+use Rattle.written_runs.specs.Laws.Carried.NullTests.{no_top}
+use Rattle.written_runs.specs.Laws.Carried.OperandFits.{nothing_plain, plain_read}
+use Rattle.written_runs.specs.Laws.Carried.Operands.{AreReal}
+use Rattle.written_runs.specs.Laws.Carried.Planned.{carried_here, known_here, knowing_here, own_start}
+use Rattle.written_runs.specs.Laws.Carried.PlannedEdges.{slots_long, unusable_is_top}
+use Rattle.written_runs.specs.Laws.Carried.Points.{IsNoJump}
+use Rattle.written_runs.specs.Laws.Carried.Rows.{PlainRow}
+use Rattle.written_runs.specs.Laws.Carried.Slots.{got_left}
+use Rattle.written_runs.specs.Laws.Carried.Turns.{not_stuck_here, turned_here}
+use Rattle.written_runs.specs.Laws.Carried.Waiting.{AtCarried}
+use Rattle.written_runs.specs.Laws.Carried.Works.{at_first, at_first_is, many_slots, own}
+use Rattle.written_runs.specs.Laws.Halfway.{Halfway}
+use Rattle.written_runs.specs.Laws.PlannedTurns.{AtPlanned, written_at}
+use Rattle.written_runs.specs.Laws.Settling.{SettleLaws}
+use Rattle.written_runs.specs.Laws.Simulation.{KeepsTurn}
+use Rattle.written_runs.specs.Laws.Templates.Stacks.{drop_at, get_in_take}
+use Rattle.written_runs.specs.VirtualObjects.{local_slots, stack_slots}
+use Rattle.written_runs.specs.WrittenRuns.{IsReadyMethod}
+use Rattle.member_link.specs.Scope.{Scope}
+
+-- a type of a kind is not Top
+pub kind_is_no_top : (kind : Kind) (type : VType) → IsOfKind kind type → is_top type ≡ false
+kind_is_no_top kind types.Int told = refl
+kind_is_no_top kind types.Long told = refl
+kind_is_no_top kind types.Float told = refl
+kind_is_no_top kind types.Double told = refl
+kind_is_no_top kind types.Null told = refl
+kind_is_no_top kind types.UninitThis told = refl
+kind_is_no_top kind (types.Object name) told = refl
+kind_is_no_top kind (types.Uninit new) told = refl
+kind_is_no_top kinds.Int types.Top told = absurd (cc told)
+kind_is_no_top kinds.Long types.Top told = absurd (cc told)
+kind_is_no_top kinds.Float types.Top told = absurd (cc told)
+kind_is_no_top kinds.Double types.Top told = absurd (cc told)
+kind_is_no_top kinds.Ref types.Top told = absurd told
+
+pub no_real : (slots : List Slot) (count : ℕ) → length slots ≤ count → AreReal (drop count slots)
+no_real [] zero few = tt
+no_real [] (suc count) few = tt
+no_real (slot ∷ slots) zero few = absurd (omega (arith, few))
+no_real (slot ∷ slots) (suc count) few = no_real slots count (omega (arith, few))
+
+-- a value of a kind in a local is there
+pub value_there : (kind : Kind) (locals : List (Option Value)) (local : ℕ) (value : Value) → local_value kind locals local ≡ Some value
+    → (slice_get locals local ≡ Some (Some value)) × (has_kind kind value ≡ true)
+value_there kind locals local value there = by (slice_get locals local) refl where
+  of_value : (held_value : Value) → slice_get locals local ≡ Some (Some held_value) → (b : Bool) → has_kind kind held_value ≡ b
+      → (slice_get locals local ≡ Some (Some value)) × (has_kind kind value ≡ true)
+  of_value held_value here_it true kind_is =
+      let found : Some held_value ≡ Some value = rw (here_it, kind_is) at there in
+      let same = same_Some held_value value found in
+      (here_it ∙ ap (λ (v : Value). Some (Some v)) same, ap (has_kind kind) (sym same) ∙ kind_is)
+  of_value held_value here_it false kind_is = let found : None ≡ Some value = rw (here_it, kind_is) at there in absurd (none-some value found)
+
+  by : (found : Option (Option Value)) → slice_get locals local ≡ found → (slice_get locals local ≡ Some (Some value)) × (has_kind kind value ≡ true)
+  by None none = let found : None ≡ Some value = rw (none) at there in absurd (none-some value found)
+  by (Some None) none = let found : None ≡ Some value = rw (none) at there in absurd (none-some value found)
+  by (Some (Some held_value)) some = of_value held_value some (has_kind kind held_value) refl
+
+module _ (u : Setup) (laws : CarriedLaws u) {measure : ℕ} {one other : Run} (a : AtPlanned u measure one other) (class : ℕ) (instr : Instr)
+    (is : a.settled.point.instr ≡ Of class instr) (none : written_at a class instr ≡ None) where
+  abbrev P : Program
+  P = first u
+
+  abbrev settle : SettleLaws u
+  settle = laws.turns.settle
+
+  abbrev w : WrittenMethod
+  w = a.in_planned.one
+
+  abbrev s : PlanScope
+  s = scope_in u w
+
+  abbrev route : Route
+  route = a.settled.route
+
+  abbrev point : Point
+  point = a.settled.point
+
+  abbrev before : State
+  before = state_written route
+
+  abbrev f : MethodState
+  f = a.f
+
+  abbrev h : Halfway u one other f a.ones w (known_here u settle a) point before (own_start u w f.place route)
+  h = knowing_here u settle a
+
+  abbrev c : AtCarried u h.virtuals (known_here u settle a) h.names (length a.ones) f h.g
+  c = carried_here u settle a class instr is none
+
+  -- what the row of the point says, as it is read
+  abbrev pub TypedRow : (host : Scope) → FlatInstr → Type 0
+  TypedRow host i =
+      RowHolds (instr_scope u.classes host w.flat i) (read_frame w.flat point.typed)
+      (row_by (reading_of u.classes w.flat f.place point.typed i) (read_frame w.flat point.typed)
+      (item_row (instr_scope u.classes host w.flat i) (read_frame w.flat point.typed) f.place (flat_item i)))
+
+  pub ready_there : IsReadyMethod u.classes u.links h.g.at w
+  ready_there = settle.is_setup.ready h.g.at w h.is_written
+
+  pub typed_row : TypedRow ready_there.scope (Of class instr)
+  typed_row = subst (TypedRow ready_there.scope) is (ready_there.code.typed.points f.place point a.settled.of_instruction.reached.is_point).row
+
+  module _ (straight : IsNoJump c.carried.instr) where
+    -- the operation, by the instruction that stands there
+    abbrev pub OpOf : FlatInstr → Op
+    OpOf i =
+        item_op u.links (number_at (flat_points u.classes (own u laws measure h c straight).host w.flat))
+        (instr_scope u.classes (own u laws measure h c straight).host w.flat i) (flat_item i)
+
+    pub not_stuck_there : (now : World) → op_step P (counted one) f a.ones (OpOf point.instr) ≡ now → now.halt ≡ stuck → ⊥
+    not_stuck_there now steps is_stuck =
+        not_stuck_here u laws.turns measure h (op_step P (counted one) f a.ones (OpOf point.instr))
+        (turned_here u laws.turns measure h (at_first u laws measure h c straight) (at_first_is u laws measure h c straight))
+        (ap (λ (world : World). world.halt) steps ∙ is_stuck)
