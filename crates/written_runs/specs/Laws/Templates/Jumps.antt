@@ -273,7 +273,7 @@ module _ (u : Setup) (laws : TemplateLaws u) {measure : ℕ} {one other : Run} (
               (written_then u laws a t takes) here_point)
               (laws.settle.types.kinds (turn (first u) one).world t.later a.ones w (target u laws a t takes).0 h.typed h.stands
               (written_then u laws a t takes) here_point);
-        }) (can_be_kept laws.settle.is_setup laws.settle.types h here_point on_to.can_edge.places)
+        }) (can_be_kept laws.settle.is_setup laws.settle.types h here_point on_to.can_edge.places on_to.can_edge.room)
 
     -- ---- the end
 
