@@ -28,7 +28,9 @@ pub mod LibraryTurns
 pub mod MadeItems
 pub mod Making
 pub mod MethodsBegin
+pub mod NewOnTop
 pub mod NextEdges
+pub mod OneEffect
 pub mod OverTurns
 pub mod OwnCodes
 pub mod OwnFrames
@@ -36,7 +38,9 @@ pub mod OwnOperations
 pub mod OwnTurns
 pub mod PendingOperations
 pub mod PlannedTurns
+pub mod RowsGo
 pub mod SameBoth
+pub mod SettleFromSetup
 pub mod Settling
 pub mod Simulation
 pub mod StandingMore
@@ -47,12 +51,8 @@ pub mod TypedEntries
 pub mod TypedKept
 pub mod Uncovered
 pub mod UncoveredPlans
-pub mod NewOnTop
-pub mod WideLocals
-pub mod RowsGo
-pub mod WideFlats
-pub mod OneEffect
-pub mod SettleFromSetup
 pub mod UpperSlots
 pub mod WaitingFrames
+pub mod WideFlats
+pub mod WideLocals
 pub mod WrittenCodes

@@ -222,7 +222,7 @@ module _ (u : Setup) (laws : SettleLaws u) where
         (ap (λ (state : State). map is_unusable state.slots) there.is.state ∙ planned_there.is_planned.state.places)
 
   -- what is made before the instruction of a reached point can be made
-  can_at : (f : MethodState) (w : WrittenMethod) (at : ℕ) (point : Point) (route : Route)
+  pub can_at : (f : MethodState) (w : WrittenMethod) (at : ℕ) (point : Point) (route : Route)
       → u.written f.at ≡ Some w
       → IsReached w at point route
       → CanBeMade point route.state route.made route.order

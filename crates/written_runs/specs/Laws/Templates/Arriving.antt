@@ -20,6 +20,7 @@ use Rattle.virtual_state.specs.States.{IsState, State}
 use Rattle.virtual_state.specs.Without.{without}
 use Rattle.written_runs.specs.Inner.PlannedFrames.{IsBlock, IsReached, IsTold, blocks_in, of_first, of_next, scope_in}
 use Rattle.written_runs.specs.Inner.Setup.{Setup}
+use Rattle.written_runs.specs.Laws.OneEffect.{one_effect}
 use Rattle.written_runs.specs.Laws.NextEdges.{next_follows}
 use Rattle.written_runs.specs.Laws.OneEffect.{one_effect}
 use Rattle.written_runs.specs.Laws.Settling.{Onwards, SettleLaws, found_edge, onwards}
