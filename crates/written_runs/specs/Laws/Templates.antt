@@ -31,3 +31,4 @@ pub mod Inits
 pub mod Puts
 pub mod Quiets
 pub mod Narrowings
+pub mod Shuffles

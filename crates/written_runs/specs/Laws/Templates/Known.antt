@@ -25,7 +25,7 @@ use Rattle.class_tree.specs.Layouts.{instance_fields}
 use Rattle.class_model.specs.Descriptors.{kind_of, parameters_of, type_of}
 use Rattle.class_model.specs.Members.{FINAL}
 use Rattle.class_model.specs.Pool.{constant_at}
-use Rattle.class_model.specs.declared.instr.Instr.TheVariants.{Invoke, PutField}
+use Rattle.class_model.specs.declared.instr.Instr.TheVariants.{Invoke, PutField, Shuffle}
 use Rattle.member_link.specs.Machine.CallSteps.{is_object_init}
 use Rattle.member_link.specs.Signatures.{reference_of}
 use Rattle.class_model.specs.declared.descriptor.FieldType.{FieldType}
@@ -36,7 +36,9 @@ use Rattle.same_runs.specs.SameMemories.{IsInert}
 use Rattle.member_link.specs.Machine.Layouts.{slot_number, slot_number_in}
 use Rattle.member_link.specs.References.{Reference}
 use Rattle.member_link.specs.Machine.Codes.{CodePoint, instr_op, item_op, number_at, run_point}
+use Rattle.member_link.specs.Machine.Locals.{form_for}
 use Rattle.member_link.specs.Machine.Ops.{Op}
+use Rattle.member_link.specs.Rows.ShuffleRows.{Form, form_in, forms_of}
 use Rattle.member_link.specs.Machine.Programs.{Code, Point as RunPoint, Program, code_at, field_of, folder_number, has_flag, headers_in, point_at}
 use Rattle.member_link.specs.Machine.Runs.{Run, turn}
 use Rattle.member_link.specs.Machine.Stepping.{frames_step, is_library_turn, op_step, point_step, step}
@@ -112,6 +114,15 @@ pub record TemplateLaws (u : Setup) : Type 0 where
       → u.written at ≡ Some w
       → slice_get w.flat.sites number ≡ Some site
       → (class : ℕ) × (folder_number (first u) site.class ≡ Some class) × IsInert (first u) class
+  -- the form by which the topmost values are moved is that of their types
+  pub same_forms : (world : World) (f : MethodState) (rest : List RunFrame) (w : WrittenMethod) (point : Point) (class opcode : ℕ) (form : Form)
+      → TypedWorld (first u) u.typings world
+      → world.frames ≡ Method f ∷ rest
+      → u.written f.at ≡ Some w
+      → slice_get w.flat.points f.place ≡ Some point
+      → point.instr ≡ Of class (Shuffle opcode)
+      → form_for (forms_of opcode) f.stack ≡ Some form
+      → form_in (forms_of opcode) point.typed.stack ≡ Some form
   -- a field of the folder that flat code stores into is not final
   pub not_final : (at : MethodAt) (w : WrittenMethod) (place : ℕ) (point : Point) (class index : ℕ) (r field : Reference) (number : ℕ)
       → u.written at ≡ Some w
