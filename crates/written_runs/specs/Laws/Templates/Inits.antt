@@ -1,5 +1,5 @@
 -- Calls of the instance initialiser of java/lang/Object for a virtual object, and for one that is read as an object from its new on.
-use Rattle.std.proofs.Common.{◌≡◌, ◌==◌, ◌&&◌, ◌||◌, ◌≤◌, ◌<◌, ◌+◌, ◌-◌, ◌++◌, ℕ, zero, suc, Bool, true, false, List, [], ◌∷◌, bytes_eq, drop, is_some, length, map, reverse, slice_get, take, Some, None, Option, option_map, if◌then◌else◌, IsTrue, refl, sym, ap, subst, ◌∙◌, arith}
+use Rattle.std.proofs.Common.{◌≡◌, ◌==◌, ◌&&◌, ◌||◌, ◌+◌, ◌-◌, ◌++◌, ℕ, suc, Bool, true, false, List, [], ◌∷◌, bytes_eq, drop, is_some, length, map, reverse, slice_get, take, Some, None, Option, option_map, if◌then◌else◌, refl, sym, ap, subst, ◌∙◌, arith}
 use Rattle.std.specs.List.{AllByRecursion, flat_map}
 use Rattle.std.proofs.lemmas.Bool.{and_parts, eqb-true, false≢true}
 use Rattle.std.proofs.lemmas.List.{append-nil, length-reverse, reverse-append, take-append-drop}
@@ -18,7 +18,6 @@ use Rattle.class_tree.specs.Names.{object}
 use Rattle.flow_code.specs.FlatCode.{FlatCode}
 use Rattle.flow_code.specs.ReadTypes.{is_site_object}
 use Rattle.flow_code.specs.declared.point.FlatInstr.TheVariants.{Of}
-use Rattle.flow_code.specs.declared.point.Point.{Point}
 use Rattle.machine_values.specs.Frames.{MethodState}
 use Rattle.machine_values.specs.Heaps.{object_at}
 use Rattle.machine_values.specs.declared.object.Object.{Object}
@@ -61,15 +60,14 @@ use Rattle.written_runs.specs.Laws.MadeItems.{AreOwn}
 use Rattle.written_runs.specs.Laws.PlannedTurns.{AtPlanned, written_at}
 use Rattle.written_runs.specs.Laws.Simulation.{KeepsTurn}
 use Rattle.written_runs.specs.Laws.Templates.Gets.{member_is, named_in}
-use Rattle.written_runs.specs.Laws.Templates.Instrs.{here_not_stuck, items_are, op_here, row_here, scope_here}
+use Rattle.written_runs.specs.Laws.Templates.Instrs.{here_not_stuck, items_are, op_here, scope_here}
 use Rattle.written_runs.specs.Laws.Templates.Items.{IsStraight, all_moved, op_of, shuffle_is_straight}
-use Rattle.written_runs.specs.Laws.Templates.Known.{TemplateLaws, entries, flat_number, many_entries, many_mapped, many_stack, one_slot, operand_refers, reached, split_stack, state_at, tells, written}
-use Rattle.written_runs.specs.Laws.Templates.Operands.{none_same, virtual_gone}
+use Rattle.written_runs.specs.Laws.Templates.Known.{TemplateLaws, entries, many_entries, many_mapped, many_stack, one_slot, operand_refers, reached, split_stack, state_at, tells, written}
+use Rattle.written_runs.specs.Laws.Templates.Operands.{virtual_gone}
 use Rattle.written_runs.specs.Laws.Templates.Sames.{OnePlain, one_plain}
 use Rattle.written_runs.specs.Laws.Templates.Stacks.{KeptParts, as_read, drop_all, drop_at, get_dropped, get_right, length_taken}
 use Rattle.written_runs.specs.Laws.Templates.Still.{still_goes_next}
 use Rattle.written_runs.specs.Laws.Templates.Working.{no_operands, one_operand}
-use Rattle.written_runs.specs.VirtualObjects.{RefersTo}
 
 -- ---- the topmost cell
 

@@ -1,18 +1,16 @@
 -- Pop and dup of one entry.
-use Rattle.std.proofs.Common.{◌≡◌, ◌==◌, ◌&&◌, ◌≤◌, ◌<◌, ◌+◌, ◌-◌, ◌++◌, ℕ, zero, suc, not, Bool, true, false, List, [], ◌∷◌, drop, length, map, reverse, slice_get, take, Some, None, Option, option_map, if◌then◌else◌, IsTrue, refl, sym, ap, subst, ◌∙◌, arith}
+use Rattle.std.proofs.Common.{◌≡◌, ◌+◌, ◌-◌, ◌++◌, ℕ, zero, suc, Bool, true, false, List, [], ◌∷◌, drop, length, map, reverse, slice_get, take, Some, None, Option, option_map, if◌then◌else◌, IsTrue, refl, sym, ap, subst, ◌∙◌, arith}
 use Rattle.std.specs.List.{AllByRecursion}
-use Rattle.std.proofs.lemmas.Bool.{and_parts, eqb-true, false≢true}
-use Rattle.std.proofs.lemmas.List.{append-nil, length-reverse, reverse-append, reverse-reverse}
+use Rattle.std.proofs.lemmas.Bool.{and_parts, false≢true}
+use Rattle.std.proofs.lemmas.List.{length-reverse, reverse-append}
 use Rattle.std.proofs.lemmas.Option.{none-some, same_Some}
-use Rattle.class_model.specs.Frames.{depth, is_top, is_wide}
-use Rattle.class_model.specs.declared.frame.Frame.{Frame}
+use Rattle.class_model.specs.Frames.{depth}
 use Rattle.class_model.specs.declared.frame.VType.{VType}
 use Rattle.class_model.specs.declared.frame.VType.TheVariants as vtypes
 use Rattle.class_model.specs.declared.instr.Instr.TheVariants.{Shuffle}
 use Rattle.class_model.specs.declared.opcodes.TheConstants.{DUP, POP}
 use Rattle.flow_code.specs.ReadTypes.{is_site_object}
 use Rattle.flow_code.specs.declared.point.FlatInstr.TheVariants.{Of}
-use Rattle.flow_code.specs.declared.point.Point.{Point}
 use Rattle.machine_values.specs.Frames.{MethodState}
 use Rattle.machine_values.specs.Values.{is_wide_value}
 use Rattle.machine_values.specs.declared.value.Value.{Value}
@@ -26,15 +24,14 @@ use Rattle.member_link.specs.Rows.Operands.{is_single}
 use Rattle.member_link.specs.Rows.ShuffleRows.{Form, form_in, forms_of, have_widths, one}
 use Rattle.plan_flow.specs.Laws.WrittenBlocks.{item_behind}
 use Rattle.plan_flow.specs.PlanRows.{PlanRow, Source, from_place, no_change}
-use Rattle.plan_flow.specs.PlanScope.{PlanScope}
 use Rattle.plan_flow.specs.PlanSlots.{held, is_open, slot_from, slots_from}
-use Rattle.plan_flow.specs.PlanTable.{moving, operand, picked_operands, shuffle_row}
+use Rattle.plan_flow.specs.PlanTable.{operand, picked_operands, shuffle_row}
 use Rattle.plan_flow.specs.ReadyForPlans.{KeepsType, from_its_new, from_its_type, place_types}
 use Rattle.plan_flow.specs.Written.Blocks.{state_written}
-use Rattle.plan_flow.specs.Written.Templates.{Cell, below_units, cells, cells_from, dups, plain_among, plain_units, pops, shuffles}
+use Rattle.plan_flow.specs.Written.Templates.{Cell, below_units, cells, cells_from, dups, plain_among, pops}
 use Rattle.same_runs.specs.Laws.BothBegin.{counted}
 use Rattle.same_runs.specs.Laws.Moves.{same_wide}
-use Rattle.same_runs.specs.Renamings.{Names, SameValue, no_values}
+use Rattle.same_runs.specs.Renamings.{SameValue, no_values}
 use Rattle.virtual_state.specs.declared.slot.Slot.{Slot}
 use Rattle.virtual_state.specs.declared.slot.Slot.TheVariants.{Plain, Virt, Unusable}
 use Rattle.written_runs.specs.Inner.PlannedFrames.{KeepStack, scope_in}
@@ -43,7 +40,7 @@ use Rattle.written_runs.specs.Laws.MadeItems.{AreOwn}
 use Rattle.written_runs.specs.Laws.PlannedTurns.{AtPlanned, written_at}
 use Rattle.written_runs.specs.Laws.Simulation.{KeepsTurn}
 use Rattle.written_runs.specs.Laws.Templates.Inits.{all_cells, cell_of, stack_usable, top_type}
-use Rattle.written_runs.specs.Laws.Templates.Instrs.{here_not_stuck, items_are, op_here, row_here}
+use Rattle.written_runs.specs.Laws.Templates.Instrs.{here_not_stuck, items_are, row_here}
 use Rattle.written_runs.specs.Laws.Templates.Items.{IsStraight, all_moved, op_of, shuffle_is_straight}
 use Rattle.written_runs.specs.Laws.Templates.Known.{TemplateLaws, entries, many_stack, one_slot, operand_refers, reached, split_stack, stands, tells, written}
 use Rattle.written_runs.specs.Laws.Templates.Operands.{virtual_gone}

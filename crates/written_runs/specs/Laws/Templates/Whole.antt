@@ -1,5 +1,5 @@
 -- A turn at an instruction of which a template is written, by the kinds of instructions; what is open of them is named.
-use Rattle.std.proofs.Common.{◌≡◌, ◌≢◌, ◌⊎◌, ◌∙◌, ℕ, List, Some, Option, ap, inl, inr, refl}
+use Rattle.std.proofs.Common.{◌≡◌, ◌≢◌, ◌⊎◌, ◌∙◌, ℕ, List, Some, ap, inl, inr}
 use Rattle.std.proofs.lemmas.Option.{none-some}
 use Rattle.class_model.specs.declared.instr.Instr.{Instr}
 use Rattle.class_model.specs.declared.instr.Instr.TheVariants.{Load, Store, Shuffle, IfSame, IfNull, Goto, GetField, PutField, Invoke, New, Cast, InstanceOf, Enter, Leave}
