@@ -1,14 +1,14 @@
 -- Where the second run arrives behind the block of an instruction from which control goes on to the next point.
-use Rattle.std.proofs.Common.{◌≡◌, ◌≤◌, ◌<◌, ◌+◌, ◌++◌, ℕ, suc, Bool, List, [], ◌∷◌, length, slice_get, Some, None, Option, refl, sym, ap, subst, ◌∙◌, arith}
+use Rattle.std.proofs.Common.{◌≡◌, ◌<◌, ◌+◌, ◌++◌, ℕ, suc, List, [], ◌∷◌, length, slice_get, Some, None, Option, refl, sym, ap, subst, ◌∙◌, arith}
 use Rattle.std.specs.Option.{option_flatten}
 use Rattle.std.proofs.lemmas.List.{length-append}
-use Rattle.std.proofs.lemmas.Option.{none-some, same_Some, slice_get_within}
+use Rattle.std.proofs.lemmas.Option.{none-some, slice_get_within}
 use Rattle.flow_code.specs.declared.point.Point.{Point}
 use Rattle.machine_values.specs.Frames.{MethodState}
 use Rattle.plan_flow.specs.Laws.RoutedPlans.{EdgeLeads, leads_of}
-use Rattle.plan_flow.specs.Laws.WrittenBlocks.{blocks_left, first_block, first_item, from_point, made_next, next_first, next_part, own_number, points_from, pads_of, blocks_right, split_own}
+use Rattle.plan_flow.specs.Laws.WrittenBlocks.{blocks_left, first_block, first_item, from_point, made_next, next_part, own_number, points_from, pads_of, blocks_right, split_own}
 use Rattle.plan_flow.specs.PlanScope.{PlanScope}
-use Rattle.plan_flow.specs.Plans.{Plan, PlannedPoint, planned}
+use Rattle.plan_flow.specs.Plans.{PlannedPoint}
 use Rattle.plan_flow.specs.Written.Blocks.{Block, blocks_of, instruction_block, point_blocks}
 use Rattle.plan_flow.specs.Written.Routes.{Route, RouteEdge, Routes, edge_by, is_kind}
 use Rattle.plan_flow.specs.Written.WrittenPrograms.{WrittenMethod}
@@ -16,8 +16,7 @@ use Rattle.plan_flow.specs.declared.edge.EdgeKind.{EdgeKind}
 use Rattle.plan_flow.specs.declared.edge.EdgeKind.TheVariants as edges
 use Rattle.virtual_state.specs.Laws.Removals.{without_none}
 use Rattle.virtual_state.specs.Sites.{has}
-use Rattle.virtual_state.specs.States.{IsState, State}
-use Rattle.virtual_state.specs.Without.{without}
+use Rattle.virtual_state.specs.States.{IsState}
 use Rattle.written_runs.specs.Inner.PlannedFrames.{IsBlock, IsReached, IsTold, blocks_in, of_first, of_next, scope_in}
 use Rattle.written_runs.specs.Inner.Setup.{Setup}
 use Rattle.written_runs.specs.Laws.OneEffect.{one_effect}

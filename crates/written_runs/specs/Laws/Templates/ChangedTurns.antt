@@ -1,5 +1,5 @@
 -- A turn of the first run that changes one virtual object.
-use Rattle.std.proofs.Common.{◌≡◌, ◌≤◌, ◌+◌, ℕ, List, [], ◌∷◌, length, slice_get, Some, refl, sym, ap, subst, ◌∙◌, arith}
+use Rattle.std.proofs.Common.{◌≡◌, ◌≤◌, ◌+◌, ℕ, ◌∷◌, length, slice_get, Some, refl, sym, subst, arith}
 use Rattle.machine_values.specs.Frames.{MethodState}
 use Rattle.machine_values.specs.Heaps.{with_object}
 use Rattle.machine_values.specs.declared.frame.RunFrame.TheVariants.{Method}
@@ -13,7 +13,7 @@ use Rattle.same_runs.specs.Laws.Names.{names_themselves}
 use Rattle.same_runs.specs.Laws.Statics.{keeps_all}
 use Rattle.same_runs.specs.SameMemories.{Apart, SameHeaps, StaysApart}
 use Rattle.written_runs.specs.Inner.Setup.{Setup, first}
-use Rattle.written_runs.specs.Inner.Standing.{apart, comparison, entered}
+use Rattle.written_runs.specs.Inner.Standing.{apart, entered}
 use Rattle.written_runs.specs.Inner.Together.{AreOwned}
 use Rattle.written_runs.specs.Laws.PlannedTurns.{AtPlanned}
 use Rattle.written_runs.specs.Laws.Templates.Changed.{apart_as, many_changed, owned_changed, same_below_changed, shapes_changed, still_apart_changed, unbegun_alike, with_changed}

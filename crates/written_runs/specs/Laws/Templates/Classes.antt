@@ -1,5 +1,5 @@
 -- A checkcast and an instanceof of a virtual object: of which class it is, is known.
-use Rattle.std.proofs.Common.{◌≡◌, ◌+◌, ◌++◌, ℕ, zero, suc, pos, Bool, true, false, List, [], ◌∷◌, length, reverse, slice_get, Some, None, Option, option_map, if◌then◌else◌, IsTrue, refl, sym, ap, subst, ◌∙◌}
+use Rattle.std.proofs.Common.{◌≡◌, ℕ, zero, suc, pos, Bool, true, false, List, [], ◌∷◌, length, slice_get, Some, None, Option, if◌then◌else◌, IsTrue, refl, sym, ap, subst, ◌∙◌}
 use Rattle.std.proofs.lemmas.Option.{none-some, same_Some}
 use Rattle.class_model.specs.Pool.{Constants}
 use Rattle.class_model.specs.PoolChecks.{class_at}
@@ -9,27 +9,23 @@ use Rattle.class_model.specs.declared.instr.Instr.TheVariants.{Cast, Const, Inst
 use Rattle.class_tree.specs.Headers.{Name}
 use Rattle.flow_code.specs.ReadTypes.{is_site_object}
 use Rattle.flow_code.specs.declared.point.FlatInstr.TheVariants.{Of}
-use Rattle.machine_values.specs.Frames.{MethodState}
-use Rattle.machine_values.specs.declared.object.Object.{Object}
 use Rattle.machine_values.specs.declared.object.Shape.{Shape}
 use Rattle.machine_values.specs.declared.value.Value.{Value}
 use Rattle.machine_values.specs.declared.value.Value.TheVariants.{Int, Ref}
 use Rattle.making_code.specs.Items.{WInstr, plain}
 use Rattle.member_link.specs.Machine.Codes.{naming}
-use Rattle.member_link.specs.Machine.Completions.{Completion, gives, raises}
-use Rattle.member_link.specs.Machine.ObjectSteps.{if_there}
-use Rattle.member_link.specs.Machine.Ops.{Op, check_cast, instance_of, push_value}
+use Rattle.member_link.specs.Machine.Completions.{gives}
+use Rattle.member_link.specs.Machine.Ops.{Op, check_cast, instance_of}
 use Rattle.member_link.specs.Machine.Performing.{perform}
 use Rattle.member_link.specs.Machine.Runs.{Run}
 use Rattle.member_link.specs.Machine.Shapes.{is_instance}
-use Rattle.member_link.specs.Machine.Stepping.{next_with, op_step, with_top}
-use Rattle.member_link.specs.Machine.Throwables.{class_cast}
+use Rattle.member_link.specs.Machine.Stepping.{next_with, op_step}
 use Rattle.member_link.specs.Machine.Work.{work}
 use Rattle.plan_flow.specs.PlanRows.{Source, from_place, no_change, object_not_below, plain_value}
 use Rattle.plan_flow.specs.PlanScope.{is_site_below}
 use Rattle.plan_flow.specs.PlanScope as plan
 use Rattle.plan_flow.specs.PlanSlots.{held, slots_from}
-use Rattle.plan_flow.specs.PlanTable.{cast_row, operand, positions, row_at}
+use Rattle.plan_flow.specs.PlanTable.{operand}
 use Rattle.plan_flow.specs.ReadyForPlans.{KeepsType, from_its_new, from_its_type, place_types}
 use Rattle.plan_flow.specs.Written.Blocks.{state_written}
 use Rattle.plan_flow.specs.Written.Templates.{instance_template, nothing_of}

@@ -1,5 +1,5 @@
 -- What the two frames have behind an edge, by what the row of the instruction says of where each slot comes from.
-use Rattle.std.proofs.Common.{◌≡◌, ◌≤◌, ℕ, Bool, false, List, [], length, reverse, slice_get, Some, None, IsTrue, refl, sym, ap, subst, ◌∙◌}
+use Rattle.std.proofs.Common.{◌≡◌, ◌≤◌, ℕ, false, List, [], length, reverse, slice_get, Some, IsTrue, sym, ap, subst, ◌∙◌}
 use Rattle.std.proofs.lemmas.Bool.{false≢true}
 use Rattle.class_model.specs.Frames.{is_top}
 use Rattle.class_model.specs.declared.frame.VType.{VType}
@@ -24,7 +24,7 @@ use Rattle.virtual_state.specs.declared.slot.Slot.TheVariants.{Plain, Virt}
 use Rattle.virtual_state.specs.declared.slot.VObject.{VObject}
 use Rattle.written_runs.specs.Inner.PlannedFrames.{KeepStack, Keeps, KeptIn}
 use Rattle.written_runs.specs.Laws.Templates.Slots.{fit_plain, fit_virtual, locals_behind, object_behind_edge, stack_behind}
-use Rattle.written_runs.specs.VirtualObjects.{HasVirtual, RefersTo, Tells, TellsObject, Virtual, Virtuals, local_slots, stack_slots}
+use Rattle.written_runs.specs.VirtualObjects.{HasVirtual, RefersTo, Tells, TellsObject, Virtual, Virtuals, stack_slots}
 
 -- what the slots of an edge come from, in the state before the instruction
 abbrev pub locals_from : PlanScope → Point → ℕ → State → RowEdge → List Slot

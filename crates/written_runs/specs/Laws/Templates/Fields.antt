@@ -1,13 +1,10 @@
 -- What a virtual object has in a field: in the first heap, in the state, and in the second frame's unit.
-use Rattle.std.proofs.Common.{◌≡◌, ◌<◌, ◌+◌, ℕ, zero, suc, Bool, true, false, not, List, [], ◌∷◌, length, slice_get, slice_set, Some, None, Option, option_and_then, option_map, is_some, IsTrue, refl, sym, ap, subst, ◌∙◌, arith}
+use Rattle.std.proofs.Common.{◌≡◌, ℕ, zero, suc, List, [], ◌∷◌, slice_get, slice_set, Some, refl, sym, subst}
 use Rattle.std.proofs.lemmas.Option.{none-some, same_Some}
-use Rattle.class_model.specs.Descriptors.{kind_of}
 use Rattle.class_model.specs.declared.descriptor.FieldType.{FieldType}
-use Rattle.machine_values.specs.Values.{has_kind, narrowed}
 use Rattle.machine_values.specs.declared.value.Value.{Value}
 use Rattle.virtual_state.specs.declared.slot.Slot.{Slot}
-use Rattle.virtual_state.specs.declared.slot.Slot.TheVariants.{Plain, Virt, Unusable}
-use Rattle.written_runs.specs.VirtualObjects.{RefersTo, TellFields, TellsField, Virtuals, tells_plain, tells_virtual}
+use Rattle.written_runs.specs.VirtualObjects.{TellFields, TellsField, Virtuals}
 
 -- a field of a number, of which a slot tells
 pub record FieldTold (virtuals : Virtuals) (frame : ℕ) (types : List FieldType) (slots : List Slot) (number : ℕ) (value : Value) : Type 0 where

@@ -1,20 +1,15 @@
 -- A getfield of a virtual object: its field's unit is loaded, or nothing is written where the field has a virtual object.
-use Rattle.std.proofs.Common.{◌≡◌, ◌+◌, ◌&&◌, ℕ, zero, suc, Bool, true, false, not, List, [], ◌∷◌, length, slice_get, Some, None, Option, option_and_then, option_map, IsTrue, refl, sym, ap, subst, ◌∙◌}
+use Rattle.std.proofs.Common.{◌≡◌, ◌&&◌, ℕ, zero, suc, Bool, true, false, not, List, [], ◌∷◌, length, slice_get, Some, None, Option, option_and_then, option_map, IsTrue, refl, sym, ap, subst, ◌∙◌}
 use Rattle.std.proofs.lemmas.Option.{none-some, same_Some}
 use Rattle.class_model.specs.Descriptors.{kind_of}
 use Rattle.class_model.specs.Members.{STATIC}
 use Rattle.class_model.specs.Pool.{Constants, constant_at}
-use Rattle.class_model.specs.declared.descriptor.FieldType.{FieldType}
 use Rattle.class_model.specs.declared.frame.VType.{VType}
 use Rattle.class_model.specs.declared.instr.Instr.TheVariants.{GetField}
 use Rattle.class_tree.specs.Headers.{Name}
-use Rattle.flow_code.specs.ReadTypes.{is_site_object}
 use Rattle.flow_code.specs.declared.point.FlatInstr.TheVariants.{Of}
 use Rattle.flow_code.specs.declared.point.Site.{Site}
-use Rattle.machine_values.specs.Frames.{MethodState}
-use Rattle.machine_values.specs.Heaps.{object_at}
 use Rattle.machine_values.specs.Values.{has_kind}
-use Rattle.machine_values.specs.declared.object.Object.{Object}
 use Rattle.machine_values.specs.declared.value.Value.{Value}
 use Rattle.machine_values.specs.declared.value.Value.TheVariants.{Ref}
 use Rattle.making_code.specs.Items.{WInstr, load}
@@ -22,9 +17,9 @@ use Rattle.making_code.specs.Units.{field_unit, unit_number}
 use Rattle.member_link.specs.Machine.Codes.{or_meaningless}
 use Rattle.member_link.specs.Machine.Completions.{Completion, ends, gives}
 use Rattle.member_link.specs.Machine.FieldSteps.{get_field_work}
-use Rattle.member_link.specs.Machine.Layouts.{slot_number, slot_number_in}
+use Rattle.member_link.specs.Machine.Layouts.{slot_number}
 use Rattle.member_link.specs.Machine.Locals.{local_value}
-use Rattle.member_link.specs.Machine.Ops.{Op, get_field, load_local}
+use Rattle.member_link.specs.Machine.Ops.{Op, get_field}
 use Rattle.member_link.specs.Machine.Performing.{perform}
 use Rattle.member_link.specs.Machine.Programs.{field_of, folder_number, has_flag, name_of_class}
 use Rattle.member_link.specs.Machine.Runs.{Run}
@@ -41,16 +36,15 @@ use Rattle.plan_flow.specs.PlanSlots.{field_of_slot, held, readable, slots_from}
 use Rattle.plan_flow.specs.PlanTable.{operand, positions}
 use Rattle.plan_flow.specs.ReadyForPlans.{KeepsType, from_its_new, from_its_type, place_types}
 use Rattle.plan_flow.specs.Written.Blocks.{state_written}
-use Rattle.plan_flow.specs.Written.Templates.{get_template, load_of_field}
+use Rattle.plan_flow.specs.Written.Templates.{get_template}
 use Rattle.same_runs.specs.Flats.{pool_of}
 use Rattle.same_runs.specs.Laws.BothBegin.{counted}
 use Rattle.same_runs.specs.Laws.Moves.{same_kind}
 use Rattle.same_runs.specs.Laws.ShiftedUnits.{local_has}
 use Rattle.same_runs.specs.Renamings.{no_values}
-use Rattle.virtual_state.specs.States.{State, object_of}
+use Rattle.virtual_state.specs.States.{State}
 use Rattle.virtual_state.specs.declared.slot.Slot.{Slot}
 use Rattle.virtual_state.specs.declared.slot.Slot.TheVariants.{Plain, Virt, Unusable}
-use Rattle.virtual_state.specs.declared.slot.VObject.{VObject}
 use Rattle.written_runs.specs.Inner.PlannedFrames.{KeepStack, KeptIn, scope_in}
 use Rattle.written_runs.specs.Inner.Setup.{Setup, first}
 use Rattle.written_runs.specs.Laws.PlannedTurns.{AtPlanned, written_at}

@@ -1,8 +1,8 @@
 -- Gotos, and comparisons with null that a virtual object decides.
-use Rattle.std.proofs.Common.{◌≡◌, ◌≢◌, ◌≤◌, ◌<◌, ◌==◌, ◌&&◌, ◌+◌, ◌-◌, ◌++◌, nat_le, ℕ, zero, suc, not, Bool, true, false, List, [], ◌∷◌, drop, filter, length, map, reverse, slice_get, take, Some, None, Option, option_map, if◌then◌else◌, IsTrue, refl, sym, ap, subst, ◌∙◌, arith}
+use Rattle.std.proofs.Common.{◌≡◌, ◌≤◌, ◌<◌, ◌==◌, ◌&&◌, ◌+◌, ◌-◌, ◌++◌, nat_le, ℕ, zero, suc, not, Bool, true, false, List, [], ◌∷◌, filter, length, map, reverse, slice_get, take, Some, None, Option, option_map, if◌then◌else◌, refl, sym, ap, subst, ◌∙◌, arith}
 use Rattle.std.specs.List.{AllByRecursion, find}
 use Rattle.std.proofs.lemmas.Bool.{eq-eqb, false≢true, ne_eqb}
-use Rattle.std.proofs.lemmas.Option.{none-some, same_Some, slice_get_within}
+use Rattle.std.proofs.lemmas.Option.{none-some, slice_get_within}
 use Rattle.class_model.specs.Instructions.{targets}
 use Rattle.class_model.specs.declared.instr.Instr.{Instr}
 use Rattle.class_model.specs.declared.instr.Instr.TheVariants.{Goto, IfNull}
@@ -10,29 +10,27 @@ use Rattle.class_model.specs.declared.opcodes.TheConstants.{IFNONNULL, IFNULL}
 use Rattle.class_tree.specs.Headers.{Classes}
 use Rattle.flow_code.specs.FlatCode.{FlatCode}
 use Rattle.flow_code.specs.declared.handlers.FlatHandler.{FlatHandler}
-use Rattle.flow_code.specs.declared.point.FlatInstr.{FlatInstr}
 use Rattle.flow_code.specs.declared.point.FlatInstr.TheVariants.{Of}
 use Rattle.flow_code.specs.declared.point.Point.{Point}
 use Rattle.machine_values.specs.Frames.{MethodState}
 use Rattle.machine_values.specs.declared.value.Value.{Value}
-use Rattle.machine_values.specs.declared.value.Value.TheVariants.{Ref}
 use Rattle.making_code.specs.Items.{WInstr}
 use Rattle.making_code.specs.Units.{field_unit, unit_number}
 use Rattle.flow_code.specs.WrittenUnits.{written_units}
 use Rattle.member_link.specs.Bodies.{falls_through}
-use Rattle.member_link.specs.Machine.Codes.{CodePoint, if_between, number_at}
-use Rattle.member_link.specs.Machine.Locals.{Jump, jump_of_null}
-use Rattle.member_link.specs.Machine.Ops.{Op, jump_by_null, meaningless}
+use Rattle.member_link.specs.Machine.Codes.{CodePoint, number_at}
+use Rattle.member_link.specs.Machine.Locals.{jump_of_null}
+use Rattle.member_link.specs.Machine.Ops.{jump_by_null, meaningless}
 use Rattle.member_link.specs.Machine.Programs.{number_of_first}
 use Rattle.member_link.specs.Machine.Replaced.{map_numbered}
 use Rattle.member_link.specs.Machine.Runs.{Run}
-use Rattle.member_link.specs.Machine.Stepping.{jump_step, next_with, op_step, with_top}
+use Rattle.member_link.specs.Machine.Stepping.{jump_step, op_step, with_top}
 use Rattle.member_link.specs.Scope.{Scope}
 use Rattle.plan_flow.specs.Effect.{AreEdges}
 use Rattle.plan_flow.specs.Must.{open_edges, row_of_point}
-use Rattle.plan_flow.specs.PlanRows.{Change, Guard, PlanRow, RowEdge, Source, no_change}
+use Rattle.plan_flow.specs.PlanRows.{Change, Guard, PlanRow, RowEdge, no_change}
 use Rattle.plan_flow.specs.PlanScope.{PlanScope}
-use Rattle.plan_flow.specs.PlanSlots.{changed, edge_objects, held, is_open, is_plain, slots_from}
+use Rattle.plan_flow.specs.PlanSlots.{changed, edge_objects, held, is_open}
 use Rattle.plan_flow.specs.PlanTable.{edges_of, falls_on, handler_edges, held_from, held_locals, jump_edges, next_edges, operand, targets_at, thrown_edges}
 use Rattle.plan_flow.specs.Plans.{MadeEdge}
 use Rattle.plan_flow.specs.Written.Blocks.{is_decided, leaves_to, state_written}

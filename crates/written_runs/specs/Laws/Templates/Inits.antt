@@ -1,5 +1,5 @@
 -- Calls of the instance initialiser of java/lang/Object for a virtual object, and for one that is read as an object from its new on.
-use Rattle.std.proofs.Common.{◌≡◌, ◌==◌, ◌&&◌, ◌||◌, ◌≤◌, ◌<◌, ◌+◌, ◌-◌, ◌++◌, ℕ, zero, suc, Bool, true, false, List, [], ◌∷◌, bytes_eq, drop, is_some, length, map, reverse, slice_get, take, Some, None, Option, option_map, if◌then◌else◌, IsTrue, refl, sym, ap, subst, ◌∙◌, arith}
+use Rattle.std.proofs.Common.{◌≡◌, ◌==◌, ◌&&◌, ◌||◌, ◌+◌, ◌-◌, ◌++◌, ℕ, suc, Bool, true, false, List, [], ◌∷◌, bytes_eq, drop, is_some, length, map, reverse, slice_get, take, Some, None, Option, option_map, if◌then◌else◌, refl, sym, ap, subst, ◌∙◌, arith}
 use Rattle.std.specs.List.{AllByRecursion, flat_map}
 use Rattle.std.proofs.lemmas.Bool.{and_parts, eqb-true, false≢true}
 use Rattle.std.proofs.lemmas.List.{append-nil, length-reverse, reverse-append, take-append-drop}
@@ -18,7 +18,6 @@ use Rattle.class_tree.specs.Names.{object}
 use Rattle.flow_code.specs.FlatCode.{FlatCode}
 use Rattle.flow_code.specs.ReadTypes.{is_site_object}
 use Rattle.flow_code.specs.declared.point.FlatInstr.TheVariants.{Of}
-use Rattle.flow_code.specs.declared.point.Point.{Point}
 use Rattle.machine_values.specs.Frames.{MethodState}
 use Rattle.machine_values.specs.Heaps.{object_at}
 use Rattle.machine_values.specs.declared.object.Object.{Object}
@@ -61,19 +60,18 @@ use Rattle.written_runs.specs.Laws.MadeItems.{AreOwn}
 use Rattle.written_runs.specs.Laws.PlannedTurns.{AtPlanned, written_at}
 use Rattle.written_runs.specs.Laws.Simulation.{KeepsTurn}
 use Rattle.written_runs.specs.Laws.Templates.Gets.{member_is, named_in}
-use Rattle.written_runs.specs.Laws.Templates.Instrs.{here_not_stuck, items_are, op_here, row_here, scope_here}
+use Rattle.written_runs.specs.Laws.Templates.Instrs.{here_not_stuck, items_are, op_here, scope_here}
 use Rattle.written_runs.specs.Laws.Templates.Items.{IsStraight, all_moved, op_of, shuffle_is_straight}
-use Rattle.written_runs.specs.Laws.Templates.Known.{TemplateLaws, entries, flat_number, many_entries, many_mapped, many_stack, one_slot, operand_refers, reached, split_stack, state_at, tells, written}
-use Rattle.written_runs.specs.Laws.Templates.Operands.{none_same, virtual_gone}
+use Rattle.written_runs.specs.Laws.Templates.Known.{TemplateLaws, entries, many_entries, many_mapped, many_stack, one_slot, operand_refers, reached, split_stack, state_at, tells, written}
+use Rattle.written_runs.specs.Laws.Templates.Operands.{virtual_gone}
 use Rattle.written_runs.specs.Laws.Templates.Sames.{OnePlain, one_plain}
 use Rattle.written_runs.specs.Laws.Templates.Stacks.{KeptParts, as_read, drop_all, drop_at, get_dropped, get_right, length_taken}
 use Rattle.written_runs.specs.Laws.Templates.Still.{still_goes_next}
 use Rattle.written_runs.specs.Laws.Templates.Working.{no_operands, one_operand}
-use Rattle.written_runs.specs.VirtualObjects.{RefersTo}
 
 -- ---- the topmost cell
 
-abbrev cell_of : VType → Slot → Cell
+abbrev pub cell_of : VType → Slot → Cell
 cell_of type slot = record { units = depth (type ∷ []); slot = slot }
 
 cells_end : (types : List VType) (type : VType) (slots : List Slot) (slot : Slot) → length types ≡ length slots
@@ -100,7 +98,7 @@ popped_reference names value also reference rest (same_reference named) is = ref
 
 module _ (u : Setup) (laws : TemplateLaws u) {measure : ℕ} {one other : Run} (a : AtPlanned u measure one other) where
   -- a stack entry is usable
-  stack_usable : (number : ℕ) → slice_get (entries u laws a) number ≡ Some Unusable → ⊥
+  pub stack_usable : (number : ℕ) → slice_get (entries u laws a) number ≡ Some Unusable → ⊥
   stack_usable number is = absurd (none-false (sym marked ∙ stack_marks)) where
     places : map is_unusable (state_written a.settled.route).slots
         ≡ map is_top a.settled.point.typed.locals ++ map (λ (type : VType). false) a.settled.point.typed.stack
@@ -131,7 +129,7 @@ module _ (u : Setup) (laws : TemplateLaws u) {measure : ℕ} {one other : Run} (
       by (Some type) same = absurd (false≢true (same_Some false true (sym same)))
 
   -- the topmost type, with what is below it
-  top_type : (value : Value) (below : List Value)
+  pub top_type : (value : Value) (below : List Value)
       → a.f.stack ≡ value ∷ below
       → (type : VType)
       × (slice_get a.settled.point.typed.stack (length below) ≡ Some type)
@@ -148,12 +146,14 @@ module _ (u : Setup) (laws : TemplateLaws u) {measure : ℕ} {one other : Run} (
       )
 
   -- the first of the cells is that of the topmost entry
-  top_cell : (value : Value) (below : List Value) (type : VType) (slot : Slot)
+  pub all_cells : (value : Value) (below : List Value) (type : VType) (slot : Slot)
       → a.f.stack ≡ value ∷ below
       → drop (length below) a.settled.point.typed.stack ≡ type ∷ []
       → drop (length below) (entries u laws a) ≡ slot ∷ []
-      → take 1 (cells a.settled.point.typed (state_written a.settled.route)) ≡ cell_of type slot ∷ []
-  top_cell value below type slot stack types slots = ap (take 1) all where
+      → cells a.settled.point.typed (state_written a.settled.route)
+      ≡ cell_of type slot
+      ∷ reverse (cells_from (take (length below) a.settled.point.typed.stack) (take (length below) (entries u laws a)))
+  all_cells value below type slot stack types slots = all where
     many : length a.settled.point.typed.stack ≡ suc (length below)
     many = sym (many_stack u laws a) ∙ ap length stack
 
@@ -178,6 +178,13 @@ module _ (u : Setup) (laws : TemplateLaws u) {measure : ℕ} {one other : Run} (
         (sym (take-append-drop (length below) (entries u laws a)) ∙ ap (λ (found : List Slot). below_slots ++ found) slots)
         ∙ ap reverse (cells_end below_types type below_slots slot same_many)
         ∙ reverse-append (cells_from below_types below_slots) (cell_of type slot ∷ [])
+
+  top_cell : (value : Value) (below : List Value) (type : VType) (slot : Slot)
+      → a.f.stack ≡ value ∷ below
+      → drop (length below) a.settled.point.typed.stack ≡ type ∷ []
+      → drop (length below) (entries u laws a) ≡ slot ∷ []
+      → take 1 (cells a.settled.point.typed (state_written a.settled.route)) ≡ cell_of type slot ∷ []
+  top_cell value below type slot stack types slots = ap (take 1) (all_cells value below type slot stack types slots)
 
   module _ (class opcode index count : ℕ) (is : a.settled.point.instr ≡ Of class (Invoke opcode index count)) (r : Reference)
       (named : named_in u class index ≡ Some r) (init_is : is_object_init r ≡ true) (special : opcode ≡ INVOKESPECIAL) where

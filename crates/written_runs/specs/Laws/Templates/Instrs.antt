@@ -1,7 +1,6 @@
 -- An instruction that takes stack entries and gives others, and from which control goes on to the next point.
-use Rattle.std.proofs.Common.{◌≡◌, ◌≤◌, ◌<◌, ◌+◌, ◌-◌, ◌++◌, ℕ, Bool, true, false, List, [], ◌∷◌, drop, length, map, reverse, slice_get, take, Some, None, Option, IsTrue, refl, sym, ap, subst, ◌∙◌, arith}
+use Rattle.std.proofs.Common.{◌≡◌, ◌≤◌, ◌+◌, ◌-◌, ◌++◌, ℕ, Bool, true, List, length, map, reverse, slice_get, take, Some, None, IsTrue, refl, sym, ap, subst, ◌∙◌, arith}
 use Rattle.std.specs.List.{AllByRecursion}
-use Rattle.std.proofs.lemmas.Option.{none-some, same_Some}
 use Rattle.class_model.specs.declared.instr.Instr.{Instr}
 use Rattle.class_model.specs.declared.frame.VType.{VType}
 use Rattle.flow_code.specs.ReadTypes.{is_site_object}
@@ -10,7 +9,6 @@ use Rattle.flow_code.specs.declared.point.FlatInstr.{FlatInstr}
 use Rattle.flow_code.specs.declared.point.FlatInstr.TheVariants.{Of}
 use Rattle.flow_code.specs.declared.point.Point.{Point}
 use Rattle.machine_values.specs.Frames.{MethodState}
-use Rattle.machine_values.specs.declared.frame.RunFrame.TheVariants.{Method}
 use Rattle.machine_values.specs.declared.value.Value.{Value}
 use Rattle.machine_values.specs.declared.value.Value.TheVariants.{Ref}
 use Rattle.making_code.specs.Items.{WInstr, item}
@@ -20,7 +18,7 @@ use Rattle.member_link.specs.Machine.Codes.{instr_op, item_op}
 use Rattle.member_link.specs.Machine.Ops.{Op}
 use Rattle.member_link.specs.Machine.Runs.{Run}
 use Rattle.member_link.specs.Machine.Stepping.{next_with, op_step}
-use Rattle.member_link.specs.Machine.Worlds.{World, stuck}
+use Rattle.member_link.specs.Machine.Worlds.{stuck}
 use Rattle.member_link.specs.RowScope.{RowScope}
 use Rattle.plan_flow.specs.Must.{row_of_point}
 use Rattle.plan_flow.specs.PlanRows.{Change, PlanRow, Source}
@@ -31,10 +29,9 @@ use Rattle.plan_flow.specs.ReadyForPlans.{KeepsType, place_types}
 use Rattle.plan_flow.specs.Written.Blocks.{leaves_to, state_written}
 use Rattle.plan_flow.specs.Written.Templates.{items_at}
 use Rattle.plan_flow.specs.declared.edge.EdgeKind.TheVariants as edges
-use Rattle.same_runs.specs.Flats.{flat_item, host_scope, instr_scope}
+use Rattle.same_runs.specs.Flats.{flat_item, instr_scope}
 use Rattle.same_runs.specs.Laws.BothBegin.{counted}
 use Rattle.virtual_state.specs.States.{object_of}
-use Rattle.virtual_state.specs.declared.slot.Slot.{Slot}
 use Rattle.virtual_state.specs.declared.slot.Slot.TheVariants.{Plain, Virt}
 use Rattle.virtual_state.specs.declared.slot.VObject.{VObject}
 use Rattle.written_runs.specs.Inner.PlannedFrames.{KeepStack, KeptIn, scope_in}
@@ -44,7 +41,7 @@ use Rattle.written_runs.specs.Laws.MadeItems.{AreOwn}
 use Rattle.written_runs.specs.Laws.PlannedTurns.{AtPlanned, written_at}
 use Rattle.written_runs.specs.Laws.Simulation.{KeepsTurn}
 use Rattle.written_runs.specs.Laws.Templates.Items.{IsStraight, all_moved, op_of}
-use Rattle.written_runs.specs.Laws.Templates.Known.{TemplateLaws, entries, first_op, flat_number, keeps, many_stack, many_both, not_stuck, reached, ready, tells}
+use Rattle.written_runs.specs.Laws.Templates.Known.{TemplateLaws, entries, first_op, flat_number, many_stack, many_both, not_stuck, reached, ready}
 use Rattle.written_runs.specs.Laws.Templates.Moving.{MovesOver, locals_stay}
 use Rattle.written_runs.specs.Laws.Templates.Quiets.{IsQuietly, goes_quietly}
 use Rattle.written_runs.specs.Laws.Templates.Turns.{FirstTurn, goes_next}

@@ -1,5 +1,5 @@
 -- The items that are written for an instruction: moves and pushes one after the other, up to the block behind.
-use Rattle.std.proofs.Common.{◌≡◌, ◌+◌, ◌<◌, ◌++◌, ℕ, zero, suc, Bool, true, false, List, [], ◌∷◌, drop, length, map, slice_get, Some, None, Option, option_and_then, option_map, if◌then◌else◌, refl, sym, ap, subst, ◌∙◌, arith}
+use Rattle.std.proofs.Common.{◌≡◌, ◌+◌, ◌++◌, ℕ, suc, Bool, true, false, List, [], ◌∷◌, length, map, slice_get, Some, None, Option, option_and_then, option_map, if◌then◌else◌, refl, sym, ap, subst, ◌∙◌, arith}
 use Rattle.std.specs.List.{AllByRecursion}
 use Rattle.std.proofs.lemmas.List.{append-nil, append_assoc, length-append, map-append}
 use Rattle.std.proofs.lemmas.Option.{none-some, same_Some, slice_get-map, slice_get_within}
@@ -13,7 +13,7 @@ use Rattle.machine_values.specs.declared.value.Value.{Value}
 use Rattle.making_code.specs.Items.{WInstr, WItem, item, plain}
 use Rattle.member_link.specs.Machine.Locals.{local_value, shuffled, stored}
 use Rattle.member_link.specs.Machine.Ops.{Op, load_local, no_operation, push_value, shuffle_stack, store_local}
-use Rattle.member_link.specs.Machine.Programs.{Code, Point as RunPoint, code_at, point_at}
+use Rattle.member_link.specs.Machine.Programs.{Code, Point as RunPoint}
 use Rattle.member_link.specs.Machine.Stepping.{next_with}
 use Rattle.plan_flow.specs.Laws.WrittenBlocks.{block_finished, first_item, holds_of_both, next_starts, own_number, own_of}
 use Rattle.plan_flow.specs.Written.Blocks.{Block, blocks_of, instruction_block, leaves_to, state_written}

@@ -1,18 +1,15 @@
 -- What is known where a planned frame is on top and its instruction is next in both: what the first run's instruction does, how many local units
 -- and stack entries there are, and what the operands are.
-use Rattle.std.proofs.Common.{◌≡◌, ◌≢◌, ◌≤◌, ◌<◌, ◌+◌, ◌-◌, ◌++◌, ◌%◌, ℕ, zero, suc, ℤ, pos, Bool, true, false, List, [], ◌∷◌, drop, length, map, reverse, slice_get, take, Some, None, Option, option_and_then, option_map, IsTrue, refl, sym, ap, subst, ◌∙◌, arith}
+use Rattle.std.proofs.Common.{◌≡◌, ◌≤◌, ◌<◌, ◌+◌, ◌++◌, ◌%◌, ℕ, zero, suc, ℤ, pos, Bool, true, false, List, [], ◌∷◌, drop, length, map, reverse, slice_get, take, Some, None, Option, option_and_then, option_map, IsTrue, refl, sym, ap, subst, ◌∙◌, arith}
 use Rattle.std.specs.Int.{w32, cast_unsigned, int_bit_and}
 use Rattle.std.proofs.lemmas.Bool.{false≢true}
-use Rattle.std.proofs.lemmas.List.{length-reverse, reverse-append, reverse-reverse, take-append-drop}
+use Rattle.std.proofs.lemmas.List.{length-reverse, reverse-append, take-append-drop}
 use Rattle.std.proofs.lemmas.Option.{none-some, same_Some, slice_get-map, slice_get_within}
 use Rattle.class_model.specs.declared.class_file.MethodAt.{MethodAt}
 use Rattle.class_model.specs.Frames.{is_top}
 use Rattle.class_model.specs.declared.frame.VType.{VType}
 use Rattle.class_model.specs.declared.frame.VType.TheVariants.{Top}
-use Rattle.class_model.specs.declared.instr.Instr.{Instr}
-use Rattle.flow_code.specs.FlatCode.{FlatCode, point_at as flat_point_at}
 use Rattle.flow_code.specs.ReadTypes.{read_frame, read_type}
-use Rattle.flow_code.specs.declared.point.FlatInstr.{FlatInstr}
 use Rattle.flow_code.specs.declared.point.FlatInstr.TheVariants.{Of}
 use Rattle.flow_code.specs.declared.point.Point.{Point}
 use Rattle.machine_values.specs.Frames.{MethodState}
@@ -25,7 +22,7 @@ use Rattle.class_tree.specs.Layouts.{instance_fields}
 use Rattle.class_model.specs.Descriptors.{kind_of, parameters_of, type_of}
 use Rattle.class_model.specs.Members.{FINAL}
 use Rattle.class_model.specs.Pool.{constant_at}
-use Rattle.class_model.specs.declared.instr.Instr.TheVariants.{Invoke, PutField}
+use Rattle.class_model.specs.declared.instr.Instr.TheVariants.{Invoke, PutField, Shuffle}
 use Rattle.member_link.specs.Machine.CallSteps.{is_object_init}
 use Rattle.member_link.specs.Signatures.{reference_of}
 use Rattle.class_model.specs.declared.descriptor.FieldType.{FieldType}
@@ -35,29 +32,30 @@ use Rattle.member_link.specs.FieldConstructors.{field_types}
 use Rattle.same_runs.specs.SameMemories.{IsInert}
 use Rattle.member_link.specs.Machine.Layouts.{slot_number, slot_number_in}
 use Rattle.member_link.specs.References.{Reference}
-use Rattle.member_link.specs.Machine.Codes.{CodePoint, instr_op, item_op, number_at, run_point}
+use Rattle.member_link.specs.Machine.Codes.{item_op, number_at, run_point}
+use Rattle.member_link.specs.Machine.Locals.{form_for}
 use Rattle.member_link.specs.Machine.Ops.{Op}
+use Rattle.member_link.specs.Rows.ShuffleRows.{Form, form_in, forms_of}
 use Rattle.member_link.specs.Machine.Programs.{Code, Point as RunPoint, Program, code_at, field_of, folder_number, has_flag, headers_in, point_at}
 use Rattle.member_link.specs.Machine.Runs.{Run, turn}
 use Rattle.member_link.specs.Machine.Stepping.{frames_step, is_library_turn, op_step, point_step, step}
-use Rattle.member_link.specs.Machine.Worlds.{World, going, stuck}
+use Rattle.member_link.specs.Machine.Worlds.{World, stuck}
 use Rattle.member_link.specs.RowScope.{RowScope}
 use Rattle.member_link.specs.Scope.{Scope, scope_at}
 use Rattle.plan_flow.specs.Laws.WrittenBlocks.{item_behind}
 use Rattle.plan_flow.specs.Must.{row_of_point}
 use Rattle.plan_flow.specs.PlanRows.{RowEdge, from_place}
-use Rattle.plan_flow.specs.PlanScope.{PlanScope, is_of_library, local_types, stack_types}
+use Rattle.plan_flow.specs.PlanScope.{PlanScope, is_of_library, local_types}
 use Rattle.plan_flow.specs.PlanSlots.{held, readable}
 use Rattle.plan_flow.specs.PlanTable.{edges_of, operand}
 use Rattle.plan_flow.specs.Laws.RoutedPlans.{IsRouteOf, route_of}
 use Rattle.plan_flow.specs.Plans.{IsStateAt, IsValidAt, unusable_places}
 use Rattle.plan_flow.specs.Written.Blocks.{Block, instruction_block, state_written}
-use Rattle.plan_flow.specs.Written.Routes.{IsRoute, Route}
+use Rattle.plan_flow.specs.Written.Routes.{Route}
 use Rattle.plan_flow.specs.Written.WrittenPrograms.{WrittenMethod}
-use Rattle.same_runs.specs.Flats.{flat_code, flat_item, flat_point, flat_points, host_scope, instr_scope, pool_of}
+use Rattle.same_runs.specs.Flats.{flat_code, flat_item, flat_point, flat_points, instr_scope, pool_of}
 use Rattle.same_runs.specs.Laws.BothBegin.{counted}
 use Rattle.same_runs.specs.Laws.CaughtUp.{turned_going}
-use Rattle.same_runs.specs.Renamings.{Names}
 use Rattle.typed_runs.specs.Conforming.{AllConform, UnitsConform, and_unit, and_value, no_units, no_values}
 use Rattle.typed_runs.specs.TypedFrames.{ConformsTo}
 use Rattle.typed_runs.specs.TypedWorlds.{StaysTyped, TypedWorld}
@@ -115,6 +113,15 @@ pub record TemplateLaws (u : Setup) : Type 0 where
       → u.written at ≡ Some w
       → slice_get w.flat.sites number ≡ Some site
       → (class : ℕ) × (folder_number (first u) site.class ≡ Some class) × IsInert (first u) class
+  -- the form by which the topmost values are moved is that of their types
+  pub same_forms : (world : World) (f : MethodState) (rest : List RunFrame) (w : WrittenMethod) (point : Point) (class opcode : ℕ) (form : Form)
+      → TypedWorld (first u) u.typings world
+      → world.frames ≡ Method f ∷ rest
+      → u.written f.at ≡ Some w
+      → slice_get w.flat.points f.place ≡ Some point
+      → point.instr ≡ Of class (Shuffle opcode)
+      → form_for (forms_of opcode) f.stack ≡ Some form
+      → form_in (forms_of opcode) point.typed.stack ≡ Some form
   -- a field of the folder that flat code stores into is not final
   pub not_final : (at : MethodAt) (w : WrittenMethod) (place : ℕ) (point : Point) (class index : ℕ) (r field : Reference) (number : ℕ)
       → u.written at ≡ Some w

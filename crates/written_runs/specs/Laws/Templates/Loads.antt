@@ -23,7 +23,7 @@ use Rattle.same_runs.specs.Renamings.{no_values}
 use Rattle.virtual_state.specs.declared.slot.Slot.{Slot}
 use Rattle.virtual_state.specs.declared.slot.Slot.TheVariants.{Plain, Virt, Unusable}
 use Rattle.written_runs.specs.Inner.PlannedFrames.{KeepStack, scope_in}
-use Rattle.written_runs.specs.Inner.Setup.{Setup, first}
+use Rattle.written_runs.specs.Inner.Setup.{Setup}
 use Rattle.written_runs.specs.Laws.PlannedTurns.{AtPlanned, written_at}
 use Rattle.written_runs.specs.Laws.Simulation.{KeepsTurn}
 use Rattle.written_runs.specs.Laws.Templates.Known.{TemplateLaws, keeps_whole, unit_refers}

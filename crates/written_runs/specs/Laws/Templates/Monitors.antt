@@ -1,34 +1,28 @@
 -- A monitor of a virtual object is entered or left: nothing is written, and the object is locked once more, or once less.
-use Rattle.std.proofs.Common.{◌≡◌, ◌≢◌, ◌⊎◌, ◌≤◌, ◌==◌, ◌+◌, ◌-◌, ◌++◌, ℕ, zero, suc, Bool, true, false, List, [], ◌∷◌, length, reverse, slice_get, Some, None, Option, option_map, if◌then◌else◌, IsTrue, refl, sym, ap, subst, ◌∙◌, arith, inl, inr}
-use Rattle.std.proofs.lemmas.Bool.{eq-eqb, eqb-true, false≢true}
+use Rattle.std.proofs.Common.{◌≡◌, ◌≢◌, ◌⊎◌, ◌≤◌, ◌==◌, ◌+◌, ◌-◌, ◌++◌, ℕ, Bool, true, false, List, [], ◌∷◌, length, slice_get, Some, None, Option, option_map, refl, sym, ap, subst, ◌∙◌, arith, inl, inr}
+use Rattle.std.proofs.lemmas.Bool.{eqb-true}
 use Rattle.std.proofs.lemmas.Option.{none-some, same_Some}
 use Rattle.class_model.specs.declared.instr.Instr.{Instr}
 use Rattle.class_model.specs.declared.instr.Instr.TheVariants.{Enter, Leave}
 use Rattle.flow_code.specs.declared.point.FlatInstr.TheVariants.{Of}
-use Rattle.flow_code.specs.declared.point.Point.{Point}
-use Rattle.machine_values.specs.Frames.{MethodState}
 use Rattle.machine_values.specs.Heaps.{with_object}
 use Rattle.machine_values.specs.declared.frame.RunFrame.TheVariants.{Method}
 use Rattle.machine_values.specs.declared.object.Object.{Object}
 use Rattle.machine_values.specs.declared.value.Value.{Value}
-use Rattle.machine_values.specs.declared.value.Value.TheVariants.{Ref}
 use Rattle.making_code.specs.Items.{WInstr}
 use Rattle.making_code.specs.Units.{field_unit, unit_number}
 use Rattle.member_link.specs.Bodies.{falls_through}
-use Rattle.member_link.specs.Machine.Completions.{Completion, gives}
-use Rattle.member_link.specs.Machine.Ops.{Op, enter_monitor, leave_monitor}
+use Rattle.member_link.specs.Machine.Completions.{gives}
+use Rattle.member_link.specs.Machine.Ops.{enter_monitor, leave_monitor}
 use Rattle.member_link.specs.Machine.Performing.{perform}
 use Rattle.member_link.specs.Machine.Runs.{Run}
 use Rattle.member_link.specs.Machine.Stepping.{next_with, op_step}
 use Rattle.member_link.specs.Machine.Work.{work}
-use Rattle.member_link.specs.Machine.Worlds.{Memory}
-use Rattle.plan_flow.specs.Must.{row_of_point}
 use Rattle.plan_flow.specs.PlanRows.{PlanRow, object_at_depth}
 use Rattle.plan_flow.specs.PlanSlots.{at_depth, changed, held, is_open, with_depth_of}
 use Rattle.plan_flow.specs.PlanTable.{held_from, held_locals, operand, positions}
 use Rattle.plan_flow.specs.Written.Blocks.{leaves_to, state_written}
 use Rattle.plan_flow.specs.Written.Templates.{nothing_of}
-use Rattle.plan_flow.specs.declared.edge.EdgeKind.TheVariants as edges
 use Rattle.same_runs.specs.Laws.BothBegin.{counted}
 use Rattle.same_runs.specs.Renamings.{no_values}
 use Rattle.virtual_state.specs.Laws.Objects.{found_site, object_behind, object_first, same_or_not}
@@ -44,8 +38,8 @@ use Rattle.written_runs.specs.Laws.LessVirtual.{one_owner}
 use Rattle.written_runs.specs.Laws.Simulation.{KeepsTurn}
 use Rattle.written_runs.specs.Laws.Templates.Changed.{changed_here, entered_as, fields_changed, had, has_changed, one_reference, refers_changed, tells_other, unchanged, with_changed, change_one}
 use Rattle.written_runs.specs.Laws.Templates.ChangedTurns.{changed_turn}
-use Rattle.written_runs.specs.Laws.Templates.Known.{TemplateLaws, keeps, many_stack, operand_refers, tells}
-use Rattle.written_runs.specs.Laws.Templates.Operands.{IsObjectOf, asks_none, object_is, slot_is_there, virtual_gone}
+use Rattle.written_runs.specs.Laws.Templates.Known.{TemplateLaws, keeps, operand_refers, tells}
+use Rattle.written_runs.specs.Laws.Templates.Operands.{IsObjectOf, asks_none, object_is, virtual_gone}
 use Rattle.written_runs.specs.Laws.Templates.Instrs.{first_is, here_not_stuck, instr_goes_next, op_here, row_here, row_is}
 use Rattle.written_runs.specs.Laws.Templates.Turns.{memories_here}
 use Rattle.written_runs.specs.Laws.Templates.Working.{no_operands, one_operand}

@@ -1,12 +1,11 @@
 -- Behind an instruction that takes stack entries and gives others, and leaves the local units as they are.
-use Rattle.std.proofs.Common.{◌≡◌, ◌⊎◌, ◌≤◌, ◌<◌, ◌+◌, ◌-◌, ◌++◌, ℕ, suc, Bool, true, false, List, [], ◌∷◌, drop, length, map, reverse, slice_get, take, Some, None, Option, IsTrue, refl, sym, ap, subst, ◌∙◌, arith, inl, inr}
+use Rattle.std.proofs.Common.{◌≡◌, ◌⊎◌, ◌≤◌, ◌<◌, ◌+◌, ◌++◌, ℕ, suc, false, List, [], ◌∷◌, length, map, reverse, slice_get, take, Some, Option, IsTrue, refl, sym, ap, subst, ◌∙◌, arith, inl, inr}
 use Rattle.std.proofs.lemmas.Bool.{false≢true}
 use Rattle.std.proofs.lemmas.List.{length-reverse, reverse-append, reverse-reverse}
-use Rattle.std.proofs.lemmas.Option.{none-some, same_Some, slice_get_within}
+use Rattle.std.proofs.lemmas.Option.{same_Some, slice_get_within}
 use Rattle.class_model.specs.Frames.{is_top}
 use Rattle.class_model.specs.Laws.Lists.{at_index}
 use Rattle.class_model.specs.declared.frame.VType.{VType}
-use Rattle.class_model.specs.declared.frame.VType.TheVariants.{Top}
 use Rattle.flow_code.specs.FlatCode.{point_at}
 use Rattle.flow_code.specs.ReadTypes.{is_site_object}
 use Rattle.flow_code.specs.WrittenUnits.{written_units}
@@ -25,13 +24,13 @@ use Rattle.plan_flow.specs.ReadyForPlans.{KeepsAlong, KeepsType, from_its_new, f
 use Rattle.plan_flow.specs.Written.WrittenPrograms.{WrittenMethod}
 use Rattle.virtual_state.specs.States.{State, object_of}
 use Rattle.virtual_state.specs.declared.slot.Slot.{Slot}
-use Rattle.virtual_state.specs.declared.slot.Slot.TheVariants.{Plain, Virt, Unusable}
+use Rattle.virtual_state.specs.declared.slot.Slot.TheVariants.{Plain, Virt}
 use Rattle.virtual_state.specs.declared.slot.VObject.{VObject}
 use Rattle.written_runs.specs.Inner.PlannedFrames.{KeepStack, KeptIn, scope_in}
 use Rattle.written_runs.specs.Inner.Setup.{Setup, first}
 use Rattle.written_runs.specs.Laws.PlannedTurns.{AtPlanned}
 use Rattle.written_runs.specs.Laws.Templates.Edges.{GoesOver, locals_from, stack_from}
-use Rattle.written_runs.specs.Laws.Templates.Known.{TemplateLaws, before, entries, keeps, many_entries, many_locals, many_slots, many_stack, point, reached, ready, s, tells, top_unit, w, written}
+use Rattle.written_runs.specs.Laws.Templates.Known.{TemplateLaws, before, entries, many_entries, many_slots, many_stack, point, reached, ready, s, tells, top_unit, w, written}
 use Rattle.written_runs.specs.Laws.Templates.Stacks.{IsReadPlain, as_read, get_left, get_right, held_at, held_length, held_slots, is_plain_there, is_unusable_there, keep_join, keep_read, length_taken, read_plain, read_virtual, split_place, get_taken}
 use Rattle.written_runs.specs.VirtualObjects.{HasVirtual, RefersTo, TellsObject, Virtual, Virtuals, local_slots}
 

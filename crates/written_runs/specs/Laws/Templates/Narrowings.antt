@@ -1,5 +1,5 @@
 -- What narrows a value to a field's type in the second run: quiet turns.
-use Rattle.std.proofs.Common.{◌≡◌, ◌+◌, ◌%◌, nat_le, ℕ, zero, suc, ℤ, pos, Bool, true, false, List, [], ◌∷◌, length, map, slice_get, Some, None, Option, option_and_then, refl, sym, ap, subst, ◌∙◌, arith}
+use Rattle.std.proofs.Common.{◌≡◌, ◌+◌, ◌%◌, nat_le, ℕ, suc, ℤ, pos, true, List, [], ◌∷◌, length, slice_get, Some, option_and_then, refl, sym, ap, subst, ◌∙◌, arith}
 use Rattle.std.specs.Int.{w32, cast_unsigned, int_bit_and}
 use Rattle.std.proofs.lemmas.Bool.{false≢true, le-leb}
 use Rattle.class_model.specs.Descriptors.{kind_of}
@@ -11,11 +11,11 @@ use Rattle.machine_values.specs.Values.{has_kind, narrowed}
 use Rattle.machine_values.specs.declared.frame.RunFrame.{RunFrame}
 use Rattle.machine_values.specs.declared.frame.RunFrame.TheVariants.{Method}
 use Rattle.machine_values.specs.declared.value.Value.{Value}
-use Rattle.machine_values.specs.declared.value.Value.TheVariants.{Int, Long, Float, Double, Null, Ref}
+use Rattle.machine_values.specs.declared.value.Value.TheVariants.{Int}
 use Rattle.member_link.specs.Machine.Completions.{gives}
 use Rattle.member_link.specs.Machine.Ops.{Op, pure_arithmetic, push_value}
 use Rattle.member_link.specs.Machine.Performing.{resumed}
-use Rattle.member_link.specs.Machine.Programs.{Code, Point as RunPoint, Program, code_at, point_at}
+use Rattle.member_link.specs.Machine.Programs.{Code, Point as RunPoint, Program, code_at}
 use Rattle.member_link.specs.Machine.Runs.{Run}
 use Rattle.member_link.specs.Machine.Work.{arity, work}
 use Rattle.member_link.specs.Machine.Worlds.{Memory, going}

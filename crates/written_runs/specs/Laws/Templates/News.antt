@@ -1,5 +1,5 @@
 -- A new of a site: the object is virtual, and its field units are cleared. Where its class is not begun, the first run begins it alone.
-use Rattle.std.proofs.Common.{◌≡◌, ◌≢◌, ◌⊎◌, ◌≤◌, ◌<◌, ◌==◌, ◌+◌, ◌-◌, ◌*◌, ◌++◌, ℕ, zero, suc, Bool, true, false, List, [], ◌∷◌, length, map, replicate, reverse, slice_get, Some, None, Option, option_map, IsTrue, IsFalse, refl, sym, ap, subst, ◌∙◌, arith, inl, inr}
+use Rattle.std.proofs.Common.{◌≡◌, ◌≢◌, ◌⊎◌, ◌≤◌, ◌<◌, ◌==◌, ◌+◌, ◌++◌, ℕ, zero, suc, Bool, true, false, List, [], ◌∷◌, length, map, replicate, reverse, slice_get, Some, None, Option, option_map, IsTrue, refl, sym, ap, subst, ◌∙◌, arith, inl, inr}
 use Rattle.std.specs.List.{AllByRecursion}
 use Rattle.std.proofs.lemmas.Bool.{eqb-true, false≢true, le-leb}
 use Rattle.std.proofs.lemmas.List.{length-reverse}
@@ -7,25 +7,23 @@ use Rattle.std.proofs.lemmas.Option.{none-some, same_Some, slice_get-map, slice_
 use Rattle.class_model.specs.Descriptors.{kind_of}
 use Rattle.class_model.specs.Laws.Lists.{at_index}
 use Rattle.class_model.specs.PoolChecks.{class_at}
-use Rattle.class_model.specs.declared.class_file.ClassFile.{ClassFile}
 use Rattle.class_model.specs.declared.descriptor.FieldType.{FieldType}
 use Rattle.class_model.specs.declared.descriptor.FieldType.TheVariants.{Byte, Char, Short, Bool as Boolean, Int as Integer, Long as LongType, Float as FloatType, Double as DoubleType, Named}
 use Rattle.class_model.specs.declared.descriptor.Kind.{Kind}
 use Rattle.class_model.specs.declared.descriptor.Kind.TheVariants as kinds
 use Rattle.class_model.specs.declared.frame.VType.{VType}
 use Rattle.class_model.specs.declared.instr.Instr.TheVariants.{New}
-use Rattle.class_tree.specs.Headers.{Name, headers_of}
+use Rattle.class_tree.specs.Headers.{Name}
 use Rattle.class_tree.specs.Layouts.{instance_fields}
 use Rattle.expanded_code.specs.CandidateSites.{IsSite}
 use Rattle.flow_code.specs.FlatCode.{FlatCode}
 use Rattle.flow_code.specs.ReadTypes.{is_site_object}
-use Rattle.flow_code.specs.declared.point.FlatInstr.{FlatInstr}
 use Rattle.flow_code.specs.declared.point.FlatInstr.TheVariants.{Of}
 use Rattle.flow_code.specs.declared.point.Point.{Point}
 use Rattle.flow_code.specs.declared.point.Site.{Site}
 use Rattle.machine_values.specs.Frames.{MethodState}
-use Rattle.machine_values.specs.Heaps.{allocated, object_at}
-use Rattle.machine_values.specs.Values.{blank_of_kind, blank_values, has_kind, narrowed}
+use Rattle.machine_values.specs.Heaps.{allocated}
+use Rattle.machine_values.specs.Values.{blank_of_kind, blank_values, narrowed}
 use Rattle.machine_values.specs.declared.frame.RunFrame.{RunFrame}
 use Rattle.machine_values.specs.declared.frame.RunFrame.TheVariants.{Beginning, Method}
 use Rattle.machine_values.specs.declared.object.Object.{Object}
@@ -34,20 +32,19 @@ use Rattle.machine_values.specs.declared.value.Value.{Value}
 use Rattle.machine_values.specs.declared.value.Value.TheVariants.{Ref}
 use Rattle.making_code.specs.Items.{WInstr, plain}
 use Rattle.making_code.specs.Units.{WUnit, field_unit, fields_at, own, unit_number}
-use Rattle.member_link.specs.FieldConstructors.{field_types}
 use Rattle.member_link.specs.Machine.Beginnings.{begun_memory, begun_on}
 use Rattle.member_link.specs.Machine.Codes.{naming}
-use Rattle.member_link.specs.Machine.Completions.{Completion, begins, gives}
+use Rattle.member_link.specs.Machine.Completions.{begins, gives}
 use Rattle.member_link.specs.Machine.Ops.{Op, new_object, push_value, store_local}
 use Rattle.member_link.specs.Machine.Performing.{perform}
 use Rattle.member_link.specs.Machine.Programs.{RunClass, folder_number, headers_in, name_of_class, number_of_first}
 use Rattle.member_link.specs.Machine.Runs.{Run, turn}
-use Rattle.member_link.specs.Machine.Stepping.{is_library_turn, next_with, op_step, work_step}
+use Rattle.member_link.specs.Machine.Stepping.{is_library_turn, next_with, op_step}
 use Rattle.member_link.specs.Machine.Work.{work}
 use Rattle.member_link.specs.Machine.Worlds.{Memory, World, is_begun}
 use Rattle.member_link.specs.Scope.{Scope}
-use Rattle.plan_flow.specs.PlanRows.{PlanRow, Source, from_new, new_object as makes_object, object_of_site}
-use Rattle.plan_flow.specs.PlanScope.{PlanScope, field_count, site_at}
+use Rattle.plan_flow.specs.PlanRows.{PlanRow, Source, from_new, object_of_site}
+use Rattle.plan_flow.specs.PlanScope.{PlanScope, site_at}
 use Rattle.plan_flow.specs.PlanSlots.{changed, slot_of_new, slots_from}
 use Rattle.plan_flow.specs.PlanTable.{positions}
 use Rattle.plan_flow.specs.ReadyForPlans.{KeepsType, place_types}
@@ -70,14 +67,14 @@ use Rattle.same_runs.specs.Laws.Statics.{keeps_all}
 use Rattle.same_runs.specs.Renamings.{no_values}
 use Rattle.same_runs.specs.SameMemories.{IsInert, SameHeaps}
 use Rattle.same_runs.specs.Simulations.{at_once}
-use Rattle.virtual_state.specs.Laws.Objects.{object_behind, object_first, same_or_not, found_site}
+use Rattle.virtual_state.specs.Laws.Objects.{object_behind, object_first, same_or_not}
 use Rattle.virtual_state.specs.States.{is_present, object_of}
 use Rattle.virtual_state.specs.declared.slot.Slot.{Slot}
 use Rattle.virtual_state.specs.declared.slot.Slot.TheVariants.{Plain, Virt, Unusable}
 use Rattle.virtual_state.specs.declared.slot.VObject.{VObject}
 use Rattle.written_runs.specs.Inner.PlannedFrames.{KeepStack, KeptIn, scope_in}
 use Rattle.written_runs.specs.Inner.Setup.{Setup, first}
-use Rattle.written_runs.specs.Inner.Standing.{apart, comparison, entered}
+use Rattle.written_runs.specs.Inner.Standing.{apart}
 use Rattle.written_runs.specs.Inner.Together.{AreOwned, Related, Together, points_left, weight}
 use Rattle.written_runs.specs.Laws.LessVirtual.{one_owner}
 use Rattle.written_runs.specs.Laws.MadeItems.{AreOwn}
@@ -85,11 +82,11 @@ use Rattle.written_runs.specs.Laws.Making.Held.{HeldIn}
 use Rattle.written_runs.specs.Laws.Making.Places.{IsFieldAt}
 use Rattle.written_runs.specs.Laws.PlannedTurns.{AtPlanned, written_at}
 use Rattle.written_runs.specs.Laws.Simulation.{KeepsTurn}
-use Rattle.written_runs.specs.Laws.StandingMore.{SameBelow, SameOfFrame}
+use Rattle.written_runs.specs.Laws.StandingMore.{SameBelow}
 use Rattle.written_runs.specs.Laws.StillThere.{MemoryStays, begun_stays, known_still, owned_still, settled_still}
 use Rattle.written_runs.specs.Laws.Templates.Changed.{unbegun_alike}
 use Rattle.written_runs.specs.Laws.Templates.Holding.{Cleared, blank_kind, cleared_all, clearing_ops, field_held, own_held}
-use Rattle.written_runs.specs.Laws.Templates.Instrs.{first_is, here_not_stuck, instr_goes_next, op_here, row_here, row_is}
+use Rattle.written_runs.specs.Laws.Templates.Instrs.{first_is, instr_goes_next, op_here, row_here, row_is}
 use Rattle.written_runs.specs.Laws.Templates.Items.{IsStraight, all_moved, push_is_straight, store_is_straight}
 use Rattle.written_runs.specs.Laws.Templates.Known.{TemplateLaws, keeps, keeps_whole, first_op, reached, ready, stands, step_is, tells, turn_is, typed_then, written}
 use Rattle.written_runs.specs.Laws.Templates.Known as known_here

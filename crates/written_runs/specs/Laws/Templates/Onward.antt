@@ -1,14 +1,13 @@
 -- Where a goto is not written: the target's first block stands behind, and the blocks between write nothing.
-use Rattle.std.proofs.Common.{◌≡◌, ◌≢◌, ◌⊎◌, ◌≤◌, ◌<◌, ◌==◌, ◌+◌, ◌++◌, ℕ, zero, suc, Bool, true, false, List, [], ◌∷◌, drop, length, slice_get, take, Some, None, Option, if◌then◌else◌, refl, sym, ap, subst, ◌∙◌, arith, inl, inr}
+use Rattle.std.proofs.Common.{◌≡◌, ◌≢◌, ◌⊎◌, ◌≤◌, ◌<◌, ◌==◌, ◌+◌, ◌++◌, ℕ, zero, suc, Bool, true, false, List, [], ◌∷◌, drop, length, slice_get, take, Some, None, Option, if◌then◌else◌, refl, sym, ap, ◌∙◌, arith, inl, inr}
 use Rattle.std.specs.List.{AllByRecursion, flat_map}
 use Rattle.std.proofs.lemmas.Bool.{eqb-true, false≢true}
 use Rattle.std.proofs.lemmas.Grind.{flat_map-append}
 use Rattle.std.proofs.lemmas.List.{append_assoc, length-append}
-use Rattle.std.proofs.lemmas.Option.{none-some, same_Some}
+use Rattle.std.proofs.lemmas.Option.{none-some}
 use Rattle.class_model.specs.Laws.Lists.{at_index}
 use Rattle.flow_code.specs.FlatCode.{FlatCode}
 use Rattle.flow_code.specs.declared.point.Point.{Point}
-use Rattle.making_code.specs.Items.{WItem}
 use Rattle.plan_flow.specs.Laws.WrittenBlocks.{before_blocks, behind_own, blocks_left, blocks_right, finished_block, first_begins, first_block, first_item, first_of, holds_of_both, none_begin, own_number, pads_of, points_from, split_own}
 use Rattle.plan_flow.specs.Laws.WrittenPads.{AreNone, ComesTo, comes_over, none_of_reached, nothing_written}
 use Rattle.plan_flow.specs.PlanScope.{PlanScope}

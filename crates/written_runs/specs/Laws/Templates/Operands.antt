@@ -1,21 +1,19 @@
 -- Operands that are virtual: what they refer to, and that the second stack has no entry of them.
-use Rattle.std.proofs.Common.{◌≡◌, ◌+◌, ◌++◌, ℕ, zero, suc, Bool, true, false, List, [], ◌∷◌, drop, length, reverse, slice_get, take, Some, None, Option, IsTrue, IsFalse, refl, sym, ap, subst, ◌∙◌}
+use Rattle.std.proofs.Common.{◌≡◌, ◌++◌, ℕ, zero, suc, List, [], ◌∷◌, drop, length, reverse, slice_get, take, Some, None, Option, refl, sym, ap, subst, ◌∙◌}
 use Rattle.std.specs.List.{AllByRecursion}
 use Rattle.std.proofs.lemmas.Bool.{false≢true}
 use Rattle.std.proofs.lemmas.List.{append-nil}
 use Rattle.std.proofs.lemmas.Option.{none-some, same_Some}
-use Rattle.class_model.specs.Laws.Lists.{at_index}
 use Rattle.class_model.specs.declared.class_file.ClassFile.{ClassFile}
 use Rattle.flow_code.specs.declared.point.Point.{Point}
 use Rattle.flow_code.specs.declared.point.Site.{Site}
 use Rattle.machine_values.specs.Heaps.{Heap, object_at}
-use Rattle.machine_values.specs.declared.object.Object.{Object}
 use Rattle.machine_values.specs.declared.object.Shape.TheVariants.{Folder}
 use Rattle.machine_values.specs.declared.value.Value.{Value}
 use Rattle.machine_values.specs.declared.value.Value.TheVariants.{Ref}
 use Rattle.member_link.specs.Machine.Programs.{folder_number, name_of_class}
 use Rattle.member_link.specs.Machine.Runs.{Run}
-use Rattle.plan_flow.specs.Must.{AsksFor, IsAsked, IsMustIn, IsMustOf, by_position, row_of_point}
+use Rattle.plan_flow.specs.Must.{AsksFor, IsMustIn, IsMustOf, by_position, row_of_point}
 use Rattle.plan_flow.specs.PlanRows.{Position}
 use Rattle.plan_flow.specs.PlanScope.{PlanScope}
 use Rattle.plan_flow.specs.PlanScope as plan
@@ -25,11 +23,11 @@ use Rattle.plan_flow.specs.Plans.{state_left}
 use Rattle.plan_flow.specs.Written.Blocks.{state_written}
 use Rattle.same_runs.specs.Flats.{pool_of}
 use Rattle.same_runs.specs.Laws.FirstBeginnings.{folder_name}
-use Rattle.same_runs.specs.Renamings.{Names, SameValue, SameValues, no_values}
+use Rattle.same_runs.specs.Renamings.{Names, SameValues, no_values}
 use Rattle.same_runs.specs.SameMemories.{StaysApart}
 use Rattle.virtual_state.specs.Laws.Objects.{found_present, found_site}
 use Rattle.virtual_state.specs.Sites.{has}
-use Rattle.virtual_state.specs.States.{State, is_present, object_of}
+use Rattle.virtual_state.specs.States.{State, object_of}
 use Rattle.virtual_state.specs.Without.{without}
 use Rattle.virtual_state.specs.declared.slot.Slot.{Slot}
 use Rattle.virtual_state.specs.declared.slot.Slot.TheVariants.{Plain, Virt, Unusable}

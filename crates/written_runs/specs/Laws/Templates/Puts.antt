@@ -1,9 +1,7 @@
 -- A store into a field of a virtual object.
-use Rattle.std.proofs.Common.{◌≡◌, ◌≢◌, ◌⊎◌, ◌==◌, ◌&&◌, ◌≤◌, ◌<◌, ◌+◌, ◌-◌, ◌++◌, ℕ, zero, suc, not, Bool, true, false, List, [], ◌∷◌, drop, length, map, reverse, slice_get, slice_set, take, Some, None, Option, option_and_then, option_map, if◌then◌else◌, IsTrue, refl, sym, ap, subst, ◌∙◌, arith, inl, inr}
-use Rattle.std.specs.List.{AllByRecursion}
-use Rattle.std.proofs.lemmas.Bool.{false≢true}
+use Rattle.std.proofs.Common.{◌≡◌, ◌≢◌, ◌⊎◌, ◌≤◌, ◌+◌, ◌++◌, ℕ, zero, suc, Bool, true, false, List, [], ◌∷◌, drop, length, map, reverse, slice_get, slice_set, take, Some, None, Option, option_and_then, option_map, refl, sym, ap, subst, ◌∙◌, arith, inl, inr}
 use Rattle.std.proofs.lemmas.List.{append-nil}
-use Rattle.std.proofs.lemmas.Option.{none-some, same_Some, slice_get_within}
+use Rattle.std.proofs.lemmas.Option.{none-some, same_Some}
 use Rattle.class_model.specs.Descriptors.{kind_of, type_of}
 use Rattle.class_model.specs.Members.{FINAL, STATIC}
 use Rattle.class_model.specs.declared.descriptor.FieldType.{FieldType}
@@ -13,7 +11,6 @@ use Rattle.class_model.specs.declared.instr.Instr.TheVariants.{PutField}
 use Rattle.class_tree.specs.Headers.{Name, headers_of}
 use Rattle.flow_code.specs.WrittenUnits.{written_units}
 use Rattle.flow_code.specs.declared.point.FlatInstr.TheVariants.{Of}
-use Rattle.flow_code.specs.declared.point.Point.{Point}
 use Rattle.flow_code.specs.declared.point.Site.{Site}
 use Rattle.machine_values.specs.Frames.{MethodState}
 use Rattle.machine_values.specs.Heaps.{Heap, object_at, with_object, with_value}
@@ -24,10 +21,10 @@ use Rattle.machine_values.specs.declared.object.Shape.TheVariants.{Folder}
 use Rattle.machine_values.specs.declared.value.Value.{Value}
 use Rattle.machine_values.specs.declared.value.Value.TheVariants.{Ref}
 use Rattle.making_code.specs.Items.{WInstr, store}
-use Rattle.making_code.specs.Units.{WUnit, field_unit, own, unit_number}
+use Rattle.making_code.specs.Units.{WUnit, field_unit, unit_number}
 use Rattle.member_link.specs.Machine.Codes.{initialises, or_meaningless}
 use Rattle.member_link.specs.Machine.Completions.{Completion, ends, gives}
-use Rattle.member_link.specs.Machine.FieldSteps.{is_barred, put_field_value, put_field_work}
+use Rattle.member_link.specs.Machine.FieldSteps.{put_field_value, put_field_work}
 use Rattle.member_link.specs.Machine.Locals.{stored}
 use Rattle.member_link.specs.Machine.Ops.{Op, put_field, store_local}
 use Rattle.member_link.specs.Machine.Performing.{perform}
@@ -35,17 +32,17 @@ use Rattle.member_link.specs.Machine.Programs.{Program, field_of, folder_number,
 use Rattle.member_link.specs.Machine.Layouts.{slot_number, slot_number_in}
 use Rattle.member_link.specs.Machine.Runs.{Run}
 use Rattle.member_link.specs.Machine.Shapes.{reference_conforms}
-use Rattle.member_link.specs.Machine.Stepping.{next_with, op_step, with_top}
+use Rattle.member_link.specs.Machine.Stepping.{next_with, op_step}
 use Rattle.member_link.specs.Machine.Work.{work}
 use Rattle.member_link.specs.Machine.Worlds.{Memory, World, stuck, with_heap}
 use Rattle.member_link.specs.References.{Reference}
 use Rattle.plan_flow.specs.PlanRows.{PlanRow, any_object}
 use Rattle.plan_flow.specs.PlanScope as plan
 use Rattle.plan_flow.specs.PlanScope.{PlanScope, field_number}
-use Rattle.plan_flow.specs.PlanSlots.{changed, held, put_in, with_field}
+use Rattle.plan_flow.specs.PlanSlots.{changed, held}
 use Rattle.plan_flow.specs.PlanTable.{operand, positions}
 use Rattle.plan_flow.specs.Written.Blocks.{state_written}
-use Rattle.plan_flow.specs.Written.Templates.{narrowing, put_template, store_of_field}
+use Rattle.plan_flow.specs.Written.Templates.{narrowing, put_template}
 use Rattle.same_runs.specs.Laws.BothBegin.{counted}
 use Rattle.same_runs.specs.Laws.FieldWork.{narrowed_same}
 use Rattle.same_runs.specs.Laws.Moves.{same_kind}
@@ -53,9 +50,9 @@ use Rattle.same_runs.specs.Laws.QuietBeginnings.{standing}
 use Rattle.same_runs.specs.Simulations.{Quietly}
 use Rattle.plan_flow.specs.Written.WrittenCode.{written_code, written_op}
 use Rattle.member_link.specs.Scope.{Scope}
-use Rattle.same_runs.specs.Laws.Objects.{set_here, set_other}
+use Rattle.same_runs.specs.Laws.Objects.{set_other}
 use Rattle.same_runs.specs.Laws.Stored.{Units}
-use Rattle.same_runs.specs.Renamings.{SameValue, no_values}
+use Rattle.same_runs.specs.Renamings.{no_values}
 use Rattle.virtual_state.specs.Laws.Objects.{found_site, same_or_not}
 use Rattle.virtual_state.specs.States.{State, object_of}
 use Rattle.virtual_state.specs.declared.slot.Slot.{Slot}
@@ -63,7 +60,6 @@ use Rattle.virtual_state.specs.declared.slot.Slot.TheVariants.{Plain, Virt, Unus
 use Rattle.virtual_state.specs.declared.slot.VObject.{VObject}
 use Rattle.written_runs.specs.Inner.PlannedFrames.{KeepStack, KeptIn, blocks_in, scope_in}
 use Rattle.written_runs.specs.Inner.Setup.{Setup, first, second}
-use Rattle.written_runs.specs.Inner.Standing.{entered}
 use Rattle.written_runs.specs.Laws.Carried.Standing.{AtOwn}
 use Rattle.written_runs.specs.Laws.LessVirtual.{one_owner}
 use Rattle.written_runs.specs.Laws.MadeItems.{AreOwn}
@@ -75,8 +71,8 @@ use Rattle.written_runs.specs.Laws.Templates.ChangedTurns.{changed_turn}
 use Rattle.written_runs.specs.Laws.Templates.Fields.{fields_set}
 use Rattle.written_runs.specs.Laws.Templates.Gets.{field_is, named_in}
 use Rattle.written_runs.specs.Laws.Templates.Holding.{StoredIn, field_held, field_stored, own_held}
-use Rattle.written_runs.specs.Laws.Templates.Instrs.{InstrEdge, edge_goes_next, edge_goes_quietly, first_is, here_not_stuck, items_are, op_here, row_here, row_is, scope_here}
-use Rattle.written_runs.specs.Laws.Templates.Items.{IsStraight, OpsThere, all_moved, op_of, store_is_straight}
+use Rattle.written_runs.specs.Laws.Templates.Instrs.{InstrEdge, edge_goes_next, edge_goes_quietly, first_is, here_not_stuck, op_here, row_here, row_is, scope_here}
+use Rattle.written_runs.specs.Laws.Templates.Items.{OpsThere, all_moved, store_is_straight}
 use Rattle.written_runs.specs.Laws.Templates.Known.{TemplateLaws, entries, keeps, operand_refers, reached, split_stack, tells, two_slots, written}
 use Rattle.written_runs.specs.Laws.Templates.Monitors.{found_now, objects_now}
 use Rattle.written_runs.specs.Laws.Templates.Narrowings.{kind_narrowed, narrowing_ops, quiet_narrowing}
@@ -85,7 +81,7 @@ use Rattle.written_runs.specs.Laws.Templates.Sames.{OnePlain, one_plain}
 use Rattle.written_runs.specs.Laws.Templates.Stacks.{KeptParts, as_read, keep_read}
 use Rattle.written_runs.specs.Laws.Templates.Turns.{memories_here}
 use Rattle.written_runs.specs.Laws.Templates.Working.{no_two_operands, one_of_two, two_operands}
-use Rattle.written_runs.specs.VirtualObjects.{HasVirtual, RefersTo, TellFields, TellsField, TellsObject, Virtual, Virtuals, local_slots, tells_plain, tells_virtual}
+use Rattle.written_runs.specs.VirtualObjects.{HasVirtual, RefersTo, TellFields, TellsField, TellsObject, Virtual, local_slots, tells_plain, tells_virtual}
 
 -- a reference is no narrower than it is
 pub narrowed_reference : (type : FieldType) (reference : ℕ) → narrowed type (Ref reference) ≡ Ref reference

@@ -1,78 +1,36 @@
 -- A turn at an instruction that the second run does by quiet turns, which change its frame alone, and by moves behind them.
-use Rattle.std.proofs.Common.{◌≡◌, ◌≢◌, ◌⊎◌, ◌≤◌, ◌<◌, ◌+◌, ◌-◌, ◌*◌, ◌++◌, ℕ, suc, Bool, true, false, List, [], ◌∷◌, length, map, reverse, slice_get, Some, None, Option, IsTrue, refl, sym, ap, subst, ◌∙◌, arith, inl, inr}
+use Rattle.std.proofs.Common.{◌≡◌, ◌+◌, ◌++◌, ℕ, suc, true, List, ◌∷◌, length, map, slice_get, Some, None, refl, sym, ap, subst, ◌∙◌, arith}
 use Rattle.std.specs.List.{AllByRecursion}
-use Rattle.std.proofs.lemmas.Bool.{false≢true}
-use Rattle.std.proofs.lemmas.List.{length-reverse, reverse-append}
-use Rattle.std.proofs.lemmas.Option.{none-some, same_Some, slice_get_within}
-use Rattle.class_model.specs.declared.instr.Instr.{Instr}
-use Rattle.flow_code.specs.FlatCode.{FlatCode}
-use Rattle.flow_code.specs.ReadTypes.{read_type}
-use Rattle.flow_code.specs.WrittenUnits.{written_units}
-use Rattle.flow_code.specs.declared.point.FlatInstr.TheVariants.{Of}
 use Rattle.flow_code.specs.declared.point.Point.{Point}
 use Rattle.machine_values.specs.Frames.{MethodState}
-use Rattle.machine_values.specs.declared.frame.RunFrame.{RunFrame}
 use Rattle.machine_values.specs.declared.frame.RunFrame.TheVariants.{Method}
-use Rattle.machine_values.specs.declared.object.Shape.TheVariants.{Folder}
-use Rattle.machine_values.specs.declared.value.Value.{Value}
 use Rattle.making_code.specs.Items.{WInstr, item}
-use Rattle.making_code.specs.Units.{field_unit, unit_number}
-use Rattle.member_link.specs.Machine.Programs.{Code, code_at}
-use Rattle.member_link.specs.Machine.Runs.{Run, turn}
-use Rattle.member_link.specs.Machine.Stepping.{op_step}
-use Rattle.member_link.specs.Machine.Worlds.{Memory, World, going, is_begun}
-use Rattle.plan_flow.specs.Effect.{IsEffect, IsEffectIn, IsStateBehind}
+use Rattle.member_link.specs.Machine.Programs.{code_at}
+use Rattle.member_link.specs.Machine.Runs.{Run}
 use Rattle.plan_flow.specs.Laws.WrittenBlocks.{first_item, own_number}
 use Rattle.plan_flow.specs.Must.{row_of_point}
 use Rattle.plan_flow.specs.PlanRows.{RowEdge, Source}
 use Rattle.plan_flow.specs.PlanSlots.{is_open}
 use Rattle.plan_flow.specs.PlanTable.{falls_on}
-use Rattle.plan_flow.specs.Plans.{state_left}
-use Rattle.plan_flow.specs.Written.Blocks.{Block, leaves_to, state_written}
-use Rattle.plan_flow.specs.Written.Routes.{AreEdgeRoutes, RouteEdge, edge_by}
+use Rattle.plan_flow.specs.Written.Blocks.{leaves_to, state_written}
+use Rattle.plan_flow.specs.Written.Routes.{RouteEdge, edge_by}
 use Rattle.plan_flow.specs.Written.Templates.{items_at}
 use Rattle.plan_flow.specs.Written.WrittenCode.{written_code}
-use Rattle.plan_flow.specs.Written.WrittenPrograms.{WrittenMethod}
-use Rattle.plan_flow.specs.declared.edge.EdgeKind.{EdgeKind}
 use Rattle.plan_flow.specs.declared.edge.EdgeKind.TheVariants as edges
-use Rattle.same_runs.specs.Laws.AloneTurn.{unbegun_in}
-use Rattle.same_runs.specs.Laws.BothBegin.{counted}
-use Rattle.same_runs.specs.Laws.Compared.{seen_as}
-use Rattle.same_runs.specs.Laws.Names.{names_themselves}
-use Rattle.same_runs.specs.Laws.Objects.{get_before, get_new, get_old}
 use Rattle.same_runs.specs.Laws.QuietBeginnings.{standing}
-use Rattle.same_runs.specs.QuietMoves.{moves}
-use Rattle.same_runs.specs.Renamings.{Names, SameHeld}
-use Rattle.same_runs.specs.SameMemories.{SameMemories}
-use Rattle.same_runs.specs.SameWorlds.{SameSeen}
-use Rattle.typed_runs.specs.TypedWorlds.{TypedWorld}
-use Rattle.virtual_state.specs.Laws.Objects.{same_or_not}
-use Rattle.virtual_state.specs.Sites.{has}
-use Rattle.virtual_state.specs.States.{IsState, State, is_present}
-use Rattle.virtual_state.specs.Without.{without}
-use Rattle.written_runs.specs.Inner.PlannedFrames.{IsBlock, IsTold, KeepStack, Keeps, Known, arrives, blocks_in, scope_in}
-use Rattle.written_runs.specs.Inner.Setup.{Setup, first, second}
-use Rattle.written_runs.specs.Inner.Standing.{Stands, apart, comparison, is_awaited, planned_stand}
-use Rattle.written_runs.specs.Inner.Together.{Along, AreKnown, AreOwned, points_left, weight}
+use Rattle.written_runs.specs.Inner.PlannedFrames.{blocks_in, scope_in}
+use Rattle.written_runs.specs.Inner.Setup.{Setup, second}
 use Rattle.written_runs.specs.Laws.Carried.OpenEdges.{IsOfRow, next_edge}
-use Rattle.written_runs.specs.Laws.Carried.Standing.{AtOwn, at_own}
-use Rattle.written_runs.specs.Laws.FewerVirtuals.{AreFewer, fewer_are_apart, memories_fewer}
-use Rattle.written_runs.specs.Laws.Halfway.{Halfway}
-use Rattle.written_runs.specs.Laws.LessVirtual.{was_in}
+use Rattle.written_runs.specs.Laws.Carried.Standing.{AtOwn}
 use Rattle.written_runs.specs.Laws.MadeItems.{AreOwn}
 use Rattle.written_runs.specs.Laws.PlannedTurns.{AtPlanned}
 use Rattle.written_runs.specs.Laws.Simulation.{KeepsTurn}
-use Rattle.written_runs.specs.Laws.StandingMore.{KnowsMore, SameBelow, stands_more}
-use Rattle.written_runs.specs.Laws.StillThere.{ShapesStay, known_still}
-use Rattle.written_runs.specs.Laws.Templates.Arriving.{ArrivesAt, arrives_next, target_point}
-use Rattle.written_runs.specs.Laws.Templates.Dropped.{is_kept, keeps_kept, kept_in, own_kept, same_below_kept, tells_kept}
-use Rattle.written_runs.specs.Laws.Templates.Edges.{keeps_over, tells_over}
-use Rattle.written_runs.specs.Laws.Templates.Items.{IsStraight, OwnMoves, all_moved, op_of, own_items}
-use Rattle.written_runs.specs.Laws.Templates.Known.{TemplateLaws, before, first_op, many_mapped, of_plan, point, reached, ready, s, stands, turn_is, typed_then, values_many, w, written}
-use Rattle.written_runs.specs.Laws.Templates.Moving.{MovesOver, goes_over}
-use Rattle.written_runs.specs.Laws.Turned.{BehindMoves, turns_by_moves}
-use Rattle.written_runs.specs.VirtualObjects.{AreApart, Tells, Virtual, Virtuals, stack_slots}
-use Rattle.same_runs.specs.Laws.QuietBeginnings.{quietly_then, standing}
+use Rattle.written_runs.specs.Laws.Templates.Arriving.{ArrivesAt, arrives_next}
+use Rattle.written_runs.specs.Laws.Templates.Items.{IsStraight, OwnMoves, all_moved, op_of}
+use Rattle.written_runs.specs.Laws.Templates.Known.{TemplateLaws, of_plan, reached}
+use Rattle.written_runs.specs.Laws.Templates.Moving.{MovesOver}
+use Rattle.written_runs.specs.Laws.Turned.{turns_by_moves}
+use Rattle.same_runs.specs.Laws.QuietBeginnings.{standing}
 use Rattle.same_runs.specs.Laws.QuietCalls.{quiet_keeps}
 use Rattle.same_runs.specs.Simulations.{Quietly}
 use Rattle.written_runs.specs.Inner.Setup.{second}

@@ -1,28 +1,26 @@
 -- Comparisons of references that a virtual object decides.
-use Rattle.std.proofs.Common.{◌≡◌, ◌≢◌, ◌==◌, ◌&&◌, ◌||◌, ◌+◌, ◌++◌, nat_le, ℕ, zero, suc, not, Bool, true, false, List, [], ◌∷◌, drop, length, map, reverse, slice_get, take, Some, None, Option, option_map, if◌then◌else◌, IsTrue, refl, sym, ap, subst, ◌∙◌, arith}
+use Rattle.std.proofs.Common.{◌≡◌, ◌≢◌, ◌==◌, ◌&&◌, ◌||◌, ◌+◌, ◌++◌, nat_le, ℕ, not, Bool, true, false, List, [], ◌∷◌, drop, length, map, reverse, slice_get, take, Some, None, Option, option_map, if◌then◌else◌, refl, sym, ap, subst, ◌∙◌}
 use Rattle.std.specs.List.{AllByRecursion}
 use Rattle.std.proofs.lemmas.Bool.{eq-eqb, eqb-true, false≢true, ne_eqb}
-use Rattle.std.proofs.lemmas.List.{append-nil, length-reverse, reverse-append, reverse-reverse}
-use Rattle.std.proofs.lemmas.Option.{none-some, same_Some}
+use Rattle.std.proofs.lemmas.List.{append-nil, reverse-append, reverse-reverse}
+use Rattle.std.proofs.lemmas.Option.{none-some}
 use Rattle.class_model.specs.declared.instr.Instr.TheVariants.{IfSame, Shuffle}
 use Rattle.class_model.specs.declared.opcodes.TheConstants.{IF_ACMPEQ, IF_ACMPNE, POP}
 use Rattle.flow_code.specs.declared.point.FlatInstr.TheVariants.{Of}
-use Rattle.flow_code.specs.declared.point.Point.{Point}
 use Rattle.machine_values.specs.Frames.{MethodState}
 use Rattle.machine_values.specs.declared.value.Value.{Value}
-use Rattle.machine_values.specs.declared.value.Value.TheVariants.{Int, Long, Float, Double, Null, Ref}
+use Rattle.machine_values.specs.declared.value.Value.TheVariants.{Ref}
 use Rattle.making_code.specs.Items.{WInstr, plain}
 use Rattle.member_link.specs.Machine.Locals.{Jump, jump_of_references, same_references, shuffled, with_rest}
 use Rattle.member_link.specs.Machine.Ops.{Op, jump_by_references, meaningless, shuffle_stack}
 use Rattle.member_link.specs.Machine.Runs.{Run}
 use Rattle.member_link.specs.Machine.Stepping.{jump_step, next_with, op_step, with_top}
 use Rattle.plan_flow.specs.PlanRows.{Guard, PlanRow, where_may_be_same, where_may_differ}
-use Rattle.plan_flow.specs.PlanScope.{PlanScope}
 use Rattle.plan_flow.specs.PlanSlots.{held, is_open, may_be_same, may_differ, readable}
 use Rattle.plan_flow.specs.PlanTable.{moving, operand}
 use Rattle.plan_flow.specs.Written.Blocks.{is_decided, leaves_to, state_written}
 use Rattle.plan_flow.specs.Written.Routes.{edge_by}
-use Rattle.plan_flow.specs.Written.Templates.{is_virtual, made_on_jump, pop_if_plain, same_template}
+use Rattle.plan_flow.specs.Written.Templates.{is_virtual, made_on_jump, pop_if_plain}
 use Rattle.plan_flow.specs.declared.edge.EdgeKind.TheVariants as edges
 use Rattle.same_runs.specs.Laws.BothBegin.{counted}
 use Rattle.same_runs.specs.Renamings.{Names, SameValue, no_values, same_double, same_float, same_int, same_long, same_null, same_reference}

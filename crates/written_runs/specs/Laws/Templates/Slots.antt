@@ -1,5 +1,5 @@
 -- The slots of a state behind an edge: where each comes from.
-use Rattle.std.proofs.Common.{◌≡◌, ◌++◌, ◌+◌, ◌<◌, ℕ, zero, suc, Bool, true, false, List, [], ◌∷◌, drop, length, map, slice_get, take, Some, None, Option, if◌then◌else◌, refl, sym, ap, subst, ◌∙◌, arith}
+use Rattle.std.proofs.Common.{◌≡◌, ◌++◌, ℕ, zero, suc, Bool, true, false, List, [], ◌∷◌, drop, length, slice_get, take, Some, None, refl, sym, ap, ◌∙◌, arith}
 use Rattle.std.proofs.lemmas.Option.{none-some, same_Some}
 use Rattle.class_model.specs.Frames.{is_top}
 use Rattle.class_model.specs.declared.frame.VType.{VType}
@@ -10,9 +10,7 @@ use Rattle.plan_flow.specs.Must.{row_of_point}
 use Rattle.plan_flow.specs.PlanRows.{PlanRow, RowEdge}
 use Rattle.plan_flow.specs.PlanScope.{PlanScope, local_types, stack_types}
 use Rattle.plan_flow.specs.PlanSlots.{edge_locals, edge_objects, edge_stack, fit_locals, fit_stack, slots_from}
-use Rattle.plan_flow.specs.PlanSlots as behind
-use Rattle.virtual_state.specs.Laws.Objects.{found_present}
-use Rattle.virtual_state.specs.States.{State, is_present, object_of}
+use Rattle.virtual_state.specs.States.{State, object_of}
 use Rattle.virtual_state.specs.declared.slot.Slot.{Slot}
 use Rattle.virtual_state.specs.declared.slot.Slot.TheVariants.{Plain, Virt, Unusable}
 use Rattle.virtual_state.specs.declared.slot.VObject.{VObject}

@@ -1,12 +1,12 @@
 -- The stack of written code has the plain entries of that of flat code: part by part, and as rows of plans say what it has behind an instruction.
-use Rattle.std.proofs.Common.{◌≡◌, ◌⊎◌, ◌≤◌, ◌<◌, ◌+◌, ◌++◌, ℕ, zero, suc, inl, inr, List, [], ◌∷◌, drop, length, map, slice_get, take, Some, None, Option, refl, sym, ap, subst, ◌∙◌, arith}
+use Rattle.std.proofs.Common.{◌≡◌, ◌⊎◌, ◌≤◌, ◌<◌, ◌+◌, ◌++◌, ℕ, zero, suc, inl, inr, List, [], ◌∷◌, drop, length, map, slice_get, take, Some, Option, refl, sym, ap, ◌∙◌, arith}
 use Rattle.std.proofs.lemmas.Option.{none-some, same_Some}
 use Rattle.machine_values.specs.declared.value.Value.{Value}
-use Rattle.plan_flow.specs.PlanRows.{Change, Source, from_place}
+use Rattle.plan_flow.specs.PlanRows.{Change, from_place}
 use Rattle.plan_flow.specs.PlanScope.{PlanScope}
-use Rattle.plan_flow.specs.PlanSlots.{held, readable, slots_from}
+use Rattle.plan_flow.specs.PlanSlots.{readable, slots_from}
 use Rattle.plan_flow.specs.PlanTable.{held_from}
-use Rattle.same_runs.specs.Renamings.{Names, SameValues, no_values}
+use Rattle.same_runs.specs.Renamings.{Names, no_values}
 use Rattle.virtual_state.specs.States.{State}
 use Rattle.virtual_state.specs.declared.slot.Slot.{Slot}
 use Rattle.virtual_state.specs.declared.slot.Slot.TheVariants.{Plain, Virt, Unusable}

@@ -1,39 +1,26 @@
 -- Instructions beside which virtual objects stay as they are, and control goes on to the next point.
-use Rattle.std.proofs.Common.{◌≡◌, ◌≤◌, ◌<◌, ◌+◌, ◌-◌, ◌++◌, ℕ, Bool, true, false, List, [], ◌∷◌, drop, length, map, reverse, slice_get, take, Some, None, Option, IsTrue, refl, sym, ap, subst, ◌∙◌, arith}
+use Rattle.std.proofs.Common.{◌≡◌, ◌≤◌, ◌-◌, ◌++◌, ℕ, true, List, length, map, reverse, slice_get, take, Some, None, Option, IsTrue, refl, sym, ap, subst, ◌∙◌}
 use Rattle.std.specs.List.{AllByRecursion}
-use Rattle.std.proofs.lemmas.Option.{none-some, same_Some}
 use Rattle.class_model.specs.declared.instr.Instr.{Instr}
 use Rattle.class_model.specs.declared.frame.VType.{VType}
 use Rattle.flow_code.specs.ReadTypes.{is_site_object}
 use Rattle.flow_code.specs.WrittenUnits.{written_units}
 use Rattle.flow_code.specs.declared.point.FlatInstr.TheVariants.{Of}
-use Rattle.flow_code.specs.declared.point.Point.{Point}
 use Rattle.machine_values.specs.Frames.{MethodState}
-use Rattle.machine_values.specs.declared.frame.RunFrame.TheVariants.{Method}
 use Rattle.machine_values.specs.declared.value.Value.{Value}
 use Rattle.machine_values.specs.declared.value.Value.TheVariants.{Ref}
 use Rattle.making_code.specs.Items.{WInstr}
 use Rattle.making_code.specs.Units.{field_unit, unit_number}
 use Rattle.member_link.specs.Bodies.{falls_through}
-use Rattle.member_link.specs.Machine.Codes.{instr_op, item_op}
-use Rattle.member_link.specs.Machine.Ops.{Op}
 use Rattle.member_link.specs.Machine.Runs.{Run}
 use Rattle.member_link.specs.Machine.Stepping.{next_with, op_step, with_top}
-use Rattle.member_link.specs.Machine.Worlds.{World, stuck}
-use Rattle.member_link.specs.RowScope.{RowScope}
-use Rattle.plan_flow.specs.Must.{row_of_point}
-use Rattle.plan_flow.specs.PlanRows.{Change, PlanRow, Source, no_change}
-use Rattle.plan_flow.specs.PlanScope.{PlanScope}
+use Rattle.plan_flow.specs.PlanRows.{Change, Source, no_change}
 use Rattle.plan_flow.specs.PlanSlots.{changed, is_open, slots_from}
-use Rattle.plan_flow.specs.PlanTable.{edges_of, falls_on, held_from, held_locals, instr_row, jump_edges, next_edges, row_at, targets_at, thrown_edges}
+use Rattle.plan_flow.specs.PlanTable.{held_from, held_locals}
 use Rattle.plan_flow.specs.ReadyForPlans.{KeepsType, place_types}
 use Rattle.plan_flow.specs.Written.Blocks.{leaves_to, state_written}
-use Rattle.plan_flow.specs.Written.Templates.{items_at}
-use Rattle.plan_flow.specs.declared.edge.EdgeKind.TheVariants as edges
-use Rattle.same_runs.specs.Flats.{flat_item, host_scope, instr_scope}
 use Rattle.same_runs.specs.Laws.BothBegin.{counted}
 use Rattle.virtual_state.specs.States.{object_of}
-use Rattle.virtual_state.specs.declared.slot.Slot.{Slot}
 use Rattle.virtual_state.specs.declared.slot.Slot.TheVariants.{Virt}
 use Rattle.virtual_state.specs.declared.slot.VObject.{VObject}
 use Rattle.written_runs.specs.Inner.PlannedFrames.{KeepStack, scope_in}
@@ -44,7 +31,7 @@ use Rattle.written_runs.specs.Laws.PlannedTurns.{AtPlanned, written_at}
 use Rattle.written_runs.specs.Laws.Simulation.{KeepsTurn}
 use Rattle.written_runs.specs.Laws.Templates.Instrs.{first_is, instr_goes_next, items_are, op_here, row_here}
 use Rattle.written_runs.specs.Laws.Templates.Items.{IsStraight, all_moved, op_of}
-use Rattle.written_runs.specs.Laws.Templates.Known.{TemplateLaws, entries, first_op, flat_number, keeps, many_stack, many_both, not_stuck, reached, ready, tells}
+use Rattle.written_runs.specs.Laws.Templates.Known.{TemplateLaws, entries, keeps, reached, tells}
 use Rattle.written_runs.specs.Laws.Templates.Turns.{still_turn}
 use Rattle.written_runs.specs.VirtualObjects.{RefersTo}
 

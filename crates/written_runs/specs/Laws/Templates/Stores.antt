@@ -1,5 +1,5 @@
 -- A store of a virtual object into a local: nothing is written.
-use Rattle.std.proofs.Common.{◌≡◌, ◌≢◌, ◌⊎◌, ◌≤◌, ◌<◌, ◌+◌, ◌-◌, ◌++◌, ℕ, zero, suc, Bool, true, false, List, [], ◌∷◌, length, map, slice_get, slice_set, take, Some, None, Option, option_map, if◌then◌else◌, IsTrue, refl, sym, ap, subst, ◌∙◌, arith, inl, inr}
+use Rattle.std.proofs.Common.{◌≡◌, ◌≢◌, ◌⊎◌, ◌<◌, ◌+◌, ◌++◌, ℕ, zero, suc, Bool, true, false, List, [], ◌∷◌, length, map, slice_get, slice_set, take, Some, None, Option, option_map, IsTrue, refl, sym, ap, subst, ◌∙◌, arith, inl, inr}
 use Rattle.std.proofs.lemmas.Bool.{false≢true}
 use Rattle.std.proofs.lemmas.Option.{none-some, same_Some, slice_get-map, slice_get_within}
 use Rattle.class_model.specs.Frames.{is_top}
@@ -17,10 +17,9 @@ use Rattle.making_code.specs.Items.{WInstr}
 use Rattle.member_link.specs.Machine.Locals.{stored, width_of}
 use Rattle.member_link.specs.Machine.Ops.{store_local}
 use Rattle.member_link.specs.Machine.Runs.{Run}
-use Rattle.member_link.specs.Machine.Stepping.{ends_stuck, next_with, op_step, store_step, store_units, with_top}
-use Rattle.member_link.specs.Machine.Worlds.{World, stuck}
+use Rattle.member_link.specs.Machine.Stepping.{next_with, op_step, store_step, with_top}
 use Rattle.plan_flow.specs.Must.{row_of_point}
-use Rattle.plan_flow.specs.PlanRows.{PlanRow, RowEdge, Source, from_place, no_change}
+use Rattle.plan_flow.specs.PlanRows.{PlanRow, RowEdge, Source, from_place}
 use Rattle.plan_flow.specs.PlanSlots.{edge_objects, held, is_open, slot_from}
 use Rattle.plan_flow.specs.PlanTable.{edges_of, falls_on, held_from, held_locals, operand}
 use Rattle.plan_flow.specs.ReadyForPlans.{KeepsType, from_its_new, from_its_type, place_types}
@@ -41,12 +40,12 @@ use Rattle.written_runs.specs.Inner.Setup.{Setup, first}
 use Rattle.written_runs.specs.Laws.PlannedTurns.{AtPlanned, written_at}
 use Rattle.written_runs.specs.Laws.Simulation.{KeepsTurn}
 use Rattle.written_runs.specs.Laws.Templates.Edges.{locals_from}
-use Rattle.written_runs.specs.Laws.Templates.Instrs.{first_is, here_not_stuck, items_are, next_edge_there, op_here, row_here, row_is}
-use Rattle.written_runs.specs.Laws.Templates.Known.{TemplateLaws, before, keeps, many_locals, many_mapped, many_slots, many_stack, operand_refers, reached, tells, top_unit, written}
-use Rattle.written_runs.specs.Laws.Templates.Moving.{LocalsOver, MovesOver, along, many_next, next_locals}
+use Rattle.written_runs.specs.Laws.Templates.Instrs.{first_is, here_not_stuck, items_are, next_edge_there, row_here, row_is}
+use Rattle.written_runs.specs.Laws.Templates.Known.{TemplateLaws, keeps, many_locals, many_mapped, many_slots, many_stack, operand_refers, reached, tells, top_unit, written}
+use Rattle.written_runs.specs.Laws.Templates.Moving.{LocalsOver, along, many_next, next_locals}
 use Rattle.written_runs.specs.Laws.Templates.Operands.{virtual_gone}
 use Rattle.written_runs.specs.Laws.Templates.Stacks.{IsReadPlain, as_read, get_left, held_at, held_length, held_slots, is_plain_there, is_unusable_there, read_plain, read_virtual, split_place}
-use Rattle.written_runs.specs.Laws.Templates.Turns.{FirstTurn, goes_next, still_turn}
+use Rattle.written_runs.specs.Laws.Templates.Turns.{goes_next, still_turn}
 use Rattle.written_runs.specs.VirtualObjects.{RefersTo}
 
 module _ (u : Setup) (laws : TemplateLaws u) {measure : ℕ} {one other : Run} (a : AtPlanned u measure one other) (class : ℕ) (kind : Kind)

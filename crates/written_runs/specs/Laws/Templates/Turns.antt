@@ -1,28 +1,24 @@
 -- A turn of the first run at a planned frame whose instruction has a template, put together: the first frame goes on to the next point, virtual objects
 -- change or are dropped, and the second frame makes its moves and pushes.
-use Rattle.std.proofs.Common.{◌≡◌, ◌≢◌, ◌⊎◌, ◌≤◌, ◌<◌, ◌+◌, ◌-◌, ◌*◌, ◌++◌, ℕ, suc, Bool, true, false, List, [], ◌∷◌, length, map, reverse, slice_get, Some, None, Option, IsTrue, refl, sym, ap, subst, ◌∙◌, arith, inl, inr}
+use Rattle.std.proofs.Common.{◌≡◌, ◌≢◌, ◌⊎◌, ◌≤◌, ◌<◌, ◌+◌, ◌-◌, ◌++◌, ℕ, suc, Bool, true, List, [], ◌∷◌, length, map, reverse, slice_get, Some, None, Option, IsTrue, refl, sym, ap, subst, ◌∙◌, arith, inl, inr}
 use Rattle.std.specs.List.{AllByRecursion}
 use Rattle.std.proofs.lemmas.Bool.{false≢true}
 use Rattle.std.proofs.lemmas.List.{length-reverse, reverse-append}
-use Rattle.std.proofs.lemmas.Option.{none-some, same_Some, slice_get_within}
-use Rattle.class_model.specs.declared.instr.Instr.{Instr}
+use Rattle.std.proofs.lemmas.Option.{same_Some, slice_get_within}
 use Rattle.flow_code.specs.FlatCode.{FlatCode}
 use Rattle.flow_code.specs.ReadTypes.{read_type}
 use Rattle.flow_code.specs.WrittenUnits.{written_units}
-use Rattle.flow_code.specs.declared.point.FlatInstr.TheVariants.{Of}
 use Rattle.flow_code.specs.declared.point.Point.{Point}
 use Rattle.machine_values.specs.Frames.{MethodState}
 use Rattle.machine_values.specs.declared.frame.RunFrame.{RunFrame}
 use Rattle.machine_values.specs.declared.frame.RunFrame.TheVariants.{Method}
-use Rattle.machine_values.specs.declared.object.Shape.TheVariants.{Folder}
 use Rattle.machine_values.specs.declared.value.Value.{Value}
 use Rattle.making_code.specs.Items.{WInstr, item}
 use Rattle.making_code.specs.Units.{field_unit, unit_number}
-use Rattle.member_link.specs.Machine.Programs.{Code, code_at}
 use Rattle.member_link.specs.Machine.Runs.{Run, turn}
 use Rattle.member_link.specs.Machine.Stepping.{op_step}
-use Rattle.member_link.specs.Machine.Worlds.{Memory, World, going, is_begun}
-use Rattle.plan_flow.specs.Effect.{IsEffect, IsEffectIn, IsStateBehind}
+use Rattle.member_link.specs.Machine.Worlds.{Memory, World}
+use Rattle.plan_flow.specs.Effect.{IsEffect, IsEffectIn}
 use Rattle.plan_flow.specs.Laws.WrittenBlocks.{first_item, own_number}
 use Rattle.plan_flow.specs.Must.{row_of_point}
 use Rattle.plan_flow.specs.PlanRows.{RowEdge, Source}
@@ -30,11 +26,10 @@ use Rattle.plan_flow.specs.PlanSlots.{is_open}
 use Rattle.plan_flow.specs.PlanTable.{falls_on}
 use Rattle.plan_flow.specs.Plans.{state_left}
 use Rattle.plan_flow.specs.Written.Blocks.{Block, leaves_to, state_written}
-use Rattle.plan_flow.specs.Written.Routes.{AreEdgeRoutes, RouteEdge, edge_by}
+use Rattle.plan_flow.specs.Written.Routes.{RouteEdge, edge_by}
 use Rattle.plan_flow.specs.Written.Templates.{items_at}
 use Rattle.plan_flow.specs.Written.WrittenCode.{written_code}
 use Rattle.plan_flow.specs.Written.WrittenPrograms.{WrittenMethod}
-use Rattle.plan_flow.specs.declared.edge.EdgeKind.{EdgeKind}
 use Rattle.plan_flow.specs.declared.edge.EdgeKind.TheVariants as edges
 use Rattle.same_runs.specs.Laws.AloneTurn.{unbegun_in}
 use Rattle.same_runs.specs.Laws.BothBegin.{counted}
@@ -42,7 +37,6 @@ use Rattle.same_runs.specs.Laws.Compared.{seen_as}
 use Rattle.same_runs.specs.Laws.Names.{names_themselves}
 use Rattle.same_runs.specs.Laws.Objects.{get_before, get_new, get_old}
 use Rattle.same_runs.specs.Laws.QuietBeginnings.{standing}
-use Rattle.same_runs.specs.QuietMoves.{moves}
 use Rattle.same_runs.specs.Renamings.{Names, SameHeld}
 use Rattle.same_runs.specs.SameMemories.{SameMemories}
 use Rattle.same_runs.specs.SameWorlds.{SameSeen}
@@ -52,9 +46,9 @@ use Rattle.virtual_state.specs.Sites.{has}
 use Rattle.virtual_state.specs.States.{IsState, State, is_present}
 use Rattle.virtual_state.specs.Without.{without}
 use Rattle.written_runs.specs.Inner.PlannedFrames.{IsBlock, IsTold, KeepStack, Keeps, Known, arrives, blocks_in, scope_in}
-use Rattle.written_runs.specs.Inner.Setup.{Setup, first, second}
+use Rattle.written_runs.specs.Inner.Setup.{Setup, first}
 use Rattle.written_runs.specs.Inner.Standing.{Stands, apart, comparison, is_awaited, planned_stand}
-use Rattle.written_runs.specs.Inner.Together.{Along, AreKnown, AreOwned, points_left, weight}
+use Rattle.written_runs.specs.Inner.Together.{Along, AreKnown, AreOwned, weight}
 use Rattle.written_runs.specs.Laws.Carried.OpenEdges.{IsOfRow, next_edge}
 use Rattle.written_runs.specs.Laws.Carried.Standing.{AtOwn, at_own}
 use Rattle.written_runs.specs.Laws.FewerVirtuals.{AreFewer, fewer_are_apart, memories_fewer}
@@ -69,9 +63,9 @@ use Rattle.written_runs.specs.Laws.Templates.Arriving.{ArrivesAt, arrives_next, 
 use Rattle.written_runs.specs.Laws.Templates.Dropped.{is_kept, keeps_kept, kept_in, own_kept, same_below_kept, tells_kept}
 use Rattle.written_runs.specs.Laws.Templates.Edges.{keeps_over, tells_over}
 use Rattle.written_runs.specs.Laws.Templates.Items.{IsStraight, OwnMoves, all_moved, op_of, own_items}
-use Rattle.written_runs.specs.Laws.Templates.Known.{TemplateLaws, before, first_op, many_mapped, of_plan, point, reached, ready, s, stands, turn_is, typed_then, values_many, w, written}
+use Rattle.written_runs.specs.Laws.Templates.Known.{TemplateLaws, before, first_op, many_mapped, of_plan, point, reached, s, turn_is, typed_then, values_many, w, written}
 use Rattle.written_runs.specs.Laws.Templates.Moving.{MovesOver, goes_over}
-use Rattle.written_runs.specs.Laws.Turned.{BehindMoves, turns_by_moves}
+use Rattle.written_runs.specs.Laws.Turned.{turns_by_moves}
 use Rattle.written_runs.specs.VirtualObjects.{AreApart, Tells, Virtual, Virtuals, stack_slots}
 
 -- ---- frames that own virtual objects

@@ -1,5 +1,5 @@
 -- An operation on operands whose operands are known, as the step of the first run.
-use Rattle.std.proofs.Common.{◌≡◌, ◌+◌, ℕ, Bool, true, List, [], ◌∷◌, length, refl, sym, ap, ◌∙◌, arith}
+use Rattle.std.proofs.Common.{◌≡◌, List, [], ◌∷◌, length, refl, arith}
 use Rattle.std.proofs.lemmas.Bool.{le-leb}
 use Rattle.machine_values.specs.Frames.{MethodState}
 use Rattle.machine_values.specs.declared.frame.RunFrame.{RunFrame}
