@@ -8,6 +8,7 @@ pub mod EdgeBlocks
 pub mod FieldFits
 pub mod IncrementTurns
 pub mod InitFits
+pub mod InitTyped
 pub mod JumpEdges
 pub mod JumpFamilies
 pub mod JumpInstrs

@@ -67,16 +67,3 @@ pub record CarriedLaws (u : Setup) : Type 0 where
       → member_of (scope_in u w) class index ≡ Some r
       → is_object_init r ≡ true
       → (opcode ≡ INVOKESPECIAL) × (parameters_of r.desc ≡ [])
-  -- of an object that is there: its type is uninitialised
-  pub init_refers : (world : World) (f : MethodState) (rest : List RunFrame) (w : WrittenMethod) (point : Point) (class opcode index count : ℕ)
-      (r : Reference) (value : Value)
-      → TypedWorld (first u) u.typings world
-      → world.frames ≡ Method f ∷ rest
-      → u.written f.at ≡ Some w
-      → slice_get w.flat.points f.place ≡ Some point
-      → point.instr ≡ Of class (Invoke opcode index count)
-      → member_of (scope_in u w) class index ≡ Some r
-      → is_object_init r ≡ true
-      → is_site_object w.flat (receiver point.typed r.desc) ≡ false
-      → slice_get f.stack 0 ≡ Some value
-      → (reference : ℕ) × (value ≡ Ref reference)
