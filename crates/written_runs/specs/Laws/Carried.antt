@@ -1,6 +1,7 @@
 -- Turns at a planned frame whose instruction is written as it is.
 pub mod Arriving
 pub mod Awaited
+pub mod AwaitedCalls
 pub mod Behind
 pub mod CarriedOps
 pub mod CastFits
