@@ -1,5 +1,5 @@
 -- The object for which java/lang/Object's constructor is called is there, since its type is uninitialised.
-use Rattle.std.proofs.Common.{◌≡◌, ◌≤◌, ◌<◌, ◌+◌, ◌-◌, ◌++◌, ◌&&◌, ℕ, suc, Bool, true, false, List, [], ◌∷◌, bytes_eq, drop, length, map, reverse, slice_get, Option, Some, None, refl, sym, ap, subst, ◌∙◌, arith}
+use Rattle.std.proofs.Common.{◌≡◌, ◌-◌, ◌&&◌, ℕ, suc, Bool, true, false, List, [], ◌∷◌, bytes_eq, drop, length, reverse, slice_get, Option, Some, None, refl, sym, ap, subst, ◌∙◌, arith}
 use Rattle.std.proofs.lemmas.Bool.{false≢true}
 use Rattle.std.proofs.lemmas.List.{length-reverse}
 use Rattle.std.proofs.lemmas.Option.{none-some, same_Some}
@@ -31,7 +31,7 @@ use Rattle.same_runs.specs.Flats.{instr_scope, pool_of}
 use Rattle.same_runs.specs.TypedFlats.{reading_of_call}
 use Rattle.typed_runs.specs.Conforming.{AllConform, Conforms, a_double, a_float, a_long, an_int, an_object, and_value, no_values, null_object, of_new, of_this, only_null, to_top}
 use Rattle.written_runs.specs.Inner.PlannedFrames.{scope_in}
-use Rattle.written_runs.specs.Inner.Setup.{Setup, first}
+use Rattle.written_runs.specs.Inner.Setup.{Setup}
 use Rattle.written_runs.specs.Laws.Carried.CarriedOps.{ready_there, typed_row}
 use Rattle.written_runs.specs.Laws.Carried.Knowing.{CarriedLaws}
 use Rattle.written_runs.specs.Laws.Carried.Planned.{knowing_here}
@@ -114,7 +114,9 @@ module _ (u : Setup) (laws : CarriedLaws u) {measure : ℕ} {one other : Run} (a
   frame = read_frame a.in_planned.one.flat a.settled.point.typed
 
   abbrev scope : RowScope
-  scope = instr_scope u.classes (ready_there u laws a class (Invoke opcode index count) is none).scope a.in_planned.one.flat (Of class (Invoke opcode index count))
+  scope =
+      instr_scope u.classes (ready_there u laws a class (Invoke opcode index count) is none).scope a.in_planned.one.flat
+      (Of class (Invoke opcode index count))
 
   pub init_refers_there : (r : Reference)
       → member_of s class index ≡ Some r
@@ -139,6 +141,8 @@ module _ (u : Setup) (laws : CarriedLaws u) {measure : ℕ} {one other : Run} (a
 
         fits : AllFit scope (uninitialised ∷ []) (drop (length frame.stack - 1) frame.stack)
         fits =
-            subst (λ (needs : List Need). AllFit scope needs (topmost (length needs) frame.stack)) (takes_init a.in_planned.one.flat a.settled.point.typed frame scope opcode
-            (reference_of (pool_of u.classes class) (constant_at (pool_of u.classes class) index)) r found special init_is not_site no_parameters)
+            subst (λ (needs : List Need). AllFit scope needs (topmost (length needs) frame.stack))
+            (takes_init a.in_planned.one.flat a.settled.point.typed frame scope opcode
+            (reference_of (pool_of u.classes class) (constant_at (pool_of u.classes class) index)) r found special init_is not_site
+            no_parameters)
             (typed_row u laws a class (Invoke opcode index count) is none).operands
