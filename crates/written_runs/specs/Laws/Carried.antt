@@ -1,6 +1,7 @@
 -- Turns at a planned frame whose instruction is written as it is.
 pub mod Arriving
 pub mod Awaited
+pub mod AwaitedCalls
 pub mod Behind
 pub mod CarriedOps
 pub mod CastFits
@@ -8,6 +9,7 @@ pub mod EdgeBlocks
 pub mod FieldFits
 pub mod IncrementTurns
 pub mod InitFits
+pub mod InitTyped
 pub mod JumpEdges
 pub mod JumpFamilies
 pub mod JumpInstrs

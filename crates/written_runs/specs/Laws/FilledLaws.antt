@@ -59,7 +59,7 @@ use Rattle.written_runs.specs.Laws.SameBoth.{begin_alike}
 use Rattle.written_runs.specs.Laws.Settling.{SettleLaws}
 use Rattle.written_runs.specs.Laws.Simulation.{Parts, runs_the_same}
 use Rattle.written_runs.specs.Laws.Templates.Known.{TemplateLaws}
-use Rattle.written_runs.specs.Laws.TypedEntries.{HasRoomForWide, typed_frame, types_entries}
+use Rattle.written_runs.specs.Laws.TypedEntries.{typed_frame, types_entries}
 use Rattle.written_runs.specs.Laws.WaitingFrames.{waits_alike}
 use Rattle.written_runs.specs.Laws.WrittenCodes.{flat_code_at}
 
@@ -76,7 +76,6 @@ pub record RunLaws : Type 0 where
       → StaysTyped P T w (act P action w)
   pub starts : (P : Program) (T : Typings) → IsTypedProgram P T → TypedWorld P T start
   pub grows : TurnsGrow
-  pub one_effect : (s : PlanScope) → HasOneEffect s
   pub reads : ReadsParameters
 
 -- The setup, of a folder that is a hierarchy; and field constructors are added only to classes of candidates' chains.
@@ -86,7 +85,6 @@ pub record Grounds (u : Setup) : Type 0 where
   pub adds : AddsToCandidates u
   -- the frames of flat codes are those of their typed points
   pub typings : HasFlatTypings u.flats u.typings
-  pub room : HasRoomForWide u.written
 
 module _ {u : Setup} (grounds : Grounds u) (laws : RunLaws) where
   -- ---- the records
@@ -95,8 +93,7 @@ module _ {u : Setup} (grounds : Grounds u) (laws : RunLaws) where
   settle_laws = record {
     is_setup = grounds.setup;
     making = setup_makes_objects u grounds.setup grounds.hierarchy grounds.adds laws.reads;
-    one_effect = λ w. laws.one_effect (scope_in u w);
-    types = types_entries u grounds.setup grounds.hierarchy grounds.adds grounds.typings grounds.room;
+    types = types_entries u grounds.setup grounds.hierarchy grounds.adds grounds.typings;
   }
 
   pub basis : Basis u

@@ -1,12 +1,11 @@
 -- A call of java/lang/Object's constructor of an object that is not virtual: it does nothing.
-use Rattle.std.proofs.Common.{◌≡◌, ◌≤◌, ◌<◌, ◌+◌, ◌-◌, ◌++◌, ◌==◌, ◌&&◌, ◌||◌, ℕ, zero, suc, Bool, true, false, List, [], ◌∷◌, length, map, reverse, slice_get, take, Option, Some, None, is_some, bytes_eq, if◌then◌else◌, refl, sym, ap, subst, ◌∙◌, arith}
+use Rattle.std.proofs.Common.{◌≡◌, ◌≤◌, ◌<◌, ◌+◌, ◌==◌, ◌&&◌, ◌||◌, ℕ, Bool, true, false, List, [], ◌∷◌, length, reverse, slice_get, take, Option, Some, None, is_some, bytes_eq, if◌then◌else◌, refl, sym, ap, subst, ◌∙◌, arith}
 use Rattle.std.proofs.lemmas.Bool.{eq-eqb, false≢true}
 use Rattle.std.proofs.lemmas.Option.{none-some, same_Some}
 use Rattle.class_model.specs.Descriptors.{parameters_of}
 use Rattle.class_model.specs.Members.{STATIC}
 use Rattle.class_model.specs.Names.{init}
 use Rattle.class_model.specs.declared.descriptor.FieldType.{FieldType}
-use Rattle.class_model.specs.declared.instr.Instr.{Instr}
 use Rattle.class_model.specs.declared.instr.Instr.TheVariants.{Invoke}
 use Rattle.class_model.specs.declared.opcodes.TheConstants.{INVOKESPECIAL}
 use Rattle.class_tree.specs.Headers.{Name}
@@ -22,7 +21,7 @@ use Rattle.member_link.specs.Machine.Codes.{call_op, instr_op, special_start}
 use Rattle.member_link.specs.Machine.Ops.{Op, call_special}
 use Rattle.member_link.specs.Machine.Programs.{Program, has_flag, method_of}
 use Rattle.member_link.specs.Machine.Shapes.{shape_conforms}
-use Rattle.member_link.specs.Machine.Work.{arity, work}
+use Rattle.member_link.specs.Machine.Work.{arity}
 use Rattle.member_link.specs.Machine.Worlds.{Memory}
 use Rattle.member_link.specs.References.{Reference}
 use Rattle.member_link.specs.RowScope.{RowScope}
@@ -36,7 +35,7 @@ use Rattle.plan_flow.specs.Written.Templates.{init_template, is_virtual}
 use Rattle.same_runs.specs.SameWorlds.{IsThrowing}
 use Rattle.virtual_state.specs.States.{State}
 use Rattle.virtual_state.specs.declared.slot.Slot.TheVariants.{Virt}
-use Rattle.written_runs.specs.Laws.Carried.OperandFits.{one_on_top, only_first}
+use Rattle.written_runs.specs.Laws.Carried.OperandFits.{one_on_top}
 use Rattle.written_runs.specs.Laws.Carried.Rows.{PlainRow, fits_plainly}
 use Rattle.written_runs.specs.Laws.Carried.SimpleFits.{FitsHere, InitHere, OpFits, fits_reference, moving_row, works_to}
 

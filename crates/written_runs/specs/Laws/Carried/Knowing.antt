@@ -1,15 +1,11 @@
 -- What other parts of the proof give of instructions that are written as they are.
-use Rattle.std.proofs.Common.{◌≡◌, ℕ, List, [], ◌∷◌, slice_get, Some, true, false}
+use Rattle.std.proofs.Common.{◌≡◌, ℕ, List, [], ◌∷◌, slice_get, Some, true}
 use Rattle.class_model.specs.Descriptors.{parameters_of}
 use Rattle.class_model.specs.declared.instr.Instr.TheVariants.{Invoke}
 use Rattle.class_model.specs.declared.opcodes.TheConstants.{INVOKESPECIAL}
-use Rattle.flow_code.specs.ReadTypes.{is_site_object}
 use Rattle.flow_code.specs.declared.point.FlatInstr.TheVariants.{Of}
-use Rattle.machine_values.specs.declared.value.Value.{Value}
-use Rattle.machine_values.specs.declared.value.Value.TheVariants.{Ref}
 use Rattle.member_link.specs.Machine.CallSteps.{is_object_init}
 use Rattle.member_link.specs.References.{Reference}
-use Rattle.member_link.specs.Rows.MemberRows.{receiver}
 use Rattle.plan_flow.specs.PlanScope.{member_of}
 use Rattle.class_model.specs.declared.class_file.MethodAt.{MethodAt}
 use Rattle.flow_code.specs.ReadTypes.{read_frame}
@@ -67,16 +63,3 @@ pub record CarriedLaws (u : Setup) : Type 0 where
       → member_of (scope_in u w) class index ≡ Some r
       → is_object_init r ≡ true
       → (opcode ≡ INVOKESPECIAL) × (parameters_of r.desc ≡ [])
-  -- of an object that is there: its type is uninitialised
-  pub init_refers : (world : World) (f : MethodState) (rest : List RunFrame) (w : WrittenMethod) (point : Point) (class opcode index count : ℕ)
-      (r : Reference) (value : Value)
-      → TypedWorld (first u) u.typings world
-      → world.frames ≡ Method f ∷ rest
-      → u.written f.at ≡ Some w
-      → slice_get w.flat.points f.place ≡ Some point
-      → point.instr ≡ Of class (Invoke opcode index count)
-      → member_of (scope_in u w) class index ≡ Some r
-      → is_object_init r ≡ true
-      → is_site_object w.flat (receiver point.typed r.desc) ≡ false
-      → slice_get f.stack 0 ≡ Some value
-      → (reference : ℕ) × (value ≡ Ref reference)

@@ -33,6 +33,7 @@ use Rattle.written_runs.specs.Laws.Carried.Knowing.{CarriedLaws}
 use Rattle.written_runs.specs.Laws.Carried.IncrementTurns.{increment_turn}
 use Rattle.written_runs.specs.Laws.Carried.StoreInstrs.{store_turn}
 use Rattle.written_runs.specs.Laws.Carried.InitFits.{fits_object_init}
+use Rattle.written_runs.specs.Laws.Carried.InitTyped.{init_refers_there}
 use Rattle.written_runs.specs.Laws.Carried.JumpInstrs.{if_null_turn, if_same_turn, if_turn, if_two_turn}
 use Rattle.written_runs.specs.Laws.Carried.LoadTurns.{load_turn}
 use Rattle.written_runs.specs.Laws.Carried.NopTurns.{nop_turn}
@@ -213,8 +214,8 @@ module _ (u : Setup) (laws : CarriedLaws u) {measure : ℕ} {one other : Run} (a
             special = told.0;
             no_parameters = told.1;
             refers = λ value top not_site.
-                laws.init_refers one.world a.f a.ones w point class opcode index count r value h.typed h.stands (ap u.written h.at ∙ h.is_written)
-                a.settled.of_instruction.reached.is_point called member init not_site top;
+                init_refers_there u laws a class opcode index count called (ap (written_at a class) (sym shape) ∙ none) r member init told.0 told.1 not_site
+                value top;
           };
     }
 
