@@ -5,6 +5,7 @@ use crate::edits::edit_answer;
 use crate::flat_code::{copy_answer, flat_answer};
 use crate::flats::{alone_answer, expand_answer, handlers_answer, typed_answer};
 use crate::layouts::layout_answer;
+use crate::making::making_answer;
 use crate::plans::plan_answer;
 use crate::states::state_answer;
 use cases_notation::{Setting, word_and_rest};
@@ -28,6 +29,7 @@ pub(crate) fn answer(alloc: Global, setting: &Setting<'_>, question: &str) -> Op
         "flat" => flat_answer(alloc, setting, about),
         "handler_list" => copy_answer(alloc, about),
         "least_plan" | "plan_gain" => plan_answer(alloc, setting, call, about),
+        "make_order" | "make_code" | "restack" => making_answer(alloc, setting, call, about),
         _ => state_answer(alloc, call, about),
     }
 }

@@ -95,8 +95,8 @@ fn push_index(out: &mut String, added: Result<u16, AddFault>) -> Option<()> {
     }
 }
 
-// Appends the count, and the constants that were appended.
-fn push_added(out: &mut String, edit: &PoolEdit) -> Option<()> {
+/// Appends the count, and the constants that were appended.
+pub(crate) fn push_added(out: &mut String, edit: &PoolEdit) -> Option<()> {
     write!(out, ", count {}, added", edit.count()).ok()?;
     for at in 0..edit.added().len() {
         let (constant, index) = edit.added().get_index(at)?;
@@ -124,6 +124,8 @@ fn push_word(out: &mut String, constant: &Const) -> Option<()> {
         Const::Class(index) => write!(out, " class@{index}").ok(),
         Const::Long(number) => write!(out, " long@{number}").ok(),
         Const::Utf8(text) => write!(out, " {}", str::from_utf8(text.bytes()).ok()?).ok(),
+        Const::NameAndType(name, desc) => write!(out, " pair@{name},{desc}").ok(),
+        Const::Methodref(class, member) => write!(out, " method@{class},{member}").ok(),
         _ => None,
     }
 }

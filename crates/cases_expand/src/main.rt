@@ -20,6 +20,10 @@
 //!   differs from that), `monitor STATE with SITE SIGNS` (entered for each `+` and left for each `-`), of states in the notation of
 //!   `state_text`: the state that this makes; and `shared` in front of one of the last five: which objects that has in common with the first;
 //! - `below STATE with STATE`, `differing STATE with STATE`, `closure STATE with SITES`, `look_up STATE with NUMBER` and `sites SITES with NUMBER`;
+//! - `make_code AT SITES in STATE ; CODE`, of a point of flat code in the notation of `points`: the make code of these sites, its constants
+//!   behind those of an empty pool, and with ` within LIMIT` behind the sites in a pool that has at most that count, or why there is none;
+//!   `make_order` of the same: the order in which their objects are made; and `restack`: each stack place that the code saves, with its unit.
+//!   The state `plan` is that of the least plan at the point;
 //! - `chains COUNT SITE with SITE`, of two states of so many sites, of which each has the monitor of one entered.
 //!
 //! An answer is `-` where there is nothing, as where items are no code or points no flat code.
@@ -31,6 +35,7 @@ mod flat_code;
 mod flats;
 mod instrs;
 mod layouts;
+mod making;
 mod plans;
 mod points;
 mod state_text;

@@ -8,11 +8,11 @@ use plan_flow::{Edge, EdgeKind, Plan};
 use std::alloc::Global;
 use virtual_state::{SiteSet, VState, below, differing};
 
-// A hierarchy, and the flat code of a method of one of its classes.
+/// A hierarchy, and the flat code of a method of one of its classes.
 #[derive(Drop)]
-struct Method {
-    tree: Tree,
-    code: PlanCode,
+pub(crate) struct Method {
+    pub tree: Tree,
+    pub code: PlanCode,
 }
 
 /// Whether the least plan of flat code saves something, which alone is asked by `plan_gain`, and what it has of each point: `unreached`, or the state before it, `+0` for each
@@ -46,7 +46,8 @@ fn gain_text(alloc: Global, method: &Method, plan: &Plan) -> Option<String> {
     format!(in alloc; "{gains}").ok()
 }
 
-fn method_in(alloc: Global, setting: &Setting<'_>, about: &str) -> Option<Method> {
+/// The hierarchy of the setting, and the flat code that a text says of the last method of its class.
+pub(crate) fn method_in(alloc: Global, setting: &Setting<'_>, about: &str) -> Option<Method> {
     let tree = tree_of(alloc, setting, about)?;
     let Some(code) = code_in(alloc, setting, &tree, about) else {
         drop(tree);

@@ -210,13 +210,14 @@ fn site_in(alloc: Global, at: &str, named: &str) -> Option<Site> {
     })
 }
 
-// The types of fields: `I` for int, and else the name of a class.
+// The types of fields: `I` for int, `J` for long, and else the name of a class.
 fn fields_in(alloc: Global, words: &str) -> Option<FieldTypeList> {
     let mut fields = ListOf::new(alloc);
     for word in words.split(':') {
         match word {
             "" => {}
             "I" => fields.push(FieldType::Int).ok()?,
+            "J" => fields.push(FieldType::Long).ok()?,
             name => fields
                 .push(FieldType::Named(Text::of_bytes(alloc, name.as_bytes()).ok()?))
                 .ok()?,

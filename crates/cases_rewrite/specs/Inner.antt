@@ -1,3 +1,4 @@
 pub mod Forms
+pub mod Making
 pub mod Numbering
 pub mod Flows

@@ -58,6 +58,13 @@ impl PlanCode {
         self.flat.len()
     }
 
+    /// The flat code.
+    pub fn flat(&self) -> &Flat
+        ensures { result.now ≡ self.now }
+    {
+        &self.flat
+    }
+
     /// The sites whose objects a point asks to be made.
     pub fn must(
         &self,
