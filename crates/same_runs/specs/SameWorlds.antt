@@ -10,7 +10,7 @@ use Rattle.machine_values.specs.declared.frame.RunFrame.TheVariants.{Library, Be
 use Rattle.machine_values.specs.declared.value.Value.{Value}
 use Rattle.member_link.specs.Machine.Acting.{Waiting, waiting_in}
 use Rattle.member_link.specs.Machine.Beginnings.{frame_with}
-use Rattle.member_link.specs.Machine.Completions.{Completion, gives, raises, throws}
+use Rattle.member_link.specs.Machine.Completions.{Completion, asks, calls, gives, raises, throws}
 use Rattle.member_link.specs.Machine.Performing.{is_initialiser, resumed}
 use Rattle.member_link.specs.Machine.Programs.{Program, RunMethod, run_method}
 use Rattle.member_link.specs.Machine.Stepping.{is_library_turn}
@@ -109,8 +109,15 @@ IsThrowing (raises class) = Unit {0}
 IsThrowing (throws reference) = Unit {0}
 IsThrowing w = ⊥
 
+-- an operation calls a method of the folder, or asks the library
+abbrev pub IsAwaiting : Completion → Type 0
+IsAwaiting (calls at values) = Unit {0}
+IsAwaiting (asks asked) = Unit {0}
+IsAwaiting w = ⊥
+
 -- The frames before an operation, and the same less its operands: what goes together behind each way that it may end. By `w`, what the
--- operation comes to in the first run, frames go on only behind values that it gives, and objects are thrown only where it throws one.
+-- operation comes to in the first run, frames go on only behind values that it gives, wait only where it calls or asks, and objects are
+-- thrown only where it throws one.
 pub record Goes (P Q : Program) (c : Comparison) (names : Names) (w : Completion)
     (before taken also taken_also : MethodState) (rest rest_also : List RunFrame)
     : Type 0 where
@@ -123,9 +130,11 @@ pub record Goes (P Q : Program) (c : Comparison) (names : Names) (w : Completion
       → NamesMore names more
       → c.frames more (Beginning class ∷ Method before ∷ rest) (Beginning class ∷ Method also ∷ rest_also)
   pub asks : (more : Names)
+      → IsAwaiting w
       → NamesMore names more
       → c.frames more (Library None ∷ Method taken ∷ rest) (Library None ∷ Method taken_also ∷ rest_also)
   pub called : (more : Names) (at : MethodAt) (method : RunMethod) (ones others : List Value) (held held_also : Option ℕ)
+      → IsAwaiting w
       → NamesMore names more
       → run_method P at ≡ Some method
       → SameValues more ones others

@@ -114,8 +114,8 @@ module _ {u : Setup} (facts : FlatFacts u) (same : SamePrograms (before u) (afte
   goes_by taken stand taken_stand at = record {
     given = λ more memory ones others is grows are. resumed_same (standing_more grows taken_stand) are;
     begins = λ more class grows. settled (beginnings_stand (standing_free (standing_more grows stand)));
-    asks = λ more grows. settled (libraries_stand none_held (standing_more grows taken_stand));
-    called = λ more to method ones others held held_also grows is are held_same.
+    asks = λ more waits grows. settled (libraries_stand none_held (standing_more grows taken_stand));
+    called = λ more to method ones others held held_also waits grows is are held_same.
         begins_same facts to (same_arguments are) held_same (standing_any (is_awaited u to) (standing_more grows taken_stand));
     unwinds = λ more throwing grows.
         stands_unwind facts same (standing_more grows taken_stand) (record { point = at.0.point; is = at.0.is }, at.1);

@@ -43,9 +43,9 @@ pub goes_more : {P Q : Program} {c : Comparison} {names more : Names} {w : Compl
 goes_more grows frames = record {
   given = λ later memory ones others is then are. frames.given later memory ones others is (more_and_more grows then) are;
   begins = λ later class then. frames.begins later class (more_and_more grows then);
-  asks = λ later then. frames.asks later (more_and_more grows then);
-  called = λ later at method ones others held held_also then is are same_held.
-      frames.called later at method ones others held held_also (more_and_more grows then) is are same_held;
+  asks = λ later waits then. frames.asks later waits (more_and_more grows then);
+  called = λ later at method ones others held held_also waits then is are same_held.
+      frames.called later at method ones others held held_also waits (more_and_more grows then) is are same_held;
   unwinds = λ later throwing then. frames.unwinds later throwing (more_and_more grows then);
 }
 

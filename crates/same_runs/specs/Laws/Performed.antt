@@ -25,7 +25,7 @@ use Rattle.same_runs.specs.SameCompletions.{SameCompletions, both_give, both_rai
 use Rattle.same_runs.specs.SameFrames.{SameLanding, both_catch, both_leave, both_nowhere, both_reach_library, Unwinds}
 use Rattle.same_runs.specs.SameMemories.{SameMemories}
 use Rattle.same_runs.specs.SamePrograms.{SameOp, SamePrograms}
-use Rattle.same_runs.specs.SameWorlds.{Comparison, Compares, Goes, IsThrowing, SameEvent, SameEvents, no_events, and_event, SameSeen, SameAfter, both_go, both_landed, both_over}
+use Rattle.same_runs.specs.SameWorlds.{Compares, Comparison, Goes, IsAwaiting, IsThrowing, SameAfter, SameEvent, SameEvents, SameSeen, and_event, both_go, both_landed, both_over, no_events}
 use Rattle.same_runs.specs.Laws.Begun.{begin_both}
 use Rattle.same_runs.specs.Laws.Completed.{called_there, ends_over, work_is_possible}
 use Rattle.same_runs.specs.Laws.Constants.{both_have}
@@ -221,13 +221,14 @@ module _ {P Q : Program} {c : Comparison} {names : Names} {first second : World}
       (record { known = references_more begun.1 seen.known; events = seen.events }) goes goes_also
 
   calls_both : (at : MethodAt) (method : RunMethod) → run_method P at ≡ Some method → {ones others : List Value}
+      → IsAwaiting w
       → SameValues names ones others
       → After (calls at ones) (calls at others)
-  calls_both at method is {ones = ones} {others = others} are =
+  calls_both at method is {ones = ones} {others = others} waits are =
       let held = locked_same same compares at method is memories are in
       both_go held.more held.grows
       (frames.called held.more at method ones others (locked P first.memory at ones).held
-      (locked Q second.memory at others).held held.grows is (values_more held.grows are) held.held)
+      (locked Q second.memory at others).held waits held.grows is (values_more held.grows are) held.held)
       held.memories (record { known = references_more held.grows seen.known; events = seen.events }) goes goes_also
 
   -- Both worlds go on in the same way, or both are over; or the second has to begin a class first. A method that is called is one of the
@@ -251,9 +252,9 @@ module _ {P Q : Program} {c : Comparison} {names : Names} {first second : World}
   performs_same is_one known stay (both_begin {class = class} none) = inr (begins_both class none)
   performs_same is_one known stay (both_call {at = at} {ones = ones} are) =
       let method = known at ones refl in
-      inr (calls_both at method.0 method.1 are)
+      inr (calls_both at method.0 method.1 (subst IsAwaiting (sym is_one) tt) are)
   performs_same is_one known stay (both_ask {asked = asked} {also = asked_also} is) =
-      inr (both_go names (names_themselves names) (frames.asks names (names_themselves names)) memories
+      inr (both_go names (names_themselves names) (frames.asks names (subst IsAwaiting (sym is_one) tt) (names_themselves names)) memories
       (shown_same same compares (record first { frames = Library None ∷ Method taken ∷ rest })
       (record second { frames = Library None ∷ Method taken_also ∷ rest_also })
       memories seen.events (asked_numbered same memories.heaps seen.known is)) goes goes_also)

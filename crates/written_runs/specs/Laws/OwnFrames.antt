@@ -350,10 +350,10 @@ module _ (u : Setup) (laws : FrameLaws u) (virtuals : Virtuals) (known : Known) 
       begins = λ more class grows.
           goes_above (Beginning class ∷ Method f ∷ []) (Beginning class ∷ Method g ∷ []) rest rest_also owned
           (stands (beginnings_stand (own_stand (own_more grows own) (stands_under grows below))));
-      asks = λ more grows.
+      asks = λ more waits grows.
           goes_above (Library None ∷ Method (less taken f) ∷ []) (Library None ∷ Method (less taken g) ∷ []) rest rest_also owned
           (stands (libraries_stand none_held (own_stand (own_taken taken grows own) (stands_under grows below))));
-      called = λ more at method ones others held held_also grows is are same_held.
+      called = λ more at method ones others held held_also waits grows is are same_held.
           goes_above (Method (frame_with P at (units_of_values ones) held) ∷ Method (less taken f) ∷ [])
           (Method (frame_with Q at (units_of_values others) held_also) ∷ Method (less taken g) ∷ []) rest rest_also owned
           (begins_same laws.codes at method is (same_arguments are) same_held
