@@ -4,3 +4,4 @@ pub mod PlannedFrames
 pub mod Setup
 pub mod Standing
 pub mod Together
+pub mod Waiting

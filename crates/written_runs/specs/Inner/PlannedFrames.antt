@@ -29,6 +29,7 @@ use Rattle.virtual_state.specs.declared.slot.Slot.{Slot}
 use Rattle.virtual_state.specs.declared.slot.Slot.TheVariants.{Plain, Virt, Unusable}
 use Rattle.virtual_state.specs.declared.slot.VObject.{VObject}
 use Rattle.written_runs.specs.Inner.Setup.{Setup, first}
+use Rattle.written_runs.specs.Inner.Waiting.{Awaits}
 use Rattle.written_runs.specs.VirtualObjects.{HasVirtual, Tells, Virtual, Virtuals, local_slots, stack_slots}
 
 -- ---- what the second frame keeps
@@ -193,7 +194,8 @@ pub data Moment (u : Setup) (known : Known) (one : WrittenMethod) (f g : MethodS
       → AtBlock u one f g block
       → IsInstructionOf u one f.place point route block
       → IsMet u known one point route.state f
-      → IsCarried u one f.place point route
+      → (carried : IsCarried u one f.place point route)
+      → Awaits u one f point route carried.instr
       → Moment u known one f g block
 
 -- A frame of flat code and that of written code, with so many frames below the first.

@@ -37,7 +37,7 @@ abbrev pub IsWaiting : {u : Setup} {known : Known} {one : WrittenMethod} {f g : 
     → Type 0
 IsWaiting (arrives here told) = ⊥
 IsWaiting (stays point route here of_instruction met) = ⊥
-IsWaiting (waits point route here of_instruction met carried) = Unit {0}
+IsWaiting (waits point route here of_instruction met carried awaits) = Unit {0}
 
 -- Frames one by one. A frame below that of a called method or of the library waits; of one that is on top, or that stands below the beginning of a
 -- class or its initialiser, nothing is asked.

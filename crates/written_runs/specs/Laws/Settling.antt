@@ -943,7 +943,7 @@ module _ (u : Setup) (laws : SettleLaws u) where
         by : Moment u along.known in_planned.one f g in_planned.block → Related u measure one other
         by (arrives here told) = arrived in_planned.block here.number here.is_block refl here.place here.place_also told
         by (stays point route here of_instruction met) = settled_here point route here of_instruction met
-        by (waits point route here of_instruction met carried) = settled_here point route here of_instruction met
+        by (waits point route here of_instruction met carried awaits) = settled_here point route here of_instruction met
 
   -- The second run goes on to where the instruction of the topmost planned frame is next in both.
   pub settles : (measure : ℕ) (one other : Run) (along : Along u one other)

@@ -138,8 +138,8 @@ abbrev pub moment_more : {u : Setup} {known more : Known} {one : WrittenMethod} 
 moment_more knows (arrives here told) = arrives here told
 moment_more {f = f} knows (stays point route here of_instruction met) =
     stays point route here of_instruction (met_more point route.state f knows met)
-moment_more {f = f} knows (waits point route here of_instruction met carried) =
-    waits point route here of_instruction (met_more point route.state f knows met) carried
+moment_more {f = f} knows (waits point route here of_instruction met carried awaits) =
+    waits point route here of_instruction (met_more point route.state f knows met) carried awaits
 
 -- it waits as before
 waits_more : {u : Setup} {known more : Known} {one : WrittenMethod} {f g : MethodState} {block : Block} (knows : KnowsMore known more)
@@ -148,7 +148,7 @@ waits_more : {u : Setup} {known more : Known} {one : WrittenMethod} {f g : Metho
     → IsWaiting (moment_more knows moment)
 waits_more knows (arrives here told) waiting = absurd waiting
 waits_more knows (stays point route here of_instruction met) waiting = absurd waiting
-waits_more knows (waits point route here of_instruction met carried) waiting = tt
+waits_more knows (waits point route here of_instruction met carried awaits) waiting = tt
 
 abbrev pub in_planned_more : {u : Setup} {virtuals others : Virtuals} {known more_known : Known} {names more : Names} {frame : ℕ} {f g : MethodState}
     → SameOfFrame virtuals others frame

@@ -125,7 +125,7 @@ module _ (u : Setup) (is : IsSetup u) where
       by : (moment : Moment u known one f g w.in_planned.block) → IsWaiting moment → PendAlike u f g
       by (arrives here told) impossible = absurd impossible
       by (stays point route here of_instruction met) impossible = absurd impossible
-      by (waits point route here of_instruction met is_carried) waiting = record {
+      by (waits point route here of_instruction met is_carried awaits) waiting = record {
         point = on_top.0;
         also =
             written_point (scope_in u one) ready.scope u.constructor one.form (blocks_in u one)

@@ -27,16 +27,16 @@ use Rattle.virtual_state.specs.States.{State}
 use Rattle.written_runs.specs.Inner.PlannedFrames.{KeepStack, Known, blocks_in, scope_in}
 use Rattle.written_runs.specs.Inner.Setup.{Setup, first, second}
 use Rattle.written_runs.specs.Inner.Standing.{Stands, is_awaited}
+use Rattle.written_runs.specs.Inner.Waiting.{Awaits, IsNoJump, ThrowsThere, WaitsThere}
 use Rattle.written_runs.specs.Laws.Carried.Behind.{MovesAlong}
 use Rattle.written_runs.specs.Laws.Carried.EdgeBlocks.{EdgeBlock, next_block_at}
-use Rattle.written_runs.specs.Laws.Carried.Knowing.{CarriedLaws}
-use Rattle.written_runs.specs.Laws.Carried.Landing.{ThrowsThere, carried_catches, goes_along, own_there, usable_along}
+use Rattle.written_runs.specs.Laws.Carried.Knowing.{CarriedFacts}
+use Rattle.written_runs.specs.Laws.Carried.Landing.{carried_catches, goes_along, own_there, usable_along}
 use Rattle.written_runs.specs.Laws.Carried.Operands.{keep_fewer}
 use Rattle.written_runs.specs.Laws.Carried.PlannedEdges.{EdgeThere, next_there}
-use Rattle.written_runs.specs.Laws.Carried.Points.{IsNoJump, next_place}
-use Rattle.written_runs.specs.Laws.Carried.Slots.{LeavesLocals}
+use Rattle.written_runs.specs.Laws.Carried.Points.{next_place}
 use Rattle.written_runs.specs.Laws.Carried.Standing.{AtOwn}
-use Rattle.written_runs.specs.Laws.Carried.Waiting.{AtCarried, at_waiting, instruction_of}
+use Rattle.written_runs.specs.Laws.Carried.Waiting.{AtCarried, WaitsCarried, at_waiting, instruction_of}
 use Rattle.written_runs.specs.Laws.FewerVirtuals.{AllOwned, AreFewer, GoesFewer, same_under, under, under_owned}
 use Rattle.written_runs.specs.Laws.OwnFrames.{WaitsPlanned}
 use Rattle.written_runs.specs.Laws.Settling.{SettleLaws}
@@ -81,7 +81,7 @@ catches_with_more fewer (and_catch {class = class} {to = to} {to_also = to_also}
 -- ---- the frame that waits
 
 -- with the objects of its frame alone
-carried_with : {u : Setup} {virtuals others : Virtuals} {known : Known} {names : Names} {frame : ℕ} {f g : MethodState}
+abbrev carried_with : {u : Setup} {virtuals others : Virtuals} {known : Known} {names : Names} {frame : ℕ} {f g : MethodState}
     → SameOfFrame virtuals others frame
     → AtCarried u virtuals known names frame f g
     → AtCarried u others known names frame f g
@@ -104,20 +104,7 @@ carried_with {names = names} {frame = frame} {f = f} {g = g} same c = record {
       c.own was.number virtual was.is_there of_frame;
 }
 
--- Where it waits, and what its row says of the way on: of the stack so many entries are left, and behind a result control goes on to the next point.
-pub record WaitsThere (s : PlanScope) (at : ℕ) (point : Point) (before : State) (count : ℕ) : Type 0 where
-  pub falls : falls_on point.instr ≡ true
-  pub opens : is_open before (row_of_point s at point).next ≡ true
-  pub taken : ℕ
-  pub many : count ≡ length point.typed.stack - taken
-  pub given : List Source
-  pub leaves : LeavesLocals s at point before (record { by = edges.Next; to = at + 1; guard = (row_of_point s at point).next }) taken given
-  pub none_given : (number : ℕ) (type : VType) (source : Source)
-      → slice_get given number ≡ Some source
-      → KeepsType at (place_types point.typed) type source
-      → ⊥
-
-module _ (u : Setup) (laws : CarriedLaws u) {virtuals : Virtuals} {known : Known} {names : Names} {heap : Heap} {f g : MethodState}
+module _ (u : Setup) (laws : CarriedFacts u) {virtuals : Virtuals} {known : Known} {names : Names} {heap : Heap} {f g : MethodState}
     {ones others : List RunFrame} (waits : WaitsPlanned u virtuals known names heap f g ones others) where
   abbrev height : ℕ
   height = suc (length ones)
@@ -125,14 +112,11 @@ module _ (u : Setup) (laws : CarriedLaws u) {virtuals : Virtuals} {known : Known
   abbrev kept : Virtuals
   kept = under height virtuals
 
-  pub waiting_there : AtCarried u virtuals known names (length ones) f g
+  abbrev waiting_there : WaitsCarried u virtuals known names (length ones) f g
   waiting_there = at_waiting waits.in_planned waits.waiting
 
-  pub waiting_alone : AtCarried u kept known names (length ones) f g
-  waiting_alone = carried_with (same_under height virtuals (length ones) (omega arith)) waiting_there
-
   abbrev settle : SettleLaws u
-  settle = laws.turns.settle
+  settle = laws.settle
 
   kept_owned : AllOwned u kept (Method f ∷ ones)
   kept_owned = under_owned waits.owned
@@ -143,7 +127,10 @@ module _ (u : Setup) (laws : CarriedLaws u) {virtuals : Virtuals} {known : Known
       (names_themselves names) waits.below
 
   abbrev c : AtCarried u kept known names (length ones) f g
-  c = waiting_alone
+  c = carried_with (same_under height virtuals (length ones) (omega arith)) waiting_there.c
+
+  abbrev awaits : Awaits u c.w f c.point c.route c.carried.instr
+  awaits = waiting_there.awaits
 
   abbrev s : PlanScope
   s = scope_in u c.w

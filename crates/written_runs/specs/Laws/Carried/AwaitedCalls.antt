@@ -23,8 +23,7 @@ use Rattle.plan_flow.specs.Written.Blocks.{state_written}
 use Rattle.plan_flow.specs.Written.Routes.{Route}
 use Rattle.virtual_state.specs.States.{State}
 use Rattle.virtual_state.specs.declared.slot.Slot.TheVariants.{Plain}
-use Rattle.written_runs.specs.Laws.Carried.Awaited.{WaitsThere}
-use Rattle.written_runs.specs.Laws.Carried.Landing.{ThrowsThere}
+use Rattle.written_runs.specs.Inner.Waiting.{ThrowsThere, WaitsThere}
 use Rattle.written_runs.specs.Laws.Carried.Rows.{PlainRow, leaves_of, none_plain}
 
 plain_result : (s : PlanScope) (before : State) (result : Option FieldType)

@@ -36,10 +36,10 @@ use Rattle.virtual_state.specs.States.{State}
 use Rattle.virtual_state.specs.declared.slot.Slot.{Slot}
 use Rattle.written_runs.specs.Inner.PlannedFrames.{scope_in}
 use Rattle.written_runs.specs.Inner.Setup.{Setup, first}
+use Rattle.written_runs.specs.Inner.Waiting.{IsNoJump}
 use Rattle.written_runs.specs.Laws.Carried.Knowing.{CarriedLaws}
 use Rattle.written_runs.specs.Laws.Carried.Operands.{AreReal}
 use Rattle.written_runs.specs.Laws.Carried.Planned.{carried_here, known_here, knowing_here, own_start}
-use Rattle.written_runs.specs.Laws.Carried.Points.{IsNoJump}
 use Rattle.written_runs.specs.Laws.Carried.Turns.{not_stuck_here, turned_here}
 use Rattle.written_runs.specs.Laws.Carried.Waiting.{AtCarried}
 use Rattle.written_runs.specs.Laws.Carried.Works.{at_first, at_first_is, own}

@@ -28,6 +28,7 @@ use Rattle.plan_flow.specs.PlanTable.{cast_row, instr_row, operand}
 use Rattle.plan_flow.specs.ReadyForPlans.{KeepsType, from_its_type, place_types}
 use Rattle.plan_flow.specs.Written.Blocks.{state_written}
 use Rattle.plan_flow.specs.Written.Routes.{Route}
+use Rattle.same_runs.specs.SameWorlds.{IsAwaiting}
 use Rattle.virtual_state.specs.States.{State}
 use Rattle.virtual_state.specs.declared.slot.Slot.{Slot}
 use Rattle.virtual_state.specs.declared.slot.Slot.TheVariants.{Plain}
@@ -54,6 +55,25 @@ cast_gives P memory after name (Ref reference) ones is = of_object (object_at me
   of_object : (object : Option Object) → object_at memory.heap reference ≡ object → ones ≡ Ref reference ∷ []
   of_object None none = let no : ends stuck ≡ gives after ones = rw (none) at is in absurd (cc no)
   of_object (Some object) there = of_instance object there (is_instance P object.shape name) refl
+
+-- a cast waits for nothing
+cast_waits : (P : Program) (memory : Memory) (name : Name) (operands : List Value) → IsAwaiting (check_cast_work P memory name operands) → ⊥
+cast_waits P memory name (Null ∷ []) waits = waits
+cast_waits P memory name (Ref reference ∷ []) waits = of_object (object_at memory.heap reference) refl where
+  of_instance : (object : Object) → object_at memory.heap reference ≡ Some object → (instance : Bool) → is_instance P object.shape name ≡ instance → ⊥
+  of_instance object there true told = let no : ⊥ = rw (there, told) at waits in no
+  of_instance object there false told = let no : ⊥ = rw (there, told) at waits in no
+
+  of_object : (object : Option Object) → object_at memory.heap reference ≡ object → ⊥
+  of_object None none = let no : ⊥ = rw (none) at waits in no
+  of_object (Some object) there = of_instance object there (is_instance P object.shape name) refl
+cast_waits P memory name [] waits = waits
+cast_waits P memory name (Int n ∷ operands) waits = waits
+cast_waits P memory name (Long n ∷ operands) waits = waits
+cast_waits P memory name (Float n ∷ operands) waits = waits
+cast_waits P memory name (Double n ∷ operands) waits = waits
+cast_waits P memory name (Null ∷ other ∷ operands) waits = waits
+cast_waits P memory name (Ref reference ∷ other ∷ operands) waits = waits
 
 module _ (P : Program) (s : PlanScope) (at : ℕ) (point : Point) (route : Route) (class : ℕ) (scope : RowScope) (memory : Memory) (stack : List Value)
     (number : ℕ → ℕ) where
@@ -122,4 +142,6 @@ module _ (P : Program) (s : PlanScope) (at : ℕ) (point : Point) (route : Route
           gives_of (plain_row name is) ones (let many = here.many in let few = enough in omega (arith, many, few))
           (uninit name top.0 top.1 top.2 ones after came);
       throws = λ throwing. throws_where_plain here (cast_row point.typed (Some name)) (operand point.typed 0) (row name is) refl plain;
+      waits = λ waits. absurd (cast_waits P memory name _ waits);
+      pends = λ waits may. throws_where_plain here (cast_row point.typed (Some name)) (operand point.typed 0) (row name is) refl plain;
     }

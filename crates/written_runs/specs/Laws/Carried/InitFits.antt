@@ -1,5 +1,5 @@
 -- A call of java/lang/Object's constructor of an object that is not virtual: it does nothing.
-use Rattle.std.proofs.Common.{◌≡◌, ◌≤◌, ◌<◌, ◌+◌, ◌==◌, ◌&&◌, ◌||◌, ℕ, Bool, true, false, List, [], ◌∷◌, length, reverse, slice_get, take, Option, Some, None, is_some, bytes_eq, if◌then◌else◌, refl, sym, ap, subst, ◌∙◌, arith}
+use Rattle.std.proofs.Common.{◌≡◌, ◌⊎◌, inl, inr, ◌≤◌, ◌<◌, ◌+◌, ◌==◌, ◌&&◌, ◌||◌, ℕ, Bool, true, false, List, [], ◌∷◌, length, reverse, slice_get, take, Option, Some, None, is_some, bytes_eq, if◌then◌else◌, refl, sym, ap, subst, ◌∙◌, arith}
 use Rattle.std.proofs.lemmas.Bool.{eq-eqb, false≢true}
 use Rattle.std.proofs.lemmas.Option.{none-some, same_Some}
 use Rattle.class_model.specs.Descriptors.{parameters_of}
@@ -18,11 +18,12 @@ use Rattle.machine_values.specs.declared.value.Value.{Value}
 use Rattle.machine_values.specs.declared.value.Value.TheVariants.{Ref}
 use Rattle.member_link.specs.Machine.CallSteps.{call_special_work, is_object_init}
 use Rattle.member_link.specs.Machine.Codes.{call_op, instr_op, special_start}
+use Rattle.member_link.specs.Machine.Completions.{Completion, ends, gives}
 use Rattle.member_link.specs.Machine.Ops.{Op, call_special}
 use Rattle.member_link.specs.Machine.Programs.{Program, has_flag, method_of}
 use Rattle.member_link.specs.Machine.Shapes.{shape_conforms}
 use Rattle.member_link.specs.Machine.Work.{arity}
-use Rattle.member_link.specs.Machine.Worlds.{Memory}
+use Rattle.member_link.specs.Machine.Worlds.{Memory, stuck}
 use Rattle.member_link.specs.References.{Reference}
 use Rattle.member_link.specs.RowScope.{RowScope}
 use Rattle.member_link.specs.Rows.MemberRows.{receiver}
@@ -32,11 +33,11 @@ use Rattle.plan_flow.specs.PlanTable.{call_row, instr_row, moving, operand}
 use Rattle.plan_flow.specs.Written.Blocks.{state_written}
 use Rattle.plan_flow.specs.Written.Routes.{Route}
 use Rattle.plan_flow.specs.Written.Templates.{init_template, is_virtual}
-use Rattle.same_runs.specs.SameWorlds.{IsThrowing}
+use Rattle.same_runs.specs.SameWorlds.{IsAwaiting, IsThrowing}
 use Rattle.virtual_state.specs.States.{State}
 use Rattle.virtual_state.specs.declared.slot.Slot.TheVariants.{Virt}
 use Rattle.written_runs.specs.Laws.Carried.OperandFits.{one_on_top}
-use Rattle.written_runs.specs.Laws.Carried.Rows.{PlainRow, fits_plainly}
+use Rattle.written_runs.specs.Laws.Carried.Rows.{MayThrow, PlainRow, fits_plainly}
 use Rattle.written_runs.specs.Laws.Carried.SimpleFits.{FitsHere, InitHere, OpFits, fits_reference, moving_row, works_to}
 
 both_parts : (one other : Bool) → (one && other) ≡ true → (one ≡ true) × (other ≡ true)
@@ -51,13 +52,16 @@ neither : (one other : Bool) → (one || other) ≡ false → (one ≡ false) ×
 neither false other is = (refl, is)
 neither true other is = absurd (false≢true (sym is))
 
--- the call of an object that is there throws nothing
+-- The call of an object that is there gives nothing back: it throws nothing, and waits for nothing.
 init_never : (P : Program) (memory : Memory) (r : Reference) (from : Name) (reference : ℕ)
     → parameters_of r.desc ≡ []
     → is_object_init r ≡ true
-    → IsThrowing (call_special_work P memory r from (Ref reference ∷ []))
+    → (Is : Completion → Type 0)
+    → ((after : Memory) → Is (gives after []) → ⊥)
+    → (Is (ends stuck) → ⊥)
+    → Is (call_special_work P memory r from (Ref reference ∷ []))
     → ⊥
-init_never P memory r from reference none is throwing = by (is_some (method_of P r)) refl where
+init_never P memory r from reference none is Is no_values no_stuck so = by (is_some (method_of P r)) refl where
   named : bytes_eq r.name init ≡ true
   named = (both_parts (bytes_eq r.class object) (bytes_eq r.name init) is).1
 
@@ -66,20 +70,20 @@ init_never P memory r from reference none is throwing = by (is_some (method_of P
       → has_flag (method_of P r) STATIC ≡ false
       → ⊥
   of_conforming o there true conforms found not_static =
-      let no_so : ⊥ = rw (named, found, not_static, none, there, conforms, is) at throwing in no_so
+      let given : Is (gives memory []) = rw (named, found, not_static, none, there, conforms, is) at so in no_values memory given
   of_conforming o there false conforms found not_static =
-      let no_so : ⊥ = rw (named, found, not_static, none, there, conforms) at throwing in no_so
+      let over : Is (ends stuck) = rw (named, found, not_static, none, there, conforms) at so in no_stuck over
 
   of_object : (o : Option Object) → object_at memory.heap reference ≡ o → is_some (method_of P r) ≡ true → has_flag (method_of P r) STATIC ≡ false → ⊥
-  of_object None there found not_static = let no_so : ⊥ = rw (named, found, not_static, none, there) at throwing in no_so
+  of_object None there found not_static = let over : Is (ends stuck) = rw (named, found, not_static, none, there) at so in no_stuck over
   of_object (Some o) there found not_static = of_conforming o there (shape_conforms P o.shape r.class) refl found not_static
 
   of_static : (static : Bool) → has_flag (method_of P r) STATIC ≡ static → is_some (method_of P r) ≡ true → ⊥
-  of_static true told found = let no_so : ⊥ = rw (named, found, told) at throwing in no_so
+  of_static true told found = let over : Is (ends stuck) = rw (named, found, told) at so in no_stuck over
   of_static false told found = of_object (object_at memory.heap reference) refl found told
 
   by : (found : Bool) → is_some (method_of P r) ≡ found → ⊥
-  by false told = let no_so : ⊥ = rw (named, told) at throwing in no_so
+  by false told = let over : Is (ends stuck) = rw (named, told) at so in no_stuck over
   by true told = of_static (has_flag (method_of P r) STATIC) refl told
 
 module _ (P : Program) (s : PlanScope) (at : ℕ) (point : Point) (route : Route) (class : ℕ) (scope : RowScope) (memory : Memory) (stack : List Value)
@@ -123,7 +127,7 @@ module _ (P : Program) (s : PlanScope) (at : ℕ) (point : Point) (route : Route
             (subst (λ (n : ℕ). PlainRow s at point before n []) (sym one) (moving_row here 1 [] row refl refl)) here.many here.slots enough
             (λ place site low virtual. never_virtual place site (omega (arith, low, one)) virtual)
             (λ place type source there kept. none-some source there)
-            (λ throwing. absurd (never (omega (arith, enough, one)) throwing))) where
+            (λ may. absurd (never (omega (arith, enough, one)) may))) where
               from : Name
               from = special_start P.links scope found.class
 
@@ -151,11 +155,21 @@ module _ (P : Program) (s : PlanScope) (at : ℕ) (point : Point) (route : Route
                   let top : place ≡ length (parameters_of found.desc) = omega (arith, low, counted) in
                   false≢true (sym unwritten.0 ∙ ap is_virtual (ap (λ (n : ℕ). held before (operand point.typed n)) (sym top) ∙ virtual))
 
-              never : 1 ≤ length stack → IsThrowing (works_to P memory stack (call_special found from)) → ⊥
-              never enough throwing =
+              on_object : 1 ≤ length stack → (reference : ℕ)
+                  × (works_to P memory stack (call_special found from) ≡ call_special_work P memory found from (Ref reference ∷ []))
+              on_object enough =
                   let top = one_on_top here enough in
                   let refers = inits.refers top.0 (ap (λ (all : List Value). slice_get all 0) top.2) unwritten.1 in
-                  init_never P memory found from refers.0 inits.no_parameters is_init
-                  (subst (λ (operands : List Value). IsThrowing (call_special_work P memory found from operands))
+                  (refers.0, ap (call_special_work P memory found from)
                   (ap (λ (n : ℕ). reverse (take n stack)) one ∙ ap (λ (all : List Value). reverse (take 1 all)) top.2
-                  ∙ ap (λ (v : Value). v ∷ []) refers.1) throwing)
+                  ∙ ap (λ (v : Value). v ∷ []) refers.1))
+
+              never : 1 ≤ length stack → MayThrow (call_special found from) (works_to P memory stack (call_special found from)) → ⊥
+              never enough (inl throwing) =
+                  let on = on_object enough in
+                  init_never P memory found from on.0 inits.no_parameters is_init IsThrowing (λ after given. given) (λ over. over)
+                  (subst IsThrowing on.1 throwing)
+              never enough (inr may) =
+                  let on = on_object enough in
+                  init_never P memory found from on.0 inits.no_parameters is_init IsAwaiting (λ after given. given) (λ over. over)
+                  (subst IsAwaiting on.1 may.0)

@@ -27,15 +27,16 @@ use Rattle.same_runs.specs.Renamings.{no_values}
 use Rattle.virtual_state.specs.States.{State}
 use Rattle.written_runs.specs.Inner.PlannedFrames.{KeepStack, Known, blocks_in, scope_in}
 use Rattle.written_runs.specs.Inner.Setup.{Setup, first}
+use Rattle.written_runs.specs.Inner.Waiting.{LeavesLocals}
 use Rattle.written_runs.specs.Laws.Carried.Behind.{MovesAlong}
 use Rattle.written_runs.specs.Laws.Carried.EdgeBlocks.{EdgeBlock}
-use Rattle.written_runs.specs.Laws.Carried.Knowing.{CarriedLaws}
+use Rattle.written_runs.specs.Laws.Carried.Knowing.{CarriedLaws, facts_of}
 use Rattle.written_runs.specs.Laws.Carried.Landing.{own_there, planned_along, usable_along}
 use Rattle.written_runs.specs.Laws.Carried.MovesOn.{moves_on}
 use Rattle.written_runs.specs.Laws.Carried.Operands.{AreReal, HaveOperands, have_operands}
 use Rattle.written_runs.specs.Laws.Carried.PlannedEdges.{EdgeThere, slots_long}
 use Rattle.written_runs.specs.Laws.Carried.Points.{first_point_is}
-use Rattle.written_runs.specs.Laws.Carried.Slots.{LeavesLocals, lowest_left}
+use Rattle.written_runs.specs.Laws.Carried.Slots.{lowest_left}
 use Rattle.written_runs.specs.Laws.Carried.Standing.{AtOwn}
 use Rattle.written_runs.specs.Laws.Carried.Turns.{all_owned, not_stuck_here, turned_here}
 use Rattle.written_runs.specs.Laws.Carried.Waiting.{AtCarried, instruction_of}
@@ -66,7 +67,7 @@ module _ (u : Setup) (laws : CarriedLaws u) (measure : ℕ) {one other : Run} {f
   owned_here = all_owned u laws.turns measure h
 
   pub own_here : AtOwn u c.w f.place c.point c.route h.g
-  own_here = own_there u laws (instruction_of c) owned_here h.below
+  own_here = own_there u (facts_of laws) (instruction_of c) owned_here h.below
 
   abbrev pub code_here : Code
   code_here = written_code s own_here.host u.constructor c.w.form (blocks_in u c.w)
@@ -142,7 +143,7 @@ module _ (u : Setup) (laws : CarriedLaws u) (measure : ℕ) {one other : Run} {f
             ∙ ap (λ (n : ℕ). take (n - taken) (reverse f.stack)) many_here
             ∙ sym (append-nil (take (length c.point.typed.stack - taken) (reverse f.stack)));
         stack_also = sym (append-nil (reverse (drop taken h.g.stack)));
-        usable = usable_along u laws (instruction_of c) owned_here h.below edge leaves.locals;
+        usable = usable_along u (facts_of laws) (instruction_of c) owned_here h.below edge leaves.locals;
         uninit = edge.keeps;
         uninit_given = λ count type source value told kept site got. absurd (none-some source told);
       }
@@ -158,7 +159,7 @@ module _ (u : Setup) (laws : CarriedLaws u) (measure : ℕ) {one other : Run} {f
       moves_edge block at_block steps count moved =
           turns_by_moves u settle measure one other
           (moves_on u laws.turns measure h (then_at row.to) (also_at to_item) edge.of_row.edge.state
-          (planned_along u laws {known = known} (instruction_of c) owned_here h.below edge taken [] leaves (then_at row.to) (also_at to_item) along
+          (planned_along u (facts_of laws) {known = known} (instruction_of c) owned_here h.below edge taken [] leaves (then_at row.to) (also_at to_item) along
           refl refl refl refl refl block at_block (names_themselves h.names)
           (subst (λ (n : ℕ). KeepStack h.names (take (n - taken) (stack_slots c.point before)) (take (n - taken) (reverse f.stack))
           (reverse (drop taken h.g.stack))) many_here have_here.lower)) refl refl

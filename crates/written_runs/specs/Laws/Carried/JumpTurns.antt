@@ -38,6 +38,7 @@ use Rattle.virtual_state.specs.States.{State}
 use Rattle.virtual_state.specs.declared.slot.Slot.TheVariants.{Virt}
 use Rattle.written_runs.specs.Inner.PlannedFrames.{Known, blocks_in, scope_in}
 use Rattle.written_runs.specs.Inner.Setup.{Setup, first}
+use Rattle.written_runs.specs.Inner.Waiting.{LeavesLocals}
 use Rattle.written_runs.specs.Laws.Carried.EdgeBlocks.{EdgeBlock, jump_block_at, next_block_at}
 use Rattle.written_runs.specs.Laws.Carried.JumpEdges.{code_here, have_here, all_slots, many_here, moves_edge, not_stuck_so, number_here, own_here, point_here, then_at}
 use Rattle.written_runs.specs.Laws.Carried.JumpFamilies.{IsBetween, JumpFamily, decided, negated}
@@ -47,7 +48,6 @@ use Rattle.written_runs.specs.Laws.Carried.Landing.{number_stays}
 use Rattle.written_runs.specs.Laws.Carried.Operands.{AreReal}
 use Rattle.written_runs.specs.Laws.Carried.PlannedEdges.{EdgeThere, jump_there, next_there}
 use Rattle.written_runs.specs.Laws.Carried.Rows.{PlainRow, leaves_of, real_operands}
-use Rattle.written_runs.specs.Laws.Carried.Slots.{LeavesLocals}
 use Rattle.written_runs.specs.Laws.Carried.Waiting.{AtCarried}
 use Rattle.written_runs.specs.Laws.Halfway.{Halfway}
 use Rattle.written_runs.specs.Laws.Settling.{SettleLaws}

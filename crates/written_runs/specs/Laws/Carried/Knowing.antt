@@ -28,6 +28,18 @@ use Rattle.written_runs.specs.Inner.PlannedFrames.{IsCarried, IsReached, scope_i
 use Rattle.written_runs.specs.Inner.Setup.{Setup, first, second}
 use Rattle.written_runs.specs.Laws.Carried.PlannedEdges.{RowsFit}
 use Rattle.written_runs.specs.Laws.OwnTurns.{TurnLaws}
+use Rattle.written_runs.specs.Laws.Settling.{SettleLaws}
+
+-- what holds whatever the turns at other frames are
+pub record CarriedFacts (u : Setup) : Type 0 where
+  pub settle : SettleLaws u
+  -- the first program runs flat code
+  pub flat_code : (at : MethodAt) (w : WrittenMethod) (host : Scope)
+      → u.written at ≡ Some w
+      → scope_at u.classes at ≡ Some host
+      → code_at (first u) at ≡ Some (flat_code u.classes u.links host w.flat)
+  -- rows fit the types of the flat code
+  pub rows_fit : (at : MethodAt) (w : WrittenMethod) → u.written at ≡ Some w → RowsFit (scope_in u w)
 
 pub record CarriedLaws (u : Setup) : Type 0 where
   pub turns : TurnLaws u
@@ -63,3 +75,6 @@ pub record CarriedLaws (u : Setup) : Type 0 where
       → member_of (scope_in u w) class index ≡ Some r
       → is_object_init r ≡ true
       → (opcode ≡ INVOKESPECIAL) × (parameters_of r.desc ≡ [])
+
+abbrev pub facts_of : {u : Setup} → CarriedLaws u → CarriedFacts u
+facts_of laws = record { settle = laws.turns.settle; flat_code = laws.flat_code; rows_fit = laws.rows_fit }

@@ -42,14 +42,15 @@ use Rattle.same_runs.specs.Laws.MethodPoints.{catches_are}
 use Rattle.written_runs.specs.Inner.PlannedFrames.{InPlanned, IsReached, KeepStack, Known, blocks_in, scope_in}
 use Rattle.written_runs.specs.Inner.Setup.{Setup, first, second}
 use Rattle.written_runs.specs.Inner.Standing.{Stands, is_awaited}
+use Rattle.written_runs.specs.Inner.Waiting.{IsNoJump, LeavesLocals, ThrowsThere}
 use Rattle.written_runs.specs.Laws.Carried.Arriving.{arrives_planned, goes_planned}
 use Rattle.written_runs.specs.Laws.Carried.Behind.{LocalsOver, MovesAlong, MovesStack, kept_of, keeps_behind, moves_stack, tells_behind}
 use Rattle.written_runs.specs.Laws.Carried.EdgeBlocks.{EdgeBlock, handler_block_at}
-use Rattle.written_runs.specs.Laws.Carried.Knowing.{CarriedLaws}
+use Rattle.written_runs.specs.Laws.Carried.Knowing.{CarriedFacts}
 use Rattle.written_runs.specs.Laws.Carried.PlannedEdges.{EdgeThere, handler_there, slots_long, unusable_is_top}
 use Rattle.written_runs.specs.Laws.Carried.LocalsStay.{locals_stay}
-use Rattle.written_runs.specs.Laws.Carried.Points.{IsNoJump, first_point_is, second_point_is}
-use Rattle.written_runs.specs.Laws.Carried.Slots.{LeadsAlong, LeavesLocals, LeavesStack, got_left, leaves_stack}
+use Rattle.written_runs.specs.Laws.Carried.Points.{first_point_is, second_point_is}
+use Rattle.written_runs.specs.Laws.Carried.Slots.{LeadsAlong, LeavesStack, got_left, leaves_stack}
 use Rattle.written_runs.specs.Laws.Carried.Standing.{AtOwn, at_own}
 use Rattle.written_runs.specs.Laws.Carried.Waiting.{AtCarried, AtInstruction, instruction_of}
 use Rattle.written_runs.specs.Laws.FewerVirtuals.{AllOwned, GoesFewer}
@@ -91,20 +92,14 @@ take_none {A = A} count items none = ap (λ (n : ℕ). take n items) none
 
 -- ---- along an edge
 
--- where an instruction may throw, by its row, in the state in which it is written
-pub record ThrowsThere (s : PlanScope) (at : ℕ) (point : Point) (route : Route) : Type 0 where
-  pub guard : Guard
-  pub throws : (row_of_point s at point).throws ≡ Some guard
-  pub opens : is_open (state_written route) guard ≡ true
-
-module _ (u : Setup) (laws : CarriedLaws u) {virtuals : Virtuals} {known : Known} {names : Names} {f g : MethodState} {rest rest_also : List RunFrame}
+module _ (u : Setup) (laws : CarriedFacts u) {virtuals : Virtuals} {known : Known} {names : Names} {f g : MethodState} {rest rest_also : List RunFrame}
     (c : AtInstruction u virtuals names (length rest) f g) (owned : AllOwned u virtuals (Method f ∷ rest))
     (below : Stands u virtuals known (is_awaited u g.at) names rest rest_also) where
   abbrev s : PlanScope
   s = scope_in u c.w
 
   abbrev settle : SettleLaws u
-  settle = laws.turns.settle
+  settle = laws.settle
 
   abbrev before : State
   before = state_written c.route
@@ -346,7 +341,7 @@ module _ (u : Setup) (laws : CarriedLaws u) {virtuals : Virtuals} {known : Known
         reached.is_point)
 
 -- handlers one by one, around an instruction that is written as it is
-pub carried_catches : (u : Setup) (laws : CarriedLaws u) {virtuals : Virtuals} {known : Known} {names : Names} {f g : MethodState}
+pub carried_catches : (u : Setup) (laws : CarriedFacts u) {virtuals : Virtuals} {known : Known} {names : Names} {f g : MethodState}
     {rest rest_also : List RunFrame} (c : AtCarried u virtuals known names (length rest) f g)
     → AllOwned u virtuals (Method f ∷ rest)
     → Stands u virtuals known (is_awaited u g.at) names rest rest_also

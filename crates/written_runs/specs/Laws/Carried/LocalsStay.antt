@@ -21,7 +21,8 @@ use Rattle.virtual_state.specs.States.{State}
 use Rattle.virtual_state.specs.declared.slot.Slot.{Slot}
 use Rattle.virtual_state.specs.declared.slot.Slot.TheVariants.{Plain, Virt, Unusable}
 use Rattle.written_runs.specs.Inner.PlannedFrames.{Keeps, KeptIn}
-use Rattle.written_runs.specs.Laws.Carried.Slots.{LeadsAlong, LeavesLocals, got_left}
+use Rattle.written_runs.specs.Inner.Waiting.{LeavesLocals}
+use Rattle.written_runs.specs.Laws.Carried.Slots.{LeadsAlong, got_left}
 use Rattle.written_runs.specs.Laws.Templates.Stacks.{as_read, held_at, read_virtual}
 use Rattle.written_runs.specs.VirtualObjects.{Tells, Virtuals, local_slots}
 use Rattle.written_runs.specs.Laws.Carried.Behind.{LocalsOver, MovesAlong}

@@ -31,16 +31,17 @@ use Rattle.same_runs.specs.Renamings.{SameValues}
 use Rattle.virtual_state.specs.States.{State}
 use Rattle.written_runs.specs.Inner.PlannedFrames.{KeepStack, Known, blocks_in, scope_in}
 use Rattle.written_runs.specs.Inner.Setup.{Setup, first, second}
+use Rattle.written_runs.specs.Inner.Waiting.{IsNoJump, LeavesLocals}
 use Rattle.written_runs.specs.Laws.Carried.Behind.{MovesAlong}
 use Rattle.written_runs.specs.Laws.Carried.EdgeBlocks.{EdgeBlock, next_block_at}
-use Rattle.written_runs.specs.Laws.Carried.Knowing.{CarriedLaws}
+use Rattle.written_runs.specs.Laws.Carried.Knowing.{CarriedLaws, facts_of}
 use Rattle.written_runs.specs.Laws.Carried.Landing.{planned_along, usable_along}
 use Rattle.written_runs.specs.Laws.Carried.MovesOn.{moves_on}
 use Rattle.written_runs.specs.Laws.Carried.Operands.{AreReal, HaveOperands, have_operands}
 use Rattle.written_runs.specs.Laws.Carried.PlannedEdges.{EdgeThere, next_there}
-use Rattle.written_runs.specs.Laws.Carried.Points.{IsNoJump, next_place}
+use Rattle.written_runs.specs.Laws.Carried.Points.{next_place}
 use Rattle.written_runs.specs.Laws.Carried.Rows.{PlainRow, leaves_of}
-use Rattle.written_runs.specs.Laws.Carried.Slots.{LeavesLocals, lowest_left}
+use Rattle.written_runs.specs.Laws.Carried.Slots.{lowest_left}
 use Rattle.written_runs.specs.Laws.Carried.Turns.{turned_here}
 use Rattle.written_runs.specs.Laws.Carried.Waiting.{AtCarried, instruction_of}
 use Rattle.written_runs.specs.Laws.Carried.Works.{at_first, at_first_is, at_second, at_second_is, many_slots, many_stack, op, own, owned}
@@ -138,7 +139,7 @@ module _ (u : Setup) (laws : CarriedLaws u) (measure : ℕ) {one other : Run} {f
       stack_also =
           reverse-append (reverse others) (drop taken h.g.stack)
           ∙ ap (λ (values : List Value). reverse (drop taken h.g.stack) ++ values) (reverse-reverse others);
-      usable = usable_along u laws (instruction_of c) (owned u laws measure h c no_jump) h.below edge leaves.locals;
+      usable = usable_along u (facts_of laws) (instruction_of c) (owned u laws measure h c no_jump) h.below edge leaves.locals;
       uninit = edge.keeps;
       uninit_given = uninit;
     }
@@ -155,7 +156,7 @@ module _ (u : Setup) (laws : CarriedLaws u) (measure : ℕ) {one other : Run} {f
     moves_next =
         turns_by_moves u settle measure one other
         (moves_on u laws.turns measure h (resumed (less taken f) ones) (resumed (less taken h.g) others) edge.of_row.edge.state
-        (planned_along u laws {known = known} (instruction_of c) (owned u laws measure h c no_jump) h.below edge taken given leaves
+        (planned_along u (facts_of laws) {known = known} (instruction_of c) (owned u laws measure h c no_jump) h.below edge taken given leaves
         (resumed (less taken f) ones) (resumed (less taken h.g) others) along refl refl refl refl refl block.0
         (ap (λ (n : ℕ). n + 1) (own u laws measure h c no_jump).place
         ∙ sym (next_place u c.w f.place c.point c.route c.of_instruction.reached c.carried no_jump) ∙ block.1)

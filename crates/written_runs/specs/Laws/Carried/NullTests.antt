@@ -64,16 +64,16 @@ use Rattle.same_runs.specs.Laws.Names.{names_themselves}
 use Rattle.same_runs.specs.QuietMoves.{moved_at, moves, pushed}
 use Rattle.same_runs.specs.Renamings.{SameValue, no_values, same_null, same_reference}
 use Rattle.written_runs.specs.Inner.PlannedFrames.{KeepStack, KeptIn, of_own}
+use Rattle.written_runs.specs.Inner.Waiting.{LeavesLocals, ThrowsThere}
 use Rattle.written_runs.specs.Laws.Carried.Behind.{MovesAlong}
 use Rattle.written_runs.specs.Laws.Carried.EdgeBlocks.{EdgeBlock, next_block_at}
-use Rattle.written_runs.specs.Laws.Carried.Knowing.{CarriedLaws}
+use Rattle.written_runs.specs.Laws.Carried.Knowing.{CarriedLaws, facts_of}
 use Rattle.written_runs.specs.Laws.Carried.Landing.{planned_along, usable_along}
 use Rattle.written_runs.specs.Laws.Carried.MovesOn.{moves_on}
 use Rattle.written_runs.specs.Laws.Carried.Planned.{halfway_here, instruction_halfway, own_start}
 use Rattle.written_runs.specs.Laws.Carried.PlannedEdges.{EdgeThere, next_there, slots_long}
 use Rattle.written_runs.specs.Laws.Carried.Points.{first_point_is}
 use Rattle.written_runs.specs.Laws.Carried.Rows.{PlainRow, leaves_of, virtual_there}
-use Rattle.written_runs.specs.Laws.Carried.Slots.{LeavesLocals}
 use Rattle.written_runs.specs.Laws.Carried.Standing.{AtOwn, at_own, item_there, own_finished}
 use Rattle.written_runs.specs.Laws.Carried.Turns.{all_owned, turned_here}
 use Rattle.written_runs.specs.Laws.Carried.Waiting.{AtInstruction}
@@ -96,7 +96,7 @@ use Rattle.same_runs.specs.Laws.Raised.{raises_both}
 use Rattle.same_runs.specs.Renamings.{Names, NamesMore}
 use Rattle.same_runs.specs.SameFrames.{EndSame, SameCatches, Unwinds, catches_at, in_both}
 use Rattle.same_runs.specs.Simulations.{Quietly}
-use Rattle.written_runs.specs.Laws.Carried.Landing.{ThrowsThere, all_catches, catches_moved, first_catches}
+use Rattle.written_runs.specs.Laws.Carried.Landing.{all_catches, catches_moved, first_catches}
 use Rattle.written_runs.specs.Laws.Carried.PlannedEdges.{unusable_is_top}
 use Rattle.written_runs.specs.Laws.Carried.Turns.{compares_here, keeps_both, not_stuck_here, seen_here, top_owned, typed_here}
 use Rattle.written_runs.specs.Laws.Carried.Waiting.{instruction_more}
@@ -338,7 +338,7 @@ module _ (u : Setup) (laws : CarriedLaws u) {measure : ℕ} {one other : Run} (a
         sym (append-nil (take (length point.typed.stack - 0) (reverse f.stack))
         ∙ take_all (length point.typed.stack - 0) (reverse f.stack) (omega (arith, many, back)));
     stack_also = sym (append-nil (reverse h.g.stack));
-    usable = usable_along u laws c owned h.below edge leaves.locals;
+    usable = usable_along u (facts_of laws) c owned h.below edge leaves.locals;
     uninit = edge.keeps;
     uninit_given = λ count type source value told kept site got. absurd (none-some source told);
   }
@@ -370,7 +370,7 @@ module _ (u : Setup) (laws : CarriedLaws u) {measure : ℕ} {one other : Run} (a
   goes_on reference place found moved is_moved at_next =
       turns_by_moves u settle measure one other
       (moves_on u laws.turns measure h then (moved_to place) edge.of_row.edge.state
-      (planned_along u laws {known =
+      (planned_along u (facts_of laws) {known =
       a.t.along.known} c owned h.below edge 0 [] leaves then (moved_to place) (moves_there place) refl refl refl refl refl block.0
       (at_next ∙ block.1) (names_themselves h.names) lower) refl refl
       (turned ∙ ap (λ (value : Option Value). record one { world = test_step P (counted one) f a.ones value }) found) code moved at_block.is_code is_moved
@@ -566,10 +566,10 @@ module _ (u : Setup) (laws : CarriedLaws u) {measure : ℕ} {one other : Run} (a
           in_both ends (held_more grows h.held)
           (subst (λ (catches : List Catch). SameCatches (GoesFewer u h.virtuals a.t.along.known) more f thrower a.ones h.rest_also catches
           (catches_at Q thrower))
-          (sym (first_catches u laws {known = a.t.along.known} (instruction_more grows c) owned (names_grown grows h.below) throws (0 + third)))
+          (sym (first_catches u (facts_of laws) {known = a.t.along.known} (instruction_more grows c) owned (names_grown grows h.below) throws (0 + third)))
           (subst (SameCatches (GoesFewer u h.virtuals a.t.along.known) more f thrower a.ones h.rest_also _) (sym (catches_are Q thrower at_point throw_there))
           (catches_moved third h.g.stack
-          (all_catches u laws {known = a.t.along.known} (instruction_more grows c) owned (names_grown grows h.below) throws (0 + third)))))
+          (all_catches u (facts_of laws) {known = a.t.along.known} (instruction_more grows c) owned (names_grown grows h.below) throws (0 + third)))))
           (goes_below u laws.turns.frames h.virtuals a.t.along.known rest_owned (names_grown grows h.below))
           (λ no_initialiser.
           waiting_unwind u laws.turns.frames h.virtuals a.t.along.known (names_grown grows h.below)

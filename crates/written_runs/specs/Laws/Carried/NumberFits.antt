@@ -27,7 +27,7 @@ use Rattle.plan_flow.specs.Written.Blocks.{state_written}
 use Rattle.plan_flow.specs.Written.Routes.{Route}
 use Rattle.same_runs.specs.SameWorlds.{IsThrowing}
 use Rattle.virtual_state.specs.States.{State}
-use Rattle.written_runs.specs.Laws.Carried.Rows.{IsFolderObject, PlainRow}
+use Rattle.written_runs.specs.Laws.Carried.Rows.{IsFolderObject, PlainRow, never_throws}
 use Rattle.written_runs.specs.Laws.Carried.SimpleFits.{FitsHere, OpFits, asking_row, moving_row, throws_each, works_to}
 use Rattle.written_runs.specs.Laws.Carried.StuckFits.{GetsStuck, stuck_on_each}
 
@@ -254,7 +254,7 @@ module _ (P : Program) (s : PlanScope) (at : ℕ) (point : Point) (route : Route
         (moving_row here (row_operands (operation_in pure_operations opcode)) (plain_value ∷ []) refl refl refl))
         (λ place low operands value many is folder. rw (some) (ap (of_result memory)
         (reference_result meaning operands place folder.reference (few place low) (is ∙ ap Some folder.refers))))
-        (λ throwing. absurd (never (meaning_in pure_meanings opcode) _ throwing)) where
+        (never_throws (pure_arithmetic opcode) _ (λ throwing. never (meaning_in pure_meanings opcode) _ throwing) refl) where
           as_many : row_operands (operation_in pure_operations opcode) ≡ arity (pure_arithmetic opcode)
           as_many = found_meaning pure_operations pure_meanings opcode meaning pure_rows some ∙ sym (ap operands_of some)
 
@@ -288,7 +288,7 @@ module _ (P : Program) (s : PlanScope) (at : ℕ) (point : Point) (route : Route
         (λ place low operands value many is folder. rw (some)
         (float_stuck opcode operation.opcodes operation.gives operation.takes numbers operands place folder.reference
         (many ∙ sym as_many ∙ ap row_operands some) (is ∙ ap Some folder.refers)))
-        (λ throwing. absurd (never (operation_in float_operations opcode) _ throwing)) where
+        (never_throws (float_arithmetic opcode) _ (λ throwing. never (operation_in float_operations opcode) _ throwing) (rw (some) refl)) where
           numbers : TakesNumbers operation.takes
           numbers = found_operation float_operations opcode operation float_rows some
 

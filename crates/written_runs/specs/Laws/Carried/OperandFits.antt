@@ -35,8 +35,8 @@ use Rattle.same_runs.specs.SameWorlds.{IsThrowing}
 use Rattle.virtual_state.specs.States.{State}
 use Rattle.virtual_state.specs.declared.slot.Slot.{Slot}
 use Rattle.virtual_state.specs.declared.slot.Slot.TheVariants.{Plain, Virt, Unusable}
-use Rattle.written_runs.specs.Laws.Carried.Landing.{ThrowsThere}
-use Rattle.written_runs.specs.Laws.Carried.Rows.{IsFolderObject, PlainRow, fits_plainly, none_plain}
+use Rattle.written_runs.specs.Inner.Waiting.{ThrowsThere}
+use Rattle.written_runs.specs.Laws.Carried.Rows.{IsFolderObject, PlainRow, fits_plainly, never_throws, none_plain}
 use Rattle.written_runs.specs.Laws.Carried.SimpleFits.{FitsHere, OpFits, falls_is, moving_row, none_meant, row_is, works_to}
 
 -- a place that holds no virtual object is read as a plain one
@@ -269,6 +269,6 @@ module _ (P : Program) (s : PlanScope) (at : ℕ) (point : Point) (route : Route
         (ap (λ (n : ℕ). held (state_written route) (operand point.typed n)) (sym (only_first place low)) ∙ virtual)
         (ap (instance_template s (held (state_written route) (operand point.typed 0))) (sym is ∙ same) ∙ here.none))
         (none_plain at (place_types point.typed))
-        (λ throwing_so. absurd (instance_never P memory name (reverse (take 1 stack)) throwing_so)) where
+        (never_throws (instance_of name) _ (instance_never P memory name (reverse (take 1 stack))) refl) where
           no_virtual : (slot : Slot) (site : ℕ) → slot ≡ Virt site → instance_template s slot (Some name) ≡ None → ⊥
           no_virtual slot site virtual none = none-some _ (sym (ap (λ (one : Slot). instance_template s one (Some name)) (sym virtual) ∙ none))

@@ -228,7 +228,7 @@ module _ (u : Setup) (settle : SettleLaws u) {measure : ℕ} {one other : Run} (
         subst (λ (state : State). IsMet u known_here w point state a.f)
         (without_none route.state (has route.made) (λ site. ap (λ (made : List ℕ). has made site) unmade)) (met_here halfway_here is_state)
     by (stays p r here of_instruction met) = of_route p r of_instruction.reached met
-    by (waits p r here of_instruction met carried) = of_route p r of_instruction.reached met
+    by (waits p r here of_instruction met carried awaits) = of_route p r of_instruction.reached met
 
   -- an instruction of which no template is written is written as it is
   abbrev pub is_carried : (class : ℕ) (instr : Instr) → point.instr ≡ Of class instr → written_at a class instr ≡ None → IsCarried u w a.f.place point route

@@ -34,20 +34,11 @@ use Rattle.same_runs.specs.Flats.{flat_catch, flat_code, flat_item, flat_point, 
 use Rattle.same_runs.specs.Laws.Numbered.{slice_numbered}
 use Rattle.written_runs.specs.Inner.PlannedFrames.{IsCarried, IsReached, blocks_in, scope_in}
 use Rattle.written_runs.specs.Inner.Setup.{Setup, first, second}
+use Rattle.written_runs.specs.Inner.Waiting.{IsNoJump}
 use Rattle.written_runs.specs.Laws.Carried.Standing.{AtOwn, item_there, own_finished}
 use Rattle.written_runs.specs.Laws.Settling.{ends_plain}
 
 -- ---- instructions that do not jump
-
-abbrev pub IsNoJump : Instr → Type 0
-IsNoJump (If opcode to) = ⊥
-IsNoJump (If2 opcode to) = ⊥
-IsNoJump (IfSame opcode to) = ⊥
-IsNoJump (IfNull opcode to) = ⊥
-IsNoJump (Goto to) = ⊥
-IsNoJump (Table low other to) = ⊥
-IsNoJump (Lookup other pairs) = ⊥
-IsNoJump instr = Unit {0}
 
 -- what follows of it, and that its operation is the same wherever it stands
 pub record StaysStraight (instr : Instr) : Type 0 where

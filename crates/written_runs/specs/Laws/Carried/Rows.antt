@@ -1,5 +1,5 @@
 -- The rows of instructions that are written as they are: what they take and give, and that their operands are plain.
-use Rattle.std.proofs.Common.{◌≡◌, ◌≤◌, ◌<◌, ◌+◌, ◌-◌, ◌++◌, ℕ, zero, suc, true, List, [], ◌∷◌, drop, length, map, reverse, slice_get, Option, Some, None, IsTrue, refl, sym, ap, subst, ◌∙◌, arith}
+use Rattle.std.proofs.Common.{◌≡◌, ◌⊎◌, inl, inr, ◌≤◌, ◌<◌, ◌+◌, ◌-◌, ◌++◌, ℕ, zero, suc, false, true, List, [], ◌∷◌, drop, length, map, reverse, slice_get, Option, Some, None, IsTrue, refl, sym, ap, subst, ◌∙◌, arith}
 use Rattle.std.proofs.lemmas.Bool.{false≢true}
 use Rattle.std.proofs.lemmas.List.{length-reverse, reverse-append}
 use Rattle.std.proofs.lemmas.Option.{none-some, same_Some, slice_get_within}
@@ -25,7 +25,7 @@ use Rattle.plan_flow.specs.Written.Blocks.{state_written}
 use Rattle.plan_flow.specs.Written.Routes.{Route}
 use Rattle.plan_flow.specs.Written.WrittenPrograms.{WrittenMethod}
 use Rattle.plan_flow.specs.declared.edge.EdgeKind.TheVariants as edges
-use Rattle.same_runs.specs.SameWorlds.{IsThrowing}
+use Rattle.same_runs.specs.SameWorlds.{IsAwaiting, IsThrowing}
 use Rattle.virtual_state.specs.Sites.{has}
 use Rattle.virtual_state.specs.States.{State}
 use Rattle.virtual_state.specs.declared.slot.Slot.{Slot}
@@ -34,9 +34,9 @@ use Rattle.virtual_state.specs.declared.slot.VObject.{VObject}
 use Rattle.written_runs.specs.Inner.PlannedFrames.{IsMet, IsOfSite, Known}
 use Rattle.written_runs.specs.Inner.Setup.{Setup}
 use Rattle.written_runs.specs.Inner.Together.{AreKnown}
-use Rattle.written_runs.specs.Laws.Carried.Landing.{ThrowsThere}
+use Rattle.written_runs.specs.Inner.Waiting.{LeavesLocals, ThrowsThere, may_throw}
 use Rattle.written_runs.specs.Laws.Carried.Operands.{AreReal}
-use Rattle.written_runs.specs.Laws.Carried.Slots.{LeavesLocals, got_left, got_right}
+use Rattle.written_runs.specs.Laws.Carried.Slots.{got_left, got_right}
 use Rattle.written_runs.specs.Laws.Carried.Works.{GivesThere, OperationFits}
 use Rattle.written_runs.specs.Laws.KnownClasses.{met_left}
 use Rattle.written_runs.specs.Laws.Templates.Stacks.{get_dropped}
@@ -227,6 +227,15 @@ none_plain at types zero type source is kept = of_plain (subst (KeepsType at typ
   of_plain impossible = elim impossible [ ]
 none_plain at types (suc number) type source is kept = none-some source is
 
+-- an operation throws, or waits for what may throw
+abbrev pub MayThrow : Op → Completion → Type 0
+MayThrow op w = IsThrowing w ⊎ (IsAwaiting w × IsTrue (may_throw op))
+
+-- one that throws nothing, and waits for nothing that may throw
+pub never_throws : {A : Type 0} (op : Op) (w : Completion) → (IsThrowing w → ⊥) → may_throw op ≡ false → MayThrow op w → A
+never_throws op w never quiet (inl throwing) = absurd (never throwing)
+never_throws op w never quiet (inr waits) = absurd (false≢true (sym quiet ∙ waits.1))
+
 -- An operation whose operands are plain, which gives a plain value or none, and throws only where its row says so.
 pub fits_plainly : {s : PlanScope} {at : ℕ} {point : Point} {route : Route} {given : List Source} (op : Op) (stack : List Value) (w : Completion)
     (r : PlainRow s at point (state_written route) (arity op) given)
@@ -238,11 +247,21 @@ pub fits_plainly : {s : PlanScope} {at : ℕ} {point : Point} {route : Route} {g
     → slice_get given number ≡ Some source
     → KeepsType at (place_types point.typed) type source
     → ⊥)
-    → (IsThrowing w → ThrowsThere s at point route)
+    → (MayThrow op w → ThrowsThere s at point route)
     → OperationFits s at point route op stack w
-fits_plainly {point = point} {route = route} op stack w r many all enough plain none throws = record {
+fits_plainly {point = point} {route = route} {given = given} op stack w r many all enough plain none throws = record {
   real = real_operands point (state_written route) (arity op) (length stack) many all enough plain;
   given = λ ones memory is.
       gives_of r ones (omega (arith, many, enough)) (λ number type source value there kept site got. absurd (none number type source there kept));
-  throws = throws;
+  throws = λ throwing. throws (inl throwing);
+  waits = λ waits. record {
+    falls = r.falls;
+    opens = ap (λ (row : PlanRow). is_open (state_written route) row.next) r.is_row ∙ r.opens;
+    taken = arity op;
+    many = ap (λ (n : ℕ). n - arity op) many;
+    given = given;
+    leaves = leaves_of r (omega (arith, many, enough));
+    none_given = none;
+  };
+  pends = λ waits may. throws (inr (waits, may));
 }

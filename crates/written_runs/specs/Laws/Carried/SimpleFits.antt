@@ -51,11 +51,11 @@ use Rattle.plan_flow.specs.Written.Blocks.{state_written}
 use Rattle.plan_flow.specs.Written.Routes.{Route}
 use Rattle.plan_flow.specs.Written.Templates.{new_template, template}
 use Rattle.same_runs.specs.Laws.Operations.{WorksOnOperands}
-use Rattle.same_runs.specs.SameWorlds.{IsThrowing}
+use Rattle.same_runs.specs.SameWorlds.{IsAwaiting, IsThrowing}
 use Rattle.virtual_state.specs.States.{State}
 use Rattle.virtual_state.specs.declared.slot.Slot.TheVariants.{Plain, Virt}
-use Rattle.written_runs.specs.Laws.Carried.Landing.{ThrowsThere}
-use Rattle.written_runs.specs.Laws.Carried.Rows.{IsFolderObject, PlainRow, asked_plain, fits_plainly, none_plain, real_operands}
+use Rattle.written_runs.specs.Inner.Waiting.{ThrowsThere, may_throw}
+use Rattle.written_runs.specs.Laws.Carried.Rows.{IsFolderObject, PlainRow, asked_plain, fits_plainly, never_throws, none_plain, real_operands}
 use Rattle.written_runs.specs.Laws.Carried.Works.{OperationFits}
 
 -- ---- what these come to
@@ -228,13 +228,14 @@ module _ {P : Program} {s : PlanScope} {at : ℕ} {point : Point} {route : Route
       → instr_row s at point.typed class instr ≡ moving point.typed 0 (plain_value ∷ [])
       → falls_through instr ≡ true
       → (IsThrowing (works_to P memory stack op) → ⊥)
+      → may_throw op ≡ false
       → Fits op
-  alone op none is falls never works enough not_stuck =
+  alone op none is falls never quiet works enough not_stuck =
       fits_plainly op stack (works_to P memory stack op)
       (subst (λ (n : ℕ). PlainRow s at point before n (plain_value ∷ [])) (sym none) (moving_row 0 (plain_value ∷ []) is refl falls))
       here.many here.slots enough
       (λ number site low virtual. absurd (omega (arith, low, none)))
-      (none_plain at (place_types point.typed)) (λ throwing. absurd (never throwing))
+      (none_plain at (place_types point.typed)) (never_throws op _ never quiet)
 
   pub none_meant : Fits meaningless
   none_meant works enough not_stuck = absurd works
@@ -256,18 +257,18 @@ module _ {P : Program} {s : PlanScope} {at : ℕ} {point : Point} {route : Route
       → (pool : Constants) (constant : Option PoolConst)
       → Fits (constant_op pool constant)
   fits_constant is falls pool None = none_meant
-  fits_constant is falls pool (Some (consts.Integer number)) = alone _ refl is falls (λ throwing. throwing)
-  fits_constant is falls pool (Some (consts.Long number)) = alone _ refl is falls (λ throwing. throwing)
-  fits_constant is falls pool (Some (consts.Float bits)) = alone _ refl is falls (λ throwing. throwing)
-  fits_constant is falls pool (Some (consts.Double bits)) = alone _ refl is falls (λ throwing. throwing)
+  fits_constant is falls pool (Some (consts.Integer number)) = alone _ refl is falls (λ throwing. throwing) refl
+  fits_constant is falls pool (Some (consts.Long number)) = alone _ refl is falls (λ throwing. throwing) refl
+  fits_constant is falls pool (Some (consts.Float bits)) = alone _ refl is falls (λ throwing. throwing) refl
+  fits_constant is falls pool (Some (consts.Double bits)) = alone _ refl is falls (λ throwing. throwing) refl
   fits_constant is falls pool (Some (consts.String text)) =
-      fits_text (utf8_at pool text) _ (λ constant. alone (push_constant constant) refl is falls (λ throwing. throwing))
+      fits_text (utf8_at pool text) _ (λ constant. alone (push_constant constant) refl is falls (λ throwing. throwing) refl)
   fits_constant is falls pool (Some (consts.Class name)) =
-      fits_text (utf8_at pool name) _ (λ constant. alone (push_constant constant) refl is falls (λ throwing. throwing))
+      fits_text (utf8_at pool name) _ (λ constant. alone (push_constant constant) refl is falls (λ throwing. throwing) refl)
   fits_constant is falls pool (Some (consts.MethodType desc)) =
-      fits_text (utf8_at pool desc) _ (λ constant. alone (push_constant constant) refl is falls (λ throwing. throwing))
+      fits_text (utf8_at pool desc) _ (λ constant. alone (push_constant constant) refl is falls (λ throwing. throwing) refl)
   fits_constant is falls pool (Some (consts.MethodHandle kind reference)) =
-      fits_handle (handle_of pool kind reference) (λ constant. alone (push_constant constant) refl is falls (λ throwing. throwing))
+      fits_handle (handle_of pool kind reference) (λ constant. alone (push_constant constant) refl is falls (λ throwing. throwing) refl)
   fits_constant is falls pool (Some (consts.Utf8 text)) = none_meant
   fits_constant is falls pool (Some (consts.Fieldref owner member)) = none_meant
   fits_constant is falls pool (Some (consts.Methodref owner member)) = none_meant
@@ -325,7 +326,7 @@ module _ (P : Program) (s : PlanScope) (at : ℕ) (point : Point) (route : Route
       → OpFits P s at point route memory stack (instr_op P.links number scope instr)
 
   pub fits_const : (imm : Imm) → FitsInstr (Const imm)
-  fits_const imm here = alone here (push_value (value_of_imm imm)) refl refl refl (λ throwing. throwing)
+  fits_const imm here = alone here (push_value (value_of_imm imm)) refl refl refl (λ throwing. throwing) refl
 
   pub fits_ldc : (index : ℕ) → FitsInstr (Ldc index)
   fits_ldc index here = fits_constant here refl refl scope.pool (constant_at scope.pool index)
@@ -335,7 +336,7 @@ module _ (P : Program) (s : PlanScope) (at : ℕ) (point : Point) (route : Route
 
   pub fits_get_static : (index : ℕ) → FitsInstr (GetStatic index)
   fits_get_static index here =
-      fits_reference here index get_static (λ r is. alone here (get_static r) refl refl refl (static_never P memory (P.links.field r)))
+      fits_reference here index get_static (λ r is. alone here (get_static r) refl refl refl (static_never P memory (P.links.field r)) refl)
 
   pub fits_put_static : (index : ℕ) → FitsInstr (PutStatic index)
   fits_put_static index here =
@@ -352,6 +353,8 @@ module _ (P : Program) (s : PlanScope) (at : ℕ) (point : Point) (route : Route
         (λ place site low virtual. asks_each here 1 [] refl place site low virtual);
     given = λ ones after is. absurd (throw_gives _ ones after is);
     throws = λ throwing. throws_each here 1 [] (handed_over point.typed 1) refl;
+    waits = λ waits. absurd (throw_waits _ waits);
+    pends = λ waits may. throws_each here 1 [] (handed_over point.typed 1) refl;
   } where
     of_object : (reference : ℕ) (ones : List Value) (after : Memory) (object : Option Object) → object_at memory.heap reference ≡ object
         → throw_work P memory (Ref reference ∷ []) ≡ gives after ones
@@ -373,6 +376,23 @@ module _ (P : Program) (s : PlanScope) (at : ℕ) (point : Point) (route : Route
     throw_gives (Null ∷ other ∷ operands) ones after is = cc is
     throw_gives (Ref reference ∷ other ∷ operands) ones after is = cc is
 
+    throw_waits : (operands : List Value) → IsAwaiting (throw_work P memory operands) → ⊥
+    throw_waits (Null ∷ []) waits = waits
+    throw_waits (Ref reference ∷ []) waits = of_thrown (object_at memory.heap reference) refl where
+      of_thrown : (object : Option Object) → object_at memory.heap reference ≡ object → ⊥
+      of_thrown None none = let no : ⊥ = rw (none) at waits in no
+      of_thrown (Some object) some = by (shape_conforms P object.shape throwable) refl where
+        by : (fits : Bool) → shape_conforms P object.shape throwable ≡ fits → ⊥
+        by true told = let no : ⊥ = rw (some, told) at waits in no
+        by false told = let no : ⊥ = rw (some, told) at waits in no
+    throw_waits [] waits = waits
+    throw_waits (Int n ∷ operands) waits = waits
+    throw_waits (Long n ∷ operands) waits = waits
+    throw_waits (Float n ∷ operands) waits = waits
+    throw_waits (Double n ∷ operands) waits = waits
+    throw_waits (Null ∷ other ∷ operands) waits = waits
+    throw_waits (Ref reference ∷ other ∷ operands) waits = waits
+
   pub fits_new : (index : ℕ) → FitsInstr (New index)
   fits_new index here = by (class_at scope.pool index) where
     no_site : (site : Option ℕ) → new_template s site ≡ None → site ≡ None
@@ -384,7 +404,7 @@ module _ (P : Program) (s : PlanScope) (at : ℕ) (point : Point) (route : Route
 
     by : (name : Option Name) → OpFits P s at point route memory stack (naming name new_object)
     by None = none_meant here
-    by (Some name) = alone here (new_object name) refl row refl (new_never P memory name)
+    by (Some name) = alone here (new_object name) refl row refl (new_never P memory name) refl
 
   pub fits_dynamic : (index : ℕ) → FitsInstr (Dynamic index)
   fits_dynamic index here = of_constant (constant_at scope.pool index) refl where

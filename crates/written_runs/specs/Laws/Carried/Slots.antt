@@ -15,6 +15,7 @@ use Rattle.plan_flow.specs.PlanTable.{held_from}
 use Rattle.virtual_state.specs.States.{State}
 use Rattle.virtual_state.specs.declared.slot.Slot.{Slot}
 use Rattle.virtual_state.specs.declared.slot.Slot.TheVariants.{Plain, Virt, Unusable}
+use Rattle.written_runs.specs.Inner.Waiting.{LeavesLocals}
 use Rattle.written_runs.specs.Laws.Templates.Stacks.{as_read, held_slots}
 use Rattle.written_runs.specs.VirtualObjects.{local_slots, stack_slots}
 
@@ -126,16 +127,6 @@ fit_stack_same (type ∷ types) [] same = absurd (omega (arith, same))
 fit_stack_same (type ∷ types) (slot ∷ slots) same = ap (λ (rest : List Slot). slot ∷ rest) (fit_stack_same types slots (omega (arith, same)))
 
 -- ---- what the row of an edge says
-
--- an edge on which the locals stay, so many operands are gone, and plain values are given; no virtual object changes
-pub record LeavesLocals (s : PlanScope) (at : ℕ) (point : Point) (before : State) (row : RowEdge) (taken : ℕ) (given : List Source)
-    : Type 0 where
-  pub enough : taken ≤ length point.typed.stack
-  pub locals : edge_locals (row_of_point s at point) (length point.typed.locals) row.by ≡ held_from 0 (length point.typed.locals)
-  pub stack : edge_stack (row_of_point s at point) row.by
-      ≡ held_from (length point.typed.locals) (length point.typed.stack - taken) ++ given
-  pub plain : slots_from s before (row_of_point s at point).change given ≡ map (λ source. Plain) given
-  pub objects : edge_objects s before (row_of_point s at point) row.by ≡ before.objects
 
 -- The same of the stack and the objects alone.
 pub record LeavesStack (s : PlanScope) (at : ℕ) (point : Point) (before : State) (row : RowEdge) (taken : ℕ) (given : List Source)

@@ -38,15 +38,16 @@ use Rattle.virtual_state.specs.declared.slot.Slot.{Slot}
 use Rattle.virtual_state.specs.declared.slot.Slot.TheVariants.{Plain, Unusable}
 use Rattle.written_runs.specs.Inner.PlannedFrames.{KeepStack, Known, blocks_in, scope_in}
 use Rattle.written_runs.specs.Inner.Setup.{Setup, first}
+use Rattle.written_runs.specs.Inner.Waiting.{IsNoJump}
 use Rattle.written_runs.specs.Laws.Carried.Behind.{MovesStack}
 use Rattle.written_runs.specs.Laws.Carried.EdgeBlocks.{EdgeBlock, next_block_at}
-use Rattle.written_runs.specs.Laws.Carried.Knowing.{CarriedLaws}
+use Rattle.written_runs.specs.Laws.Carried.Knowing.{CarriedLaws, facts_of}
 use Rattle.written_runs.specs.Laws.Carried.Landing.{planned_over}
 use Rattle.written_runs.specs.Laws.Carried.MoveTurns.{moved_to, turned_to}
 use Rattle.written_runs.specs.Laws.Carried.MovesOn.{moves_on}
 use Rattle.written_runs.specs.Laws.Carried.Operands.{AreReal, HaveOperands, have_operands}
 use Rattle.written_runs.specs.Laws.Carried.PlannedEdges.{EdgeThere, all_at, next_there, slots_long, unusable_is_top}
-use Rattle.written_runs.specs.Laws.Carried.Points.{IsNoJump, next_place}
+use Rattle.written_runs.specs.Laws.Carried.Points.{next_place}
 use Rattle.written_runs.specs.Laws.Carried.Slots.{LeavesStack, edge_slots, got_left, lowest_left}
 use Rattle.written_runs.specs.Laws.Carried.StoreOver.{StoresPlain, stores_over}
 use Rattle.written_runs.specs.Laws.Carried.Waiting.{AtCarried, instruction_of}
@@ -249,7 +250,7 @@ module _ (u : Setup) (laws : CarriedLaws u) (measure : ℕ) {one other : Run} {f
     stores_next =
         turns_by_moves u settle measure one other
         (moves_on u laws.turns measure h later later_also edge.of_row.edge.state
-        (planned_over u laws {known = known} (instruction_of c) (owned u laws measure h c no_jump) h.below edge taken [] leaves later later_also moves
+        (planned_over u (facts_of laws) {known = known} (instruction_of c) (owned u laws measure h c no_jump) h.below edge taken [] leaves later later_also moves
         (stores_over stores_plain c.tells c.keeps) refl refl refl refl refl block.0
         (ap (λ (n : ℕ). n + 1) (own u laws measure h c no_jump).place
         ∙ sym (next_place u c.w f.place c.point c.route c.of_instruction.reached c.carried no_jump) ∙ block.1)

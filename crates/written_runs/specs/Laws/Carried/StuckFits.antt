@@ -28,9 +28,9 @@ use Rattle.plan_flow.specs.Written.Routes.{Route}
 use Rattle.same_runs.specs.SameWorlds.{IsThrowing}
 use Rattle.virtual_state.specs.States.{State}
 use Rattle.virtual_state.specs.declared.slot.Slot.TheVariants.{Virt}
-use Rattle.written_runs.specs.Laws.Carried.Landing.{ThrowsThere}
+use Rattle.written_runs.specs.Inner.Waiting.{ThrowsThere}
 use Rattle.written_runs.specs.Laws.Carried.OperandFits.{IsOfThree, is_first_of_three, is_second_of_three, is_third_of_three, of_three}
-use Rattle.written_runs.specs.Laws.Carried.Rows.{IsFolderObject, PlainRow, asked_plain, fits_plainly, none_plain, reverse_get}
+use Rattle.written_runs.specs.Laws.Carried.Rows.{IsFolderObject, MayThrow, PlainRow, asked_plain, fits_plainly, none_plain, reverse_get}
 use Rattle.written_runs.specs.Laws.Carried.SimpleFits.{FitsHere, OpFits, asking_row, none_meant, row_is, throws_each, works_to}
 use Rattle.written_runs.specs.Laws.Templates.Stacks.{drop_at, get_in_take}
 
@@ -78,7 +78,7 @@ module _ {P : Program} {s : PlanScope} {at : ℕ} {point : Point} {route : Route
   -- an operation that is stuck on each, and gives a plain value
   pub stuck_on_each : (op : Op) (r : PlainRow s at point before (arity op) (plain_value ∷ []))
       → ((place : ℕ) → place < arity op → GetsStuck P memory op (arity op) place)
-      → (IsThrowing (works_to P memory stack op) → ThrowsThere s at point route)
+      → (MayThrow op (works_to P memory stack op) → ThrowsThere s at point route)
       → Fits op
   stuck_on_each op r gets_stuck throws works enough not_stuck =
       fits_plainly op stack (works_to P memory stack op) r here.many here.slots enough

@@ -42,6 +42,7 @@ use Rattle.virtual_state.specs.States.{State}
 use Rattle.virtual_state.specs.declared.slot.Slot.TheVariants.{Virt}
 use Rattle.written_runs.specs.Inner.PlannedFrames.{Known, blocks_in, scope_in}
 use Rattle.written_runs.specs.Inner.Setup.{Setup, first}
+use Rattle.written_runs.specs.Inner.Waiting.{LeavesLocals}
 use Rattle.written_runs.specs.Laws.Carried.EdgeBlocks.{EdgeBlock, jump_block_at}
 use Rattle.written_runs.specs.Laws.Carried.JumpEdges.{all_slots, code_here, have_here, many_here, moves_edge, not_stuck_so, number_here, own_here, point_here, then_at}
 use Rattle.written_runs.specs.Laws.Carried.JumpPoints.{alone_item, its_item, jump_item_there, one_item}
@@ -50,7 +51,6 @@ use Rattle.written_runs.specs.Laws.Carried.Landing.{number_stays}
 use Rattle.written_runs.specs.Laws.Carried.Operands.{AreReal}
 use Rattle.written_runs.specs.Laws.Carried.PlannedEdges.{EdgeThere, jump_there}
 use Rattle.written_runs.specs.Laws.Carried.Rows.{real_operands}
-use Rattle.written_runs.specs.Laws.Carried.Slots.{LeavesLocals}
 use Rattle.written_runs.specs.Laws.Carried.Waiting.{AtCarried}
 use Rattle.written_runs.specs.Laws.Halfway.{Halfway}
 use Rattle.written_runs.specs.Laws.Settling.{SettleLaws}

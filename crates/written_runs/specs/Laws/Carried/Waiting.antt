@@ -15,6 +15,7 @@ use Rattle.virtual_state.specs.States.{State, is_present}
 use Rattle.written_runs.specs.Inner.PlannedFrames.{AtBlock, InPlanned, IsCarried, IsInstructionOf, IsMet, Keeps, Known, KeptIn, Moment, arrives, scope_in, stays, waits}
 use Rattle.written_runs.specs.Inner.Setup.{Setup, first}
 use Rattle.written_runs.specs.Inner.Standing.{IsWaiting}
+use Rattle.written_runs.specs.Inner.Waiting.{Awaits}
 use Rattle.written_runs.specs.Laws.Carried.Operands.{HaveOperands}
 use Rattle.written_runs.specs.Laws.Carried.Slots.{got_before, lowest_left}
 use Rattle.written_runs.specs.Laws.StandingMore.{keeps_more}
@@ -92,38 +93,45 @@ instruction_more {f = f} {g = g} grows c = record {
       c.keeps;
 }
 
--- a frame that waits is one
+-- the same of a frame that waits there
+pub record WaitsCarried (u : Setup) (virtuals : Virtuals) (known : Known) (names : Names) (frame : ℕ) (f g : MethodState) : Type 0 where
+  pub c : AtCarried u virtuals known names frame f g
+  pub awaits : Awaits u c.w f c.point c.route c.carried.instr
+
 pub at_waiting : {u : Setup} {virtuals : Virtuals} {known : Known} {names : Names} {frame : ℕ} {f g : MethodState}
     (in_planned : InPlanned u virtuals known names frame f g)
     → IsWaiting in_planned.moment
-    → AtCarried u virtuals known names frame f g
+    → WaitsCarried u virtuals known names frame f g
 at_waiting {u = u} {virtuals = virtuals} {known = known} {names = names} {frame = frame} {f = f} {g = g} in_planned waiting =
     by in_planned.moment waiting where
-      by : (moment : Moment u known in_planned.one f g in_planned.block) → IsWaiting moment → AtCarried u virtuals known names frame f g
+      by : (moment : Moment u known in_planned.one f g in_planned.block) → IsWaiting moment → WaitsCarried u virtuals known names frame f g
       by (arrives here told) waits_there = absurd waits_there
       by (stays point route here of_instruction met) waits_there = absurd waits_there
-      by (waits point route here of_instruction met carried) waits_there = record {
-        w = in_planned.one;
-        is_written = in_planned.is_written;
-        at = in_planned.at;
-        held = in_planned.held;
-        point = point;
-        route = route;
-        block = in_planned.block;
-        here = here;
-        of_instruction = of_instruction;
-        met = met;
-        carried = carried;
-        tells =
-            subst (λ (p : Point). Tells (first u) (scope_in u in_planned.one) virtuals frame p (state_written route) f) same_point
-            (subst (λ (state : State). Tells (first u) (scope_in u in_planned.one) virtuals frame in_planned.point state f) same_state
-            in_planned.tells);
-        keeps =
-            subst (λ (p : Point). Keeps in_planned.one.flat names virtuals frame [] p (state_written route) f g) same_point
-            (subst (λ (state : State). Keeps in_planned.one.flat names virtuals frame [] in_planned.point state f g) same_state
-            in_planned.keeps);
-        own = λ number virtual is of_frame.
-            subst (λ (state : State). IsTrue (is_present state.objects virtual.site)) same_state (in_planned.own number virtual is of_frame);
+      by (waits point route here of_instruction met carried awaits) waits_there = record {
+        awaits = awaits;
+        c = record {
+          w = in_planned.one;
+          is_written = in_planned.is_written;
+          at = in_planned.at;
+          held = in_planned.held;
+          point = point;
+          route = route;
+          block = in_planned.block;
+          here = here;
+          of_instruction = of_instruction;
+          met = met;
+          carried = carried;
+          tells =
+              subst (λ (p : Point). Tells (first u) (scope_in u in_planned.one) virtuals frame p (state_written route) f) same_point
+              (subst (λ (state : State). Tells (first u) (scope_in u in_planned.one) virtuals frame in_planned.point state f) same_state
+              in_planned.tells);
+          keeps =
+              subst (λ (p : Point). Keeps in_planned.one.flat names virtuals frame [] p (state_written route) f g) same_point
+              (subst (λ (state : State). Keeps in_planned.one.flat names virtuals frame [] in_planned.point state f g) same_state
+              in_planned.keeps);
+          own = λ number virtual is of_frame.
+              subst (λ (state : State). IsTrue (is_present state.objects virtual.site)) same_state (in_planned.own number virtual is of_frame);
+        };
       } where
         same_state : in_planned.block.state ≡ state_written route
         same_state = ap (λ (b : Block). b.state) of_instruction.is
@@ -162,12 +170,13 @@ module _ {u : Setup} {virtuals : Virtuals} {known : Known} {names : Names} {fram
   stays_with = planned_with (stays c.point c.route c.here c.of_instruction c.met)
 
   -- without its operands
-  pub waits_with : InPlanned u virtuals known names frame f g
-  waits_with = planned_with (waits c.point c.route c.here c.of_instruction c.met c.carried)
+  module _ (awaits : Awaits u c.w f c.point c.route c.carried.instr) where
+    pub waits_with : InPlanned u virtuals known names frame f g
+    waits_with = planned_with (waits c.point c.route c.here c.of_instruction c.met c.carried awaits)
 
-  pub waits_there : IsWaiting waits_with.moment
-  unfolding waits_with planned_with
-  waits_there = tt
+    pub waits_there : IsWaiting waits_with.moment
+    unfolding waits_with planned_with
+    waits_there = tt
 
 -- ---- less operands
 

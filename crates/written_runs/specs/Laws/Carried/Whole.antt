@@ -29,6 +29,7 @@ use Rattle.same_runs.specs.Laws.Operations.{step_works}
 use Rattle.member_link.specs.Machine.CallSteps.{is_object_init}
 use Rattle.written_runs.specs.Inner.PlannedFrames.{scope_in}
 use Rattle.written_runs.specs.Inner.Setup.{Setup, first}
+use Rattle.written_runs.specs.Inner.Waiting.{IsNoJump}
 use Rattle.written_runs.specs.Laws.Carried.Knowing.{CarriedLaws}
 use Rattle.written_runs.specs.Laws.Carried.IncrementTurns.{increment_turn}
 use Rattle.written_runs.specs.Laws.Carried.StoreInstrs.{store_turn}
@@ -42,7 +43,7 @@ use Rattle.written_runs.specs.Laws.Carried.NullTests.{null_test_turn}
 use Rattle.written_runs.specs.Laws.Carried.OperandFits.{fits_enter, fits_instance_of, fits_leave, fits_length, fits_new_array, fits_new_ref_array}
 use Rattle.written_runs.specs.Laws.Carried.Planned.{carried_here, known_here, knowing_here, met_there, own_start}
 use Rattle.written_runs.specs.Laws.Carried.PlannedEdges.{asks_none, slots_long}
-use Rattle.written_runs.specs.Laws.Carried.Points.{IsNoJump, same_pool}
+use Rattle.written_runs.specs.Laws.Carried.Points.{same_pool}
 use Rattle.written_runs.specs.Laws.Carried.Rows.{reverse_get, virtual_operand}
 use Rattle.written_runs.specs.Laws.Carried.SimpleFits.{FitsHere, OpFits, fits_const, fits_dynamic, fits_get_static, fits_invoke, fits_ldc, fits_ldc2, fits_new, fits_put_static, fits_throw, works_to}
 use Rattle.written_runs.specs.Laws.Carried.SwitchInstrs.{lookup_turn, table_turn}

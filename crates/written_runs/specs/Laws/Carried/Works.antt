@@ -46,22 +46,23 @@ use Rattle.same_runs.specs.Laws.Units.{same_arguments}
 use Rattle.same_runs.specs.Renamings.{Names, NamesMore, SameValues, none_held}
 use Rattle.same_runs.specs.SameFrames.{EndSame, Unwinds, in_both}
 use Rattle.same_runs.specs.SamePrograms.{same_op}
-use Rattle.same_runs.specs.SameWorlds.{Goes, IsThrowing}
+use Rattle.same_runs.specs.SameWorlds.{Goes, IsAwaiting, IsThrowing}
 use Rattle.typed_runs.specs.Conforming.{AllConform, and_value, no_values}
 use Rattle.virtual_state.specs.States.{State}
 use Rattle.same_runs.specs.Laws.MethodPoints.{ends_there}
 use Rattle.written_runs.specs.Inner.PlannedFrames.{KeepStack, Known, blocks_in, scope_in}
 use Rattle.written_runs.specs.Inner.Setup.{Setup, first, second}
 use Rattle.written_runs.specs.Inner.Standing.{Stands, beginnings_stand, libraries_stand, planned_stand, stands}
+use Rattle.written_runs.specs.Inner.Waiting.{Awaits, IsNoJump, LeavesLocals, ThrowsThere, WaitsThere, may_throw}
 use Rattle.written_runs.specs.Laws.Carried.Arriving.{owned_with}
 use Rattle.written_runs.specs.Laws.Carried.Behind.{MovesAlong}
 use Rattle.written_runs.specs.Laws.Carried.EdgeBlocks.{EdgeBlock, next_block_at}
-use Rattle.written_runs.specs.Laws.Carried.Knowing.{CarriedLaws}
-use Rattle.written_runs.specs.Laws.Carried.Landing.{ThrowsThere, carried_catches, goes_along, own_there, usable_along}
+use Rattle.written_runs.specs.Laws.Carried.Knowing.{CarriedLaws, facts_of}
+use Rattle.written_runs.specs.Laws.Carried.Landing.{carried_catches, goes_along, own_there, usable_along}
 use Rattle.written_runs.specs.Laws.Carried.Operands.{AreReal, HaveOperands, have_operands}
 use Rattle.written_runs.specs.Laws.Carried.PlannedEdges.{EdgeThere, next_there, slots_long}
-use Rattle.written_runs.specs.Laws.Carried.Points.{IsNoJump, carried_item, first_point_is, next_place, same_operation, second_point_is}
-use Rattle.written_runs.specs.Laws.Carried.Slots.{LeavesLocals, lowest_left}
+use Rattle.written_runs.specs.Laws.Carried.Points.{carried_item, first_point_is, next_place, same_operation, second_point_is}
+use Rattle.written_runs.specs.Laws.Carried.Slots.{lowest_left}
 use Rattle.written_runs.specs.Laws.Carried.Standing.{AtOwn}
 use Rattle.written_runs.specs.Laws.Carried.Turns.{all_owned, compares_here, keeps_both, not_stuck_here, seen_here, top_owned, turned_here, typed_here}
 use Rattle.written_runs.specs.Laws.Carried.Waiting.{AtCarried, carried_less, instruction_of, stays_with, waits_there, waits_with}
@@ -94,6 +95,9 @@ pub record OperationFits (s : PlanScope) (at : ℕ) (point : Point) (route : Rou
   pub real : AreReal (drop (length stack - arity op) (stack_slots point (state_written route)))
   pub given : (ones : List Value) (memory : Memory) → w ≡ gives memory ones → GivesThere s at point (state_written route) (arity op) ones
   pub throws : IsThrowing w → ThrowsThere s at point route
+  -- where it calls or asks
+  pub waits : IsAwaiting w → WaitsThere s at point (state_written route) (length stack - arity op)
+  pub pends : IsAwaiting w → IsTrue (may_throw op) → ThrowsThere s at point route
 
 pub values_conform : {P : Program} {s : RowScope} {heap : Heap} {types : List VType} {values : List Value} → AllConform P s heap types values
     → length values ≡ length types
@@ -125,7 +129,7 @@ module _ (u : Setup) (laws : CarriedLaws u) (measure : ℕ) {one other : Run} {f
   owned = all_owned u laws.turns measure h
 
   pub own : AtOwn u c.w f.place c.point c.route h.g
-  own = own_there u laws (instruction_of c) owned h.below
+  own = own_there u (facts_of laws) (instruction_of c) owned h.below
 
   -- ---- the operation
 
@@ -202,7 +206,7 @@ module _ (u : Setup) (laws : CarriedLaws u) (measure : ℕ) {one other : Run} {f
         → SameValues more ones others
         → GoesFewer u h.virtuals known more (Method (resumed (less taken f) ones) ∷ rest) (Method (resumed (less taken h.g) others) ∷ h.rest_also)
     given more memory ones others is grows are =
-        goes_along u laws (instruction_of c) owned h.below edge taken so.given so.leaves (resumed (less taken f) ones) (resumed
+        goes_along u (facts_of laws) (instruction_of c) owned h.below edge taken so.given so.leaves (resumed (less taken f) ones) (resumed
         (less taken h.g) others) moves refl refl refl
         refl refl block.0 (ap (λ (n : ℕ). n + 1) own.place ∙ sym (next_place u c.w f.place c.point c.route c.of_instruction.reached c.carried no_jump)
         ∙ block.1)
@@ -237,7 +241,7 @@ module _ (u : Setup) (laws : CarriedLaws u) (measure : ℕ) {one other : Run} {f
             stack_also =
                 reverse-append (reverse others) (drop taken h.g.stack)
                 ∙ ap (λ (values : List Value). reverse (drop taken h.g.stack) ++ values) (reverse-reverse others);
-            usable = usable_along u laws (instruction_of c) owned h.below edge so.leaves.locals;
+            usable = usable_along u (facts_of laws) (instruction_of c) owned h.below edge so.leaves.locals;
             uninit = edge.keeps;
             uninit_given = so.uninit_given;
           }
@@ -253,9 +257,21 @@ module _ (u : Setup) (laws : CarriedLaws u) (measure : ℕ) {one other : Run} {f
     abbrev less_then : {more : Names} → NamesMore h.names more → AtCarried u h.virtuals known more (length rest) (less taken f) (less taken h.g)
     less_then grows = carried_less c taken enough grows (have grows)
 
-    waiting_stands : {waiting : Bool} → Stands u h.virtuals known waiting h.names (Method (less taken f) ∷ rest) (Method (less taken h.g) ∷ h.rest_also)
-    waiting_stands =
-        planned_stand (waits_with (less_then (names_themselves h.names))) (λ told. waits_there (less_then (names_themselves h.names))) h.below
+    awaits : IsAwaiting (work P one.world.memory op (operands_of taken f)) → Awaits u c.w (less taken f) c.point c.route c.carried.instr
+    awaits waits = record {
+      straight = no_jump;
+      at_point = at_first;
+      is_point = at_first_is;
+      waits = subst (WaitsThere s f.place c.point before) (sym (length-drop taken f.stack)) (fits.waits waits);
+      throws = fits.pends waits;
+    }
+
+    waiting_stands : {waiting : Bool}
+        → IsAwaiting (work P one.world.memory op (operands_of taken f))
+        → Stands u h.virtuals known waiting h.names (Method (less taken f) ∷ rest) (Method (less taken h.g) ∷ h.rest_also)
+    waiting_stands waits =
+        planned_stand (waits_with (less_then (names_themselves h.names)) (awaits waits))
+        (λ told. waits_there (less_then (names_themselves h.names)) (awaits waits)) h.below
 
     less_owned : AllOwned u h.virtuals (Method (less taken f) ∷ rest)
     less_owned = owned_with refl owned
@@ -274,7 +290,7 @@ module _ (u : Setup) (laws : CarriedLaws u) (measure : ℕ) {one other : Run} {f
         → Unwinds P Q (GoesFewer u h.virtuals known) (GoesFewer u h.virtuals known) more (Method (less taken f) ∷ rest) (Method (less taken h.g) ∷ h.rest_also)
     unwinds more throwing grows =
         in_both ends (held_more grows h.held)
-        (carried_catches u laws (less_then grows) less_owned (names_grown grows h.below) (fits.throws throwing) no_jump)
+        (carried_catches u (facts_of laws) (less_then grows) less_owned (names_grown grows h.below) (fits.throws throwing) no_jump)
         (goes_below u frames h.virtuals known rest_owned (names_grown grows h.below))
         (λ plain.
         waiting_unwind u frames h.virtuals known (names_grown grows h.below)
@@ -292,14 +308,14 @@ module _ (u : Setup) (laws : CarriedLaws u) (measure : ℕ) {one other : Run} {f
       begins = λ more class grows.
           goes_above (Beginning class ∷ []) (Beginning class ∷ []) (Method f ∷ rest) (Method h.g ∷ h.rest_also) (top_owned u laws.turns measure h)
           (stands (beginnings_stand (stands_under grows (planned_stand (stays_with c) (λ waiting. absurd (false≢true waiting)) h.below))));
-      asks = λ more grows.
+      asks = λ more waits grows.
           goes_above (Library None ∷ []) (Library None ∷ []) (Method (less taken f) ∷ rest) (Method (less taken h.g) ∷ h.rest_also) less_below
-          (stands (libraries_stand none_held (stands_under grows waiting_stands)));
-      called = λ more at method ones others held held_also grows is are same_held.
+          (stands (libraries_stand none_held (stands_under grows (waiting_stands waits))));
+      called = λ more at method ones others held held_also waits grows is are same_held.
           goes_above (Method (frame_with P at (units_of_values ones) held) ∷ []) (Method (frame_with Q at (units_of_values others) held_also) ∷ [])
           (Method (less taken f) ∷ rest) (Method (less taken h.g) ∷ h.rest_also) less_below
           (begins_same frames.codes at method is (same_arguments are) same_held
-          (none_under (suc (length rest)) h.virtuals (suc (length rest)) (omega arith)) (stands_under grows waiting_stands));
+          (none_under (suc (length rest)) h.virtuals (suc (length rest)) (omega arith)) (stands_under grows (waiting_stands waits)));
       unwinds = unwinds;
     }
 

@@ -15,7 +15,7 @@ use Rattle.member_link.specs.RowScope.{RowScope}
 use Rattle.member_link.specs.Rows.ArrayRows.{array_of, primitive_array}
 use Rattle.member_link.specs.Signatures.{reference_of}
 use Rattle.same_runs.specs.Laws.Operations.{WorksOnOperands}
-use Rattle.written_runs.specs.Laws.Carried.Points.{IsNoJump}
+use Rattle.written_runs.specs.Inner.Waiting.{IsNoJump}
 
 -- ---- instructions by what they do
 
