@@ -2,6 +2,7 @@
 pub mod Arriving
 pub mod Awaited
 pub mod AwaitedCalls
+pub mod WaitingPlanned
 pub mod Behind
 pub mod CarriedOps
 pub mod CastFits

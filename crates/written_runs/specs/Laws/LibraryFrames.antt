@@ -1,5 +1,6 @@
 -- What goes together behind each way in which an action of the library may end, where its frame is on top of both.
-use Rattle.std.proofs.Common.{◌≡◌, ◌⊎◌, ℕ, suc, Bool, true, List, [], ◌∷◌, length, Option, Some, None, option_map, refl, arith, inl, inr}
+use Rattle.std.proofs.lemmas.Option.{same_Some}
+use Rattle.std.proofs.Common.{◌≡◌, ◌⊎◌, ℕ, suc, Bool, true, List, [], ◌∷◌, length, Option, Some, None, IsTrue, option_map, refl, sym, subst, ◌∙◌, arith, inl, inr}
 use Rattle.machine_values.specs.Frames.{MethodState}
 use Rattle.machine_values.specs.Heaps.{Heap}
 use Rattle.machine_values.specs.Values.{units_of_values}
@@ -18,16 +19,17 @@ use Rattle.same_runs.specs.Laws.Units.{same_arguments}
 use Rattle.same_runs.specs.Renamings.{Names, SameHeld, SameValues, one_held}
 use Rattle.same_runs.specs.SameFrames.{in_library}
 use Rattle.same_runs.specs.SameWorlds.{AtLibrary, SameWaiting, both_wait, none_waits}
-use Rattle.typed_runs.specs.TypedFrames.{Above, FramesConform, asked_library}
+use Rattle.typed_runs.specs.TypedFrames.{Above, FramesConform, asked_library, called_method, nothing_awaited}
 use Rattle.typed_runs.specs.TypedWorlds.{StaysTyped, TypedWorld}
 use Rattle.written_runs.specs.Laws.FewerVirtuals.{GoesFewer, OwnedBelow, goes_above, none_under, over_turn, owned_below, owned_over, stands_under}
-use Rattle.written_runs.specs.Laws.OwnFrames.{IsAwaited, WaitsPlanned, library_goes, names_grown, own_goes_on, own_point, own_resumed, point_on_top, waiting_unwind, waits_planned}
+use Rattle.written_runs.specs.Laws.OwnFrames.{IsAwaited, MayThrowTo, WaitsPlanned, library_goes, names_grown, own_goes_on, own_point, own_resumed, point_on_top, waiting_unwind, waits_planned}
 use Rattle.written_runs.specs.Laws.MethodsBegin.{begins_same}
 use Rattle.written_runs.specs.Laws.OwnTurns.{TurnLaws}
 use Rattle.written_runs.specs.Laws.StillThere.{MemoryStays}
 use Rattle.written_runs.specs.Inner.PlannedFrames.{Known}
 use Rattle.written_runs.specs.Inner.Setup.{Setup, first, second}
 use Rattle.written_runs.specs.Inner.Standing.{Stands, begins_class, beginnings_stand, libraries_stand, none_stand, own_stand, planned_stand, stands}
+use Rattle.written_runs.specs.Inner.Waiting.{may_throw}
 use Rattle.written_runs.specs.VirtualObjects.{Virtuals}
 
 -- ---- what other parts of the proof give
@@ -94,14 +96,23 @@ module _ (u : Setup) (laws : LibraryLaws u) (virtuals : Virtuals) (known : Known
       → FramesConform P u.typings heap above (Method f ∷ rest)
       → SameWaiting P Q (over_turn u virtuals known) names (waiting_in P (Library made ∷ Method f ∷ rest)) (waiting_in Q (Library made_also ∷ Method g ∷ rest_also))
   waits_by {names = names} {f = f} {g = g} {rest = rest} {rest_also = rest_also} made made_also pend stand owned awaited typed =
-      rw (pend.is_point, pend.is_also, pend.same) (by (pending_of pend.point.op)) where
-        by : (pending : Option Pending)
+      rw (pend.is_point, pend.is_also, pend.same) (by (pending_of pend.point.op) refl) where
+        -- where the library's answer may throw
+        may_throw_to : (above : Above) (pending : Pending) → IsAwaited above → pending_of pend.point.op ≡ Some pending → IsTrue pending.may_throw
+            → MayThrowTo u f above
+        may_throw_to nothing_awaited pending waits is may = waits
+        may_throw_to (called_method member) pending waits is may = tt
+        may_throw_to asked_library pending waits is may = λ point there.
+            subst (λ (p : Point). IsTrue (may_throw p.op)) (same_Some pend.point point (sym pend.is_point ∙ there)) (rw (is) may)
+
+        by : (pending : Option Pending) → pending_of pend.point.op ≡ pending
             → SameWaiting P Q (over_turn u virtuals known) names (option_map (λ p. record { frame = f; rest = rest; pending = p }) pending)
             (option_map (λ p. record { frame = g; rest = rest_also; pending = p }) pending)
-        by None = none_waits
-        by (Some pending) =
+        by None is = none_waits
+        by (Some pending) is =
             both_wait refl (λ more ones others grows are. resumes ones others (names_grown grows stand) refl owned awaited typed are)
-            (λ more may_throw grows. waiting_unwind u laws.turns.frames virtuals known (names_grown grows stand) refl owned awaited typed)
+            (λ more may grows.
+            waiting_unwind u laws.turns.frames virtuals known (names_grown grows stand) refl owned awaited (may_throw_to _ pending awaited is may) typed)
 
   library_waits : {names : Names} {heap : Heap} {above : Above} {rest rest_also : List RunFrame} (made made_also : Option ℕ)
       → Stands u virtuals known true names rest rest_also

@@ -1,5 +1,5 @@
 -- Frames that go together, behind each way in which a turn of a method may end that runs its own code in both.
-use Rattle.std.proofs.Common.{◌≡◌, ◌+◌, ◌++◌, ℕ, suc, Bool, true, false, List, [], ◌∷◌, drop, length, reverse, Option, Some, None, refl, sym, ap, subst, ◌∙◌, arith}
+use Rattle.std.proofs.Common.{◌≡◌, ◌+◌, ◌++◌, ℕ, suc, Bool, true, false, List, [], ◌∷◌, drop, length, reverse, Option, Some, None, IsTrue, refl, sym, ap, subst, ◌∙◌, arith}
 use Rattle.std.proofs.lemmas.Bool.{false≢true}
 use Rattle.class_model.specs.declared.class_file.MethodAt.{MethodAt}
 use Rattle.machine_values.specs.Frames.{MethodState}
@@ -29,6 +29,7 @@ use Rattle.written_runs.specs.Laws.MethodsBegin.{RunsOwnCodes, begins_same}
 use Rattle.written_runs.specs.Inner.PlannedFrames.{InPlanned, Known}
 use Rattle.written_runs.specs.Inner.Setup.{Setup, first, second}
 use Rattle.written_runs.specs.Inner.Standing.{InOwn, IsWaiting, Stands, beginnings_stand, libraries_stand, none_stand, own_stand, planned_stand, stands, is_awaited}
+use Rattle.written_runs.specs.Inner.Waiting.{may_throw}
 use Rattle.written_runs.specs.Laws.StandingMore.{stands_more}
 use Rattle.written_runs.specs.VirtualObjects.{Virtuals}
 
@@ -51,10 +52,23 @@ pub record WaitsPlanned (u : Setup) (virtuals : Virtuals) (known : Known) (names
   pub awaited : IsAwaited above
   pub typed : FramesConform (first u) u.typings heap above (Method f ∷ ones)
 
+-- what a frame waits for may throw: a method that was called, or the library, where its answer may
+abbrev pub MayThrowTo : Setup → MethodState → Above → Type 0
+MayThrowTo u f nothing_awaited = ⊥
+MayThrowTo u f (called_method member) = Unit {0}
+MayThrowTo u f asked_library = (point : Point) → point_at (first u) f.at f.place ≡ Some point → IsTrue (may_throw point.op)
+
+abbrev pub TopMayThrow : Setup → Above → List RunFrame → Type 0
+TopMayThrow u above [] = Unit {0}
+TopMayThrow u above (Library made ∷ frames) = Unit {0}
+TopMayThrow u above (Beginning class ∷ frames) = Unit {0}
+TopMayThrow u above (Method f ∷ frames) = MayThrowTo u f above
+
 -- An object that is thrown out of what it waits for lands in a handler of flat code, and in the handler's written target.
 pub record UnwindsPlanned (u : Setup) : Type 0 where
   pub catches : (virtuals : Virtuals) (known : Known) (names : Names) (heap : Heap) (f g : MethodState) (ones others : List RunFrame)
-      → WaitsPlanned u virtuals known names heap f g ones others
+      (waits : WaitsPlanned u virtuals known names heap f g ones others)
+      → MayThrowTo u f waits.above
       → SameCatches (GoesFewer u virtuals known) names f g ones others (catches_at (first u) f) (catches_at (second u) g)
 
 -- Behind a result it arrives at the block behind its instruction.
@@ -154,6 +168,17 @@ pub above_awaited : (u : Setup) (f : MethodState) (method : RunMethod)
     → is_initialiser method ≡ false
     → IsAwaited (above_of (first u) (Method f))
 above_awaited u f method is named = rw (is, named) tt
+
+-- a called method may throw
+pub below_may_throw : (u : Setup) (f : MethodState) (method : RunMethod)
+    → run_method (first u) f.at ≡ Some method
+    → is_initialiser method ≡ false
+    → (ones : List RunFrame)
+    → TopMayThrow u (above_of (first u) (Method f)) ones
+below_may_throw u f method is named [] = tt
+below_may_throw u f method is named (Library made ∷ ones) = tt
+below_may_throw u f method is named (Beginning class ∷ ones) = tt
+below_may_throw u f method is named (Method g ∷ ones) = rw (is, named) tt
 
 pub typed_below : (u : Setup) {heap : Heap} {above : Above} {f : MethodState} {ones : List RunFrame}
     → FramesConform (first u) u.typings heap above (Method f ∷ ones)
@@ -256,7 +281,7 @@ module _ (u : Setup) (laws : FrameLaws u) (virtuals : Virtuals) (known : Known) 
         same_catches : catches_at P f ≡ catches_at Q g
         same_catches = catches_are P f point is ∙ sym (catches_are Q g point is_also)
 
-  pub waits_planned : {names : Names} {heap : Heap} {above : Above} {f g : MethodState} {ones others : List RunFrame}
+  abbrev pub waits_planned : {names : Names} {heap : Heap} {above : Above} {f g : MethodState} {ones others : List RunFrame}
       (in_planned : InPlanned u virtuals known names (length ones) f g)
       → IsWaiting in_planned.moment
       → Stands u virtuals known (is_awaited u g.at) names ones others
@@ -280,26 +305,28 @@ module _ (u : Setup) (laws : FrameLaws u) (virtuals : Virtuals) (known : Known) 
       → waiting ≡ true
       → OwnedBelow u virtuals ones
       → IsAwaited above
+      → TopMayThrow u above ones
       → FramesConform P u.typings heap above ones
       → UnwindsSo names ones others
-  waiting_unwind none_stand told owned awaited typed = in_none
-  waiting_unwind (libraries_stand held below) told owned awaited typed = in_library (library_goes (owned_below owned) below)
-  waiting_unwind (beginnings_stand below) told owned awaited typed = in_beginnings
-  waiting_unwind (own_stand {f = f} {g = g} own below) told owned awaited typed =
+  waiting_unwind none_stand told owned awaited may typed = in_none
+  waiting_unwind (libraries_stand held below) told owned awaited may typed = in_library (library_goes (owned_below owned) below)
+  waiting_unwind (beginnings_stand below) told owned awaited may typed = in_beginnings
+  waiting_unwind (own_stand {f = f} {g = g} {ones = ones} own below) told owned awaited may typed =
       let point = point_on_top u typed in
       own_unwinds own (owned_below owned) below point.0 point.1
       (λ method is plain.
-      waiting_unwind below (waits_below f g method is own.at plain) (owned_below owned) (above_awaited u f method is plain) (typed_below u typed))
+      waiting_unwind below (waits_below f g method is own.at plain) (owned_below owned) (above_awaited u f method is plain)
+      (below_may_throw u f method is plain ones) (typed_below u typed))
   waiting_unwind {names = names} {heap = heap} (planned_stand {f = f} {g = g} {ones = ones} {others = others} in_planned waits below) told owned awaited
-      typed =
+      may typed =
       let point = point_on_top u typed in
       let ends : EndSame P Q f g = ends_there laws.same f g point.0 point.1 (sym in_planned.at) in
       in_both ends in_planned.held
-      (laws.unwinds.catches virtuals known names heap f g ones others (waits_planned in_planned (waits told) below owned awaited typed))
+      (laws.unwinds.catches virtuals known names heap f g ones others (waits_planned in_planned (waits told) below owned awaited typed) may)
       (goes_below (owned_below owned) below)
       (λ plain.
       waiting_unwind below (waits_below f g ends.method ends.is (sym in_planned.at) plain) (owned_below owned)
-      (above_awaited u f ends.method ends.is plain) (typed_below u typed))
+      (above_awaited u f ends.method ends.is plain) (below_may_throw u f ends.method ends.is plain ones) (typed_below u typed))
 
   -- ---- a method on top that runs its own code
 
@@ -337,7 +364,8 @@ module _ (u : Setup) (laws : FrameLaws u) (virtuals : Virtuals) (known : Known) 
         point.0 (rw (at, place) point.1)
         (λ method is plain.
         waiting_unwind (names_grown grows below) (waits_below f g method (ap (run_method P) (sym at) ∙ is) own.at plain) owned
-        (above_awaited u f method (ap (run_method P) (sym at) ∙ is) plain) (typed_below u typed)) where
+        (above_awaited u f method (ap (run_method P) (sym at) ∙ is) plain)
+        (below_may_throw u f method (ap (run_method P) (sym at) ∙ is) plain rest) (typed_below u typed)) where
           point : (point : Point) × (point_at P f.at f.place ≡ Some point)
           point = point_on_top u typed
 

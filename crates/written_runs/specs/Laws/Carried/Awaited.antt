@@ -129,7 +129,7 @@ module _ (u : Setup) (laws : CarriedFacts u) {virtuals : Virtuals} {known : Know
   abbrev c : AtCarried u kept known names (length ones) f g
   c = carried_with (same_under height virtuals (length ones) (omega arith)) waiting_there.c
 
-  abbrev awaits : Awaits u c.w f c.point c.route c.carried.instr
+  abbrev pub awaits : Awaits u c.w f c.point c.route c.carried.instr
   awaits = waiting_there.awaits
 
   abbrev s : PlanScope

@@ -101,7 +101,7 @@ use Rattle.written_runs.specs.Laws.Carried.PlannedEdges.{unusable_is_top}
 use Rattle.written_runs.specs.Laws.Carried.Turns.{compares_here, keeps_both, not_stuck_here, seen_here, top_owned, typed_here}
 use Rattle.written_runs.specs.Laws.Carried.Waiting.{instruction_more}
 use Rattle.written_runs.specs.Laws.FewerVirtuals.{GoesFewer, OwnedBelow, over_turn, owned_below}
-use Rattle.written_runs.specs.Laws.OwnFrames.{above_awaited, goes_below, names_grown, typed_below, waiting_unwind, waits_below}
+use Rattle.written_runs.specs.Laws.OwnFrames.{above_awaited, below_may_throw, goes_below, names_grown, typed_below, waiting_unwind, waits_below}
 use Rattle.written_runs.specs.Laws.Templates.Stacks.{drop_at}
 use Rattle.written_runs.specs.Laws.PlannedTurns.{AtPlanned}
 use Rattle.written_runs.specs.WrittenRuns.{IsReadyMethod}
@@ -574,7 +574,8 @@ module _ (u : Setup) (laws : CarriedLaws u) {measure : ℕ} {one other : Run} (a
           (λ no_initialiser.
           waiting_unwind u laws.turns.frames h.virtuals a.t.along.known (names_grown grows h.below)
           (waits_below u laws.turns.frames h.virtuals a.t.along.known f h.g ends.method ends.is (sym h.at) no_initialiser) rest_owned
-          (above_awaited u f ends.method ends.is no_initialiser) (typed_below u (typed_here u laws.turns measure h))) where
+          (above_awaited u f ends.method ends.is no_initialiser) (below_may_throw u f ends.method ends.is no_initialiser a.ones)
+          (typed_below u (typed_here u laws.turns measure h))) where
             ends : EndSame P Q f thrower
             ends = ends_there laws.turns.frames.same f thrower _ first_there (sym h.at)
 

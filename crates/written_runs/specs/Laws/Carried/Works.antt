@@ -69,7 +69,7 @@ use Rattle.written_runs.specs.Laws.Carried.Waiting.{AtCarried, carried_less, ins
 use Rattle.written_runs.specs.Laws.FewerVirtuals.{AllOwned, GoesFewer, OwnedBelow, goes_above, none_under, over_turn, owned_below, stands_under, under}
 use Rattle.written_runs.specs.Laws.Halfway.{Halfway}
 use Rattle.written_runs.specs.Laws.MethodsBegin.{begins_same}
-use Rattle.written_runs.specs.Laws.OwnFrames.{FrameLaws, above_awaited, goes_below, names_grown, typed_below, waiting_unwind, waits_below}
+use Rattle.written_runs.specs.Laws.OwnFrames.{FrameLaws, above_awaited, below_may_throw, goes_below, names_grown, typed_below, waiting_unwind, waits_below}
 use Rattle.written_runs.specs.Laws.Settling.{SettleLaws}
 use Rattle.written_runs.specs.Laws.Simulation.{KeepsTurn}
 use Rattle.written_runs.specs.Laws.StandingMore.{keeps_more}
@@ -295,7 +295,8 @@ module _ (u : Setup) (laws : CarriedLaws u) (measure : ℕ) {one other : Run} {f
         (λ plain.
         waiting_unwind u frames h.virtuals known (names_grown grows h.below)
         (waits_below u frames h.virtuals known f h.g ends.method ends.is (sym h.at) plain) rest_owned
-        (above_awaited u f ends.method ends.is plain) (typed_below u (typed_here u laws.turns measure h))) where
+        (above_awaited u f ends.method ends.is plain) (below_may_throw u f ends.method ends.is plain rest)
+        (typed_below u (typed_here u laws.turns measure h))) where
           ends : EndSame P Q (less taken f) (less taken h.g)
           ends = ends_there frames.same (less taken f) (less taken h.g) at_first at_first_is (sym h.at)
 
