@@ -28,6 +28,7 @@ test:
 bench: bin/pea
 	bash bench/copy.sh
 	bash bench/codes.sh
+	bash bench/listing.sh
 	bash bench/classes.sh
 	bash bench/trees.sh
 	bash bench/links.sh

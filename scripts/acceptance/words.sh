@@ -27,6 +27,11 @@ verify|in
 plan|in
 plan|in|out|--lib|lib
 plan|in|--lib|lib|--steps|1
+both|in|--lib|lib
+both|in|s.txt|--steps|1
+list|in
+list|in|A.class|--lib|lib
+list|in|A.class|--steps|1
 WORDS
 
 # Right words in other orders.

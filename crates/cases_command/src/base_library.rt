@@ -47,8 +47,13 @@ fn put_classes(
     Some(())
 }
 
-// Puts a class file into a root, under the name of its class.
-fn put_class(alloc: Global, host: &mut MemoryHost, root: &str, class: &ClassFile) -> Option<()>
+/// Puts a class file into a root, under the name of its class. None where memory runs out.
+pub(crate) fn put_class(
+    alloc: Global,
+    host: &mut MemoryHost,
+    root: &str,
+    class: &ClassFile,
+) -> Option<()>
     requires { FitsCounts class.now }
 {
     let bytes = write_class(alloc, class).ok()?;

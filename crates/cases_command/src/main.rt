@@ -9,6 +9,8 @@
 //! The settings are:
 //! - `host`, a new host without files; `host failing 3`, one whose calls of these numbers fail, counted from 0;
 //! - `base ROOT`, which puts the class files of the base library there; `base ROOT 2`, its first two;
+//! - `generated ROOT NUMBER SIZE`, which puts the class files of generated work there, and its script as `generated.txt` under the root
+//!   without a name;
 //! - `put ROOT/FILE CONTENT`, which puts a file there;
 //! - `class ROOT/FILE CLASS`, which puts a class file there, written in the notation of cases_notation;
 //! - `script FILE LINES`, which puts a script under the root without a name, its lines with ` | ` between them;
@@ -46,6 +48,7 @@
 mod answers;
 mod base_library;
 mod contents;
+mod generated;
 mod machine;
 mod meanings;
 mod script_texts;

@@ -1,6 +1,7 @@
 //! What the cases are asked over.
 use crate::base_library::put_first;
 use crate::contents::Contents;
+use crate::generated::put_generated;
 use crate::texts::root_and_name;
 use cases_notation::{class_file, word_and_rest};
 use class_model::ListOf;
@@ -30,6 +31,7 @@ impl Setting {
         match word {
             "host" => drop(mem::replace(&mut self.host, host_failing(alloc, said)?)),
             "base" => self.put_library(alloc, said)?,
+            "generated" => self.put_generated(alloc, said)?,
             "put" => self.put_file(alloc, said)?,
             "class" => self.put_class(alloc, said)?,
             "script" => self.put_script(alloc, said)?,
@@ -46,6 +48,15 @@ impl Setting {
             return put_first(alloc, &mut self.host, root, usize::MAX);
         }
         put_first(alloc, &mut self.host, root, count.parse::<usize>().ok()?)
+    }
+
+    // Puts the class files of generated work into a root, and its script under the root without a name.
+    fn put_generated(&mut self, alloc: Global, said: &str) -> Option<()> {
+        let (root, numbers) = word_and_rest(said);
+        let (number, size) = word_and_rest(numbers);
+        let number = number.parse::<u32>().ok()?;
+        let size = size.parse::<u32>().ok()?;
+        put_generated(alloc, &mut self.host, root, number, size)
     }
 
     // Puts a file into a root.

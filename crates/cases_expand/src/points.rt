@@ -1,11 +1,12 @@
 //! Flat code as a text, with ` ; ` between its points. In front stand how many local units it has and its sites, each with its point, its
 //! class and the types of its fields, as `5 0=P:I:I`. A point is its instruction, the types before it and, if it has any, its handlers,
-//! with `, ` between, as `idiv, I I | I I, 9:A 10:*`. Instructions are as in class files of `cases_notation`, or behind a `@` as in
-//! `instrs`, where jumps name points; `@test 1` is a test of a local unit against null.
+//! with `, ` between, as `idiv, I I | I I, 9:A 10:*`. A `=` in front of the types of the stack stands for the local units of the point
+//! before, and one in place of the handlers for its handlers, as `idiv, = | I I, =`: both points share them. Instructions are as in class
+//! files of `cases_notation`, or behind a `@` as in `instrs`, where jumps name points; `@test 1` is a test of a local unit against null.
 use crate::instrs::instr_in;
 use cases_notation::{Setting, frame_of, last_method};
 use cases_rewrite::decoded_code;
-use class_model::{FieldType, FieldTypeList, ListOf, MethodAt, Placed, PlacedList, Text};
+use class_model::{FieldType, FieldTypeList, Frame, ListOf, MethodAt, Placed, PlacedList, Text};
 use class_tree::Tree;
 use flow_code::{FlatHandler, FlatHandlerList, FlatInstr, Point, PointList, Site, SiteList};
 use std::alloc::Global;
@@ -22,7 +23,7 @@ pub(crate) struct Parts {
 /// as nops. None where there is none or memory runs out, as in what follows.
 pub(crate) fn tree_of(alloc: Global, setting: &Setting<'_>, text: &str) -> Option<Tree> {
     let (_, points) = text.split_once(" ; ")?;
-    let mut uses = String::from_str(alloc, "exact").ok()?;
+    let mut uses = String::from_str(alloc, "exact, limits 255 255").ok()?;
     for point in points.split(" ; ") {
         let (instr, _) = point.split_once(", ")?;
         uses.push_str(", ").ok()?;
@@ -80,20 +81,55 @@ fn push_points(
 ) -> Option<()> {
     let mut decoded = decoded.into_vec().into_iter();
     for point in text.split(" ; ") {
-        let point = point_in(alloc, class, decoded.next()?, point)?;
+        let before = points.as_slice().last();
+        let point = point_in(alloc, class, decoded.next()?, point, before)?;
         points.push(point).ok()?;
     }
     Some(())
 }
 
-fn point_in(alloc: Global, class: usize, decoded: Placed, text: &str) -> Option<Point> {
+fn point_in(
+    alloc: Global,
+    class: usize,
+    decoded: Placed,
+    text: &str,
+    before: Option<&Point>,
+) -> Option<Point> {
     let (instr, rest) = text.split_once(", ")?;
     let (types, handlers) = rest.split_once(", ").unwrap_or((rest, ""));
     Some(Point {
         instr: flat_instr(alloc, class, decoded, instr)?,
-        typed: frame_of(alloc, types)?,
-        handlers: handlers_in(alloc, handlers)?,
+        typed: types_in(alloc, types, before)?,
+        handlers: handlers_by(alloc, handlers, before)?,
     })
+}
+
+// The types that words say, where a `=` stands for the local units of the point before.
+fn types_in(alloc: Global, words: &str, before: Option<&Point>) -> Option<Frame> {
+    let Some(stack) = words.strip_prefix('=') else {
+        return frame_of(alloc, words);
+    };
+    let locals = before?.typed.locals.copy(alloc).ok()?;
+    match frame_of(alloc, stack) {
+        Some(types) => {
+            let (none, stack) = types.into_parts();
+            drop(none);
+            Some(Frame { locals, stack })
+        }
+        None => {
+            drop(locals);
+            None
+        }
+    }
+}
+
+// The handlers that words say, or, where it is `=`, those of the point before.
+fn handlers_by(alloc: Global, words: &str, before: Option<&Point>) -> Option<FlatHandlerList> {
+    if words == "=" {
+        before?.handlers.copy().ok()
+    } else {
+        handlers_in(alloc, words)
+    }
 }
 
 // The instruction of a point of a class: by its words behind a `@`, and else as it was decoded.

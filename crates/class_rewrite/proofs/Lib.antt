@@ -1,4 +1,3 @@
-pub mod OneReason
 pub mod Reporting
 pub mod WrittenKept
 pub mod SomeClasses

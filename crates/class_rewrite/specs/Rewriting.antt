@@ -2,3 +2,4 @@
 pub mod Constructors
 pub mod Methods
 pub mod Folders
+pub mod Lines

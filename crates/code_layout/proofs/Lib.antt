@@ -1,5 +1,12 @@
+pub mod Kept
 pub mod Written
 pub mod Spellings
+pub mod Opposites
+pub mod WideNumbers
+pub mod WideItems
+pub mod Placed
+pub mod ItemLens
 pub mod Decoded
 pub mod Steps
 pub mod Running
+pub mod Chosen

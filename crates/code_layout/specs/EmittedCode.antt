@@ -1,5 +1,5 @@
 -- Emitted code as points, in the constants of the class file that it is emitted into.
-use Rattle.std.specs.Prelude.{◌≡◌, ◌==◌, ℕ, zero, List, [], ◌∷◌, slice_get, Option, Some, None, option_and_then, if◌then◌else◌}
+use Rattle.std.specs.Prelude.{◌≡◌, ℕ, zero, List, slice_get, Option, None, option_and_then}
 use Rattle.std.specs.List.{flat_map}
 use Rattle.class_model.specs.Pool.{Constants}
 use Rattle.class_model.specs.PoolChecks.{class_at}

@@ -1,62 +1,90 @@
--- The bytes of emitted code in its wide form, in which each goto is a goto_w and the items are those of the short form but for conditional jumps, of
--- which each is the opposite one over such a goto (JVM Specification SE 8, 6.5.goto_w). It is this project's profile.
-use Rattle.std.specs.Prelude.{◌≡◌, ◌⊎◌, ℕ, ◌+◌, ◌<◌, ◌≤◌, List, [], ◌∷◌, ◌++◌, length, map}
-use Rattle.std.specs.List.{flat_map}
-use Rattle.class_model.specs.Instructions.{CodeOf}
-use Rattle.class_model.specs.Spelling.{u4}
-use Rattle.class_model.specs.declared.class_file.Handler.{Handler}
+-- Emitted code in its wide form: each conditional jump is the opposite one over a goto, which has 32 bits there (JVM Specification SE 8,
+-- 6.5.goto_w). Only the jump inside a test for null stays. It is this project's profile.
+use Rattle.std.specs.Prelude.{ℕ, ◌+◌, List, [], ◌∷◌, ◌++◌, map, slice_index_or, is_some, Bool, Option, Some, None, if◌then◌else◌}
+use Rattle.class_model.specs.Instructions.{targets}
 use Rattle.class_model.specs.declared.instr.Instr.{Instr}
-use Rattle.class_model.specs.declared.instr.Instr.TheVariants.{Goto}
-use Rattle.class_model.specs.declared.instr.Placed.{Placed}
-use Rattle.class_model.specs.declared.opcodes.TheConstants.{GOTO_W}
-use Rattle.code_bytes.specs.Forms.{instr_bytes, offset_of}
-use Rattle.code_layout.specs.Layout.{range_of, start_in}
-use Rattle.code_layout.specs.declared.emitted.EmitItem.{EmitItem}
-use Rattle.code_layout.specs.declared.laid.Laid.{Laid}
+use Rattle.class_model.specs.declared.instr.Instr.TheVariants.{Goto, Nop}
+use Rattle.making_code.specs.Opposites.{opposite_instr}
 use Rattle.member_link.specs.Targets.{with_targets}
+use Rattle.code_layout.specs.Layout.{start_in}
+use Rattle.code_layout.specs.declared.emitted.Catch.{Catch}
+use Rattle.code_layout.specs.declared.emitted.EmitItem.{EmitItem}
 
-abbrev pub wide_bytes : ℕ → Instr → List ℕ
-wide_bytes at (Goto to) = GOTO_W ∷ u4 (offset_of at to)
-wide_bytes at instr = instr_bytes at instr
+-- the jump that is written over a goto in place of an item's instruction, if there is one
+abbrev pub jump_over : EmitItem → Option Instr
+jump_over item = if item.near then None else opposite_instr item.instr
 
--- how many bytes an instruction takes at an offset
-abbrev pub wide_len : ℕ → Instr → ℕ
-wide_len at instr = length (wide_bytes at (with_targets (λ _. at) instr))
+-- ---- numbers
 
-abbrev pub wide_starts_from : ℕ → List EmitItem → List ℕ
-wide_starts_from at [] = []
-wide_starts_from at (item ∷ items) =
-    at ∷ wide_starts_from (at + wide_len at item.instr) items
+-- how many items it is written as
+abbrev pub width : Option Instr → ℕ
+width jump = if is_some jump then 2 else 1
 
-abbrev pub wide_starts : List EmitItem → List ℕ
-wide_starts items = wide_starts_from 0 items
+-- the number of each item among those of the wide form
+abbrev pub numbers_from : ℕ → List EmitItem → List ℕ
+numbers_from number [] = []
+numbers_from number (item ∷ items) =
+    number ∷ numbers_from (number + width (jump_over item)) items
 
-abbrev pub wide_end_from : ℕ → List EmitItem → ℕ
-wide_end_from at [] = at
-wide_end_from at (item ∷ items) = wide_end_from (at + wide_len at item.instr) items
+abbrev pub wide_numbers : List EmitItem → List ℕ
+wide_numbers items = numbers_from 0 items
 
--- the instructions from an offset on, with offsets for targets
-abbrev pub wide_placed_from : (ℕ → ℕ) → ℕ → List EmitItem → List Placed
-wide_placed_from place at [] = []
-wide_placed_from place at (item ∷ items) =
-    let len = wide_len at item.instr in
-    record { at = at; len = len; instr = with_targets place item.instr }
-    ∷ wide_placed_from place (at + len) items
+-- ---- items
 
-abbrev pub wide_placed : List EmitItem → List Placed
-wide_placed items = wide_placed_from (start_in (wide_starts items)) 0 items
+abbrev pub renumbered_catch : (ℕ → ℕ) → Catch → Catch
+renumbered_catch renumber catch =
+    record { to = renumber catch.to; catch_type = catch.catch_type }
 
--- the exception table, an entry for each handler of each item
-abbrev pub wide_ranges_from : (ℕ → ℕ) → ℕ → List EmitItem → List Handler
-wide_ranges_from place at [] = []
-wide_ranges_from place at (item ∷ items) =
-    let len = wide_len at item.instr in
-    map (range_of place at (at + len)) item.catches ++ wide_ranges_from place (at + len) items
+abbrev pub renumbered_catches : (ℕ → ℕ) → List Catch → List Catch
+renumbered_catches renumber catches = map (renumbered_catch renumber) catches
 
--- The bytes are a code of these instructions.
-pub record IsWideLaid (items : List EmitItem) (laid : Laid) : Type 0 where
-  pub starts : laid.starts ≡ wide_starts items
-  pub spelled : laid.code
-      ≡ flat_map (λ placed. wide_bytes placed.at placed.instr) (wide_placed items)
-  pub decodes : CodeOf laid.code (wide_placed items)
-  pub handlers : laid.handlers ≡ wide_ranges_from (start_in (wide_starts items)) 0 items
+-- the target of an instruction that has one
+abbrev pub one_target : Instr → ℕ
+one_target instr = slice_index_or (targets instr) 0 0
+
+abbrev pub renumbered_item : (ℕ → ℕ) → EmitItem → EmitItem
+renumbered_item renumber item = record {
+  instr = with_targets renumber item.instr;
+  near = item.near;
+  catches = renumbered_catches renumber item.catches;
+}
+
+-- the opposite jump, which stands at a number, to behind the goto
+abbrev pub over_item : (ℕ → ℕ) → ℕ → EmitItem → Instr → EmitItem
+over_item renumber number item instr = record {
+  instr = with_targets (λ _. number + 2) instr;
+  near = Bool.false;
+  catches = renumbered_catches renumber item.catches;
+}
+
+abbrev pub goto_item : (ℕ → ℕ) → EmitItem → EmitItem
+goto_item renumber item =
+    record { instr = Goto (renumber (one_target item.instr)); near = Bool.false; catches = [] }
+
+-- what an item is written as whose first number this is
+abbrev pub wide_item : (ℕ → ℕ) → ℕ → EmitItem → Option Instr → List EmitItem
+wide_item renumber number item None = renumbered_item renumber item ∷ []
+wide_item renumber number item (Some instr) =
+    over_item renumber number item instr ∷ goto_item renumber item ∷ []
+
+abbrev pub wide_from : (ℕ → ℕ) → ℕ → List EmitItem → List EmitItem
+wide_from renumber number [] = []
+wide_from renumber number (item ∷ items) =
+    wide_item renumber number item (jump_over item)
+    ++ wide_from renumber (number + width (jump_over item)) items
+
+-- Where the last item is such a jump, which no code of a method ends with, a nop stands behind the goto: what the jump leads to.
+abbrev pub nop_item : EmitItem
+nop_item = record { instr = Nop; near = Bool.false; catches = [] }
+
+abbrev pub nop_behind : Option Instr → List EmitItem
+nop_behind jump = if is_some jump then nop_item ∷ [] else []
+
+abbrev pub closing : List EmitItem → List EmitItem
+closing [] = []
+closing (item ∷ []) = nop_behind (jump_over item)
+closing (item ∷ next ∷ items) = closing (next ∷ items)
+
+-- The items of the wide form.
+abbrev pub widened : List EmitItem → List EmitItem
+widened items = wide_from (start_in (wide_numbers items)) 0 items ++ closing items

@@ -1,23 +1,36 @@
-//! How long instructions are in the short form.
+//! How long instructions are.
 ghost use Rattle.member_link.specs.Targets.{HasForm};
 ghost use Rattle.std.specs.Prelude.{◌≡◌, ◌≤◌};
-ghost use Rattle.code_layout.specs.Layout.{short_len};
+ghost use Rattle.class_model.specs.declared.instr.Instr.TheVariants.{Goto};
+ghost use Rattle.code_layout.specs.Inner.Writing.{spelled_in};
+ghost use Rattle.code_layout.specs.Layout.{len_of};
 
+use crate::form::Form;
 use class_model::Instr;
 use code_bytes::code_len;
 
-/// How many bytes an instruction takes in the short form at an offset, in bytes.
-#[tactic(auto, using(crate::proofs::Spellings::jump_short))]
-pub(crate) fn short_len(instr: &Instr, at: u32) -> u32
-    requires place { at ≤ 32767 }
+/// How many bytes an instruction takes in a form at an offset, in bytes.
+pub(crate) fn len_of(form: Form, instr: &Instr, at: u32) -> u32
+    requires place { at ≤ 65535 }
     requires form { HasForm instr.now }
-    ensures { result ≡ short_len at instr.now }
+    ensures { result ≡ len_of (spelled_in form) at instr.now }
 {
     match instr {
-        Instr::If(..) | Instr::If2(..) | Instr::IfSame(..) | Instr::IfNull(..) | Instr::Goto(_) =>
-            3,
+        Instr::Goto(to) => goto_len(form, *to, at),
+        Instr::If(..) | Instr::If2(..) | Instr::IfSame(..) | Instr::IfNull(..) => 3,
         Instr::Table { targets, .. } => 13 + (3 - at % 4) + 4 * targets.len() as u32,
         Instr::Lookup { pairs, .. } => 9 + (3 - at % 4) + 8 * pairs.len() as u32,
         _ => code_len(instr, at),
+    }
+}
+
+// How many bytes a goto takes.
+fn goto_len(form: Form, to: u32, at: u32) -> u32
+    requires { at ≤ 65535 }
+    ensures { result ≡ len_of (spelled_in form) at (Goto to) }
+{
+    match form {
+        Form::Short => 3,
+        Form::Wide => 5,
     }
 }

@@ -2,14 +2,18 @@
 //! table (JVM Specification SE 8, 4.7.3).
 #![tactic(auto)]
 
+mod chosen_form;
 mod emitted;
+mod form;
 mod laid;
+mod laws;
 mod lengths;
 mod places;
 mod retarget;
-mod short_form;
+mod wide_form;
 mod writing;
 
+pub use chosen_form::layout;
 pub use emitted::{Catch, CatchList, EmitItem, EmitItemList, Emitted};
 pub use laid::{Laid, OffsetList};
-pub use short_form::layout;
+pub use laws::a_laid_code_means_its_items;

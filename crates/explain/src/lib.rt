@@ -40,7 +40,7 @@ pub use links::explain_links;
 pub use malformed::explain_malformed;
 pub use notes::{class_counts, plan_note};
 pub use outlines::Outlines;
-pub use scripts::{explain_absent, explain_line};
+pub use scripts::{explain_absent, explain_line, explain_no_file};
 pub use side::Side;
 pub use usage::explain_usage;
 pub use verification::explain_verification;

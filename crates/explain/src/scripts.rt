@@ -1,4 +1,4 @@
-//! Scripts that are not there, or are none.
+//! Files that are not there, and scripts that are none.
 use crate::lines::Lines;
 use class_model::NoMemory;
 use std::alloc::Global;
@@ -9,6 +9,17 @@ pub fn explain_absent(alloc: Global, name: &str) -> Result<String, NoMemory> {
     lines.put("pea: error: SCRIPT is not there: no file ");
     lines.name(name.as_bytes());
     lines.put(" is found from the working folder\n");
+    lines.finish()
+}
+
+/// Explains that a folder has no file of this name.
+pub fn explain_no_file(alloc: Global, folder: &str, name: &str) -> Result<String, NoMemory> {
+    let mut lines = Lines::new(alloc);
+    lines.put("pea: error: NAME is not there: no file ");
+    lines.name(name.as_bytes());
+    lines.put(" is found in the folder ");
+    lines.name(folder.as_bytes());
+    lines.put("\n");
     lines.finish()
 }
 

@@ -3,12 +3,13 @@ use crate::lines::Lines;
 use class_model::NoMemory;
 use std::alloc::Global;
 
-/// A command: its name, its positional words, of which a second one may be missing, and whether it takes `--steps`.
+/// A command: its name, its positional words, of which a second one may be missing, and whether it takes `--lib` and `--steps`.
 #[derive(Clone, Copy)]
 struct Form {
     name: &'static str,
     first: &'static str,
     second: Option<&'static str>,
+    takes_library: bool,
     takes_steps: bool,
 }
 
@@ -37,7 +38,7 @@ pub fn explain_usage(alloc: Global, words: &[String]) -> Result<String, NoMemory
         Some((name, rest)) => put_words(&mut lines, name.as_str(), rest),
         None => {
             lines.put("pea: error: there is no word, or one that is not UTF-8; ");
-            lines.put("a command is expected: verify, plan, optimise or run\n");
+            lines.put("a command is expected: verify, plan, optimise, run, both or list\n");
         }
     }
     put_usage(&mut lines);
@@ -53,7 +54,9 @@ fn put_words(lines: &mut Lines, name: &str, rest: &[String]) {
             Some(form) => put_arguments(lines, form, rest),
             None => {
                 put_wrong(lines, name);
-                lines.put(" is no command; expected is verify, plan, optimise or run\n");
+                lines.put(
+                    " is no command; expected is verify, plan, optimise, run, both or list\n",
+                );
             }
         },
     }
@@ -64,16 +67,15 @@ fn form_of(name: &str) -> Option<Form> {
         "verify" => Some(plain_form("verify")),
         "plan" => Some(plain_form("plan")),
         "optimise" => Some(Form {
-            name: "optimise",
-            first: "IN",
             second: Some("OUT"),
-            takes_steps: false,
+            ..plain_form("optimise")
         }),
-        "run" => Some(Form {
-            name: "run",
-            first: "IN",
-            second: Some("SCRIPT"),
-            takes_steps: true,
+        "run" => Some(run_form("run")),
+        "both" => Some(run_form("both")),
+        "list" => Some(Form {
+            second: Some("NAME"),
+            takes_library: false,
+            ..plain_form("list")
         }),
         _ => None,
     }
@@ -84,7 +86,16 @@ fn plain_form(name: &'static str) -> Form {
         name,
         first: "IN",
         second: None,
+        takes_library: true,
         takes_steps: false,
+    }
+}
+
+fn run_form(name: &'static str) -> Form {
+    Form {
+        second: Some("SCRIPT"),
+        takes_steps: true,
+        ..plain_form(name)
     }
 }
 
@@ -153,7 +164,7 @@ impl<'a> Seen<'a> {
             ..self
         };
         match flag {
-            Flag::Lib if self.library.is_none() => Some(Seen {
+            Flag::Lib if self.library.is_none() && form.takes_library => Some(Seen {
                 library: Some(value),
                 ..next
             }),
@@ -162,11 +173,13 @@ impl<'a> Seen<'a> {
                 ..next
             }),
             Flag::Lib => {
-                lines.put("pea: error: --lib is given twice; one library is expected\n");
+                lines.put("pea: error: --lib is given twice, or to list\n");
                 None
             }
             Flag::Steps => {
-                lines.put("pea: error: --steps is given twice, or to a command other than run\n");
+                lines.put(
+                    "pea: error: --steps is given twice, or to a command other than run and both\n",
+                );
                 None
             }
         }
@@ -175,7 +188,9 @@ impl<'a> Seen<'a> {
     fn with_positional(self, lines: &mut Lines, form: Form, word: &'a str) -> Option<Self> {
         if word.is_empty() || word.starts_with('-') {
             put_wrong(lines, word);
-            lines.put(" is no option; expected is --lib LIB, of run also --steps N, or a folder\n");
+            lines.put(
+                " is no option; expected is --lib LIB, of run and both also --steps N, or a folder\n",
+            );
             return None;
         }
         if self.first.is_none() {
@@ -229,7 +244,7 @@ impl<'a> Seen<'a> {
             Some(second) if self.second.is_none() => return second,
             _ => {}
         }
-        if self.library.is_none() {
+        if self.library.is_none() && form.takes_library {
             "--lib LIB"
         } else {
             ""
@@ -258,7 +273,7 @@ fn flag_of(word: &str) -> Option<Flag> {
 }
 
 fn put_usage(lines: &mut Lines) {
-    lines.put("  pea 0.1.0 has four commands; their arguments come in any order\n");
+    lines.put("  pea 0.1.0 has six commands; their arguments come in any order\n");
     lines.put("  pea verify IN --lib LIB\n");
     lines.put("    whether IN is linked with LIB and verifies, as\n");
     lines.put("    pea verify examples/first/in --lib examples/first/lib\n");
@@ -271,6 +286,11 @@ fn put_usage(lines: &mut Lines) {
     lines.put("  pea run IN SCRIPT --lib LIB [--steps N]\n");
     lines.put("    runs IN by the actions of the library that SCRIPT has, as\n");
     lines.put("    pea run examples/points/in examples/points/script --lib examples/first/lib\n");
+    lines.put("  pea both IN SCRIPT --lib LIB [--steps N]\n");
+    lines.put("    the same, and then what IN is optimised to, without writing it\n");
+    lines.put("  pea list IN NAME\n");
+    lines.put("    the parts of the class file NAME of IN, a line each, as\n");
+    lines.put("    pea list examples/points/in Point.class\n");
     lines.put("  each of IN, OUT and LIB is a folder of files, and OUT is neither IN nor LIB\n");
     lines.put(
         "  SCRIPT is a file, and N is at most 10000000 steps, and 1000000 where it is left out\n",

@@ -5,3 +5,5 @@ pub mod MakeOrder
 pub mod MakeCode
 pub mod Constants
 pub mod FieldConstructor
+pub mod Opposites
+pub mod IndexedMaking

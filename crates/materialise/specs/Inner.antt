@@ -1,3 +1,9 @@
 -- Words for private functions: no public contract cites them. What the code is proved to do is said without them, so a reader of the
 -- definitions may pass them over.
+pub mod CodeWords
+pub mod ConstantWords
 pub mod ConstructorWords
+pub mod FieldWords
+pub mod OrderWords
+pub mod StackWords
+pub mod UnitWords

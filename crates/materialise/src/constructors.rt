@@ -1,10 +1,14 @@
 //! The field constructors of the classes of a folder.
-ghost use Rattle.std.specs.Prelude.{◌≡◌, slice_get, Some, IfOk};
+ghost use Rattle.std.specs.Prelude.{◌≡◌, ℕ, slice_get, Some, IfOk};
 ghost use Rattle.class_model.specs.declared.header.Header.{Header};
 ghost use Rattle.class_tree.specs.Headers.{headers_of};
-ghost use Rattle.materialise.specs.Constructors.{IsConstructorAt, field_descs};
+ghost use Rattle.class_tree.specs.Order.{place_of};
+ghost use Rattle.class_tree.specs.declared.place.Place.TheVariants.{Folder};
+ghost use Rattle.materialise.specs.Constructors.{IsConstructor, IsConstructorAt, field_descs};
 
 use crate::field_constructors::constructor;
+use crate::field_texts::field_texts;
+use crate::folder_numbers::folder_number;
 use crate::handles::handled_initialisers;
 use class_model::{NoMemory, Text, TextList};
 use class_tree::{Place, Tree, a_tree_is_a_hierarchy};
@@ -75,5 +79,23 @@ impl<'t> Constructors<'t> {
             return Ok(None);
         };
         constructor(alloc, header, fields, self.handles[class].as_slice())
+    }
+
+    /// The descriptor of the field constructor of a class of the folder. None where the class may have no field constructor,
+    /// or is not of the folder.
+    ///
+    /// # Errors
+    /// `NoMemory`, where memory runs out.
+    pub fn of_class(&self, alloc: Global, class: &Text) -> Result<Option<Text>, NoMemory>
+        ensures { IfOk result (λ found. (number : ℕ)
+            → place_of (headers_of self.now) class.now ≡ Some (Folder number)
+            → IsConstructor self.now class.now found) }
+    {
+        a_tree_is_a_hierarchy(self.tree);
+        let Some(number) = folder_number(self.tree, class) else {
+            return Ok(None);
+        };
+        let fields = field_texts(alloc, self.tree, class)?;
+        self.of_fields(alloc, number, fields.as_slice())
     }
 }

@@ -1,9 +1,9 @@
 -- Which words complete a command behind given positional words and values of options.
-use Rattle.std.proofs.Common.{◌≡◌, ◌≢◌, ◌≤◌, List, [], ◌∷◌, ◌++◌, length, length-append, refl, sym, ap, subst, ◌∙◌, append_assoc, arith}
+use Rattle.std.proofs.Common.{◌≡◌, ◌≢◌, ◌≤◌, ℕ, List, [], ◌∷◌, ◌++◌, length, length-append, refl, sym, ap, subst, ◌∙◌, append_assoc, arith}
 use Rattle.std.proofs.lemmas.List.{append-nil}
 use Rattle.std.specs.Prelude.{◌↔◌}
 use Rattle.std.specs.List.{flat_map, AllByRecursion}
-use Rattle.pea_top.specs.Words.{Word, Command, Optimise, Verify, Plan, Run, name_of, positionals_of, HasSteps, CommandOption, lib_option, steps_option, Part, Positional, Separate, Joined, words_of, IsPart, positionals, values_of, Spells}
+use Rattle.pea_top.specs.Words.{Word, Task, Optimise, Verify, Plan, Run, Both, Command, OnFolder, Listing, name_of, positionals_of, HasSteps, TaskSteps, HasValues, CommandOption, lib_option, steps_option, Part, Positional, Separate, Joined, words_of, IsPart, positionals, with_value, values_of, Spells}
 use Rattle.pea_top.specs.Seen.{AreOf, Completes, AreBehindName}
 use Rattle.pea_top.proofs.WordGrammar.{same_part, not_empty}
 
@@ -12,8 +12,7 @@ pub same_are_of : (command : Command) (ps qs : List Word) (vs ws : CommandOption
     → ((asked : CommandOption) → vs asked ≡ ws asked) → AreOf command ps vs → AreOf command qs ws
 same_are_of command ps qs vs ws positional values h = record {
   positional_are = sym positional ∙ h.positional_are;
-  library_is = sym (values lib_option) ∙ h.library_is;
-  steps_are = subst (λ words. HasSteps command words) (values steps_option) h.steps_are;
+  values_are = λ option. subst (λ words. HasValues command option words) (values option) (h.values_are option);
   apart = h.apart;
 }
 
@@ -23,17 +22,18 @@ positionals_first (Positional word) parts = refl
 positionals_first (Separate option value) parts = refl
 positionals_first (Joined option value) parts = refl
 
+with_first : (asked option : CommandOption) (value : Word) (values : List Word)
+    → with_value asked option value values ≡ with_value asked option value [] ++ values
+with_first lib_option lib_option value values = refl
+with_first lib_option steps_option value values = refl
+with_first steps_option lib_option value values = refl
+with_first steps_option steps_option value values = refl
+
 values_first : (asked : CommandOption) (part : Part) (parts : List Part)
     → values_of asked (part ∷ parts) ≡ values_of asked (part ∷ []) ++ values_of asked parts
 values_first asked (Positional word) parts = refl
-values_first lib_option (Separate lib_option value) parts = refl
-values_first lib_option (Separate steps_option value) parts = refl
-values_first steps_option (Separate lib_option value) parts = refl
-values_first steps_option (Separate steps_option value) parts = refl
-values_first lib_option (Joined lib_option value) parts = refl
-values_first lib_option (Joined steps_option value) parts = refl
-values_first steps_option (Joined lib_option value) parts = refl
-values_first steps_option (Joined steps_option value) parts = refl
+values_first asked (Separate option value) parts = with_first asked option value (values_of asked parts)
+values_first asked (Joined option value) parts = with_first asked option value (values_of asked parts)
 
 module _ (ps : List Word) (vs : CommandOption → List Word) (part : Part)
     (next_ps : List Word) (next_vs : CommandOption → List Word)
@@ -95,18 +95,30 @@ no_part_first ps vs word rest command none h = none_by h.parts h.spelled h.each
 
 -- a command has two positional words and a value of each option at most
 two_at_most : (command : Command) → length (positionals_of command) ≤ 2
-two_at_most (Optimise input output library) = omega arith
-two_at_most (Verify input library) = omega arith
-two_at_most (Plan input library) = omega arith
-two_at_most (Run input script library steps) = omega arith
+two_at_most (OnFolder input library (Optimise output)) = omega arith
+two_at_most (OnFolder input library Verify) = omega arith
+two_at_most (OnFolder input library Plan) = omega arith
+two_at_most (OnFolder input library (Run script steps)) = omega arith
+two_at_most (OnFolder input library (Both script steps)) = omega arith
+two_at_most (Listing input name) = omega arith
 
-one_at_most : (command : Command) (values : List Word) → HasSteps command values → length values ≤ 1
-one_at_most (Optimise input output library) values h = omega (arith, ap length h)
-one_at_most (Verify input library) values h = omega (arith, ap length h)
-one_at_most (Plan input library) values h = omega (arith, ap length h)
-one_at_most (Run input script library steps) [] h = omega arith
-one_at_most (Run input script library steps) (word ∷ []) h = omega arith
-one_at_most (Run input script library steps) (first ∷ second ∷ values) h = absurd h
+one_number : (steps : ℕ) (values : List Word) → HasSteps steps values → length values ≤ 1
+one_number steps [] h = omega arith
+one_number steps (word ∷ []) h = omega arith
+one_number steps (first ∷ second ∷ values) h = absurd h
+
+one_in_task : (task : Task) (values : List Word) → TaskSteps task values → length values ≤ 1
+one_in_task (Optimise output) values h = omega (arith, ap length h)
+one_in_task Verify values h = omega (arith, ap length h)
+one_in_task Plan values h = omega (arith, ap length h)
+one_in_task (Run script steps) values h = one_number steps values h
+one_in_task (Both script steps) values h = one_number steps values h
+
+one_at_most : (command : Command) (option : CommandOption) (values : List Word) → HasValues command option values → length values ≤ 1
+one_at_most (OnFolder input library task) lib_option values h = omega (arith, ap length h)
+one_at_most (OnFolder input library task) steps_option values h = one_in_task task values h
+one_at_most (Listing input name) lib_option values h = omega (arith, ap length h)
+one_at_most (Listing input name) steps_option values h = omega (arith, ap length h)
 
 pub few_positional : (ps : List Word) (vs : CommandOption → List Word) (words : List Word) (command : Command)
     → Completes ps vs words command → length ps ≤ 2
@@ -115,9 +127,8 @@ few_positional ps vs words command h =
 
 pub few_values : (ps : List Word) (vs : CommandOption → List Word) (asked : CommandOption) (words : List Word) (command : Command)
     → Completes ps vs words command → length (vs asked) ≤ 1
-few_values ps vs lib_option words command h = omega (arith, simp length-append at (ap length h.whole.library_is))
-few_values ps vs steps_option words command h =
-    let few : length (vs steps_option ++ values_of steps_option h.parts) ≤ 1 = one_at_most command _ h.whole.steps_are in
+few_values ps vs asked words command h =
+    let few : length (vs asked ++ values_of asked h.parts) ≤ 1 = one_at_most command asked _ (h.whole.values_are asked) in
     omega (arith, simp length-append at few)
 
 -- the same with the part that stands first
@@ -152,7 +163,7 @@ behind_name name rest command h = record {
   parts = h.parts;
   spelled = cc (h.spelled);
   each = h.each;
-  whole = record { positional_are = h.positional; library_is = h.library; steps_are = h.steps; apart = h.apart };
+  whole = record { positional_are = h.positional; values_are = h.values; apart = h.apart };
 }
 
 pub name_spelled : (name : Word) (rest : List Word) (command : Command) → Spells command (name ∷ rest) → name ≡ name_of command

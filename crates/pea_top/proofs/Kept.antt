@@ -16,7 +16,9 @@ kept_types classes works.Plan None is = absurd is
 kept_types classes works.Plan (Some typed) is = (typed, is)
 kept_types classes (works.Print line) kept is = is
 kept_types classes (works.Run actions most) None is = absurd is
+kept_types classes (works.Both actions most) None is = absurd is
 kept_types classes (works.Run actions most) (Some typed) is = (typed, is)
+kept_types classes (works.Both actions most) (Some typed) is = (typed, is)
 
 -- the work needs the frames
 abbrev pub NeedsFrames : Work → Type 0
@@ -31,7 +33,9 @@ frames_there classes works.Plan None is needs = absurd is
 frames_there classes works.Plan (Some typed) is needs = refl
 frames_there classes (works.Print line) kept is needs = absurd needs
 frames_there classes (works.Run actions most) None is needs = absurd is
+frames_there classes (works.Both actions most) None is needs = absurd is
 frames_there classes (works.Run actions most) (Some typed) is needs = refl
+frames_there classes (works.Both actions most) (Some typed) is needs = refl
 
 -- and they type the folder
 pub frames_type : (classes : Classes) (work : Work) (kept : Option FolderFrames) (typed : FolderFrames) → IsKept classes work kept → NeedsFrames work → kept ≡ Some typed → TypesFolder classes typed
@@ -41,4 +45,6 @@ frames_type classes works.Plan None typed is needs same = absurd is
 frames_type classes works.Plan (Some own) typed is needs same = subst (TypesFolder classes) (cc same) is
 frames_type classes (works.Print line) kept typed is needs same = absurd needs
 frames_type classes (works.Run actions most) None typed is needs same = absurd is
+frames_type classes (works.Both actions most) None typed is needs same = absurd is
 frames_type classes (works.Run actions most) (Some own) typed is needs same = subst (TypesFolder classes) (cc same) is
+frames_type classes (works.Both actions most) (Some own) typed is needs same = subst (TypesFolder classes) (cc same) is

@@ -27,3 +27,5 @@ pub mod WritingFiles
 pub mod WrittenFiles
 pub mod Meanings
 pub mod Complete
+pub mod SettledRuns
+pub mod WrittenTrees

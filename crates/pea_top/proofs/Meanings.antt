@@ -13,7 +13,7 @@ use Rattle.pea_top.specs.Effects.{ArePut, DoneFiles, Leaves, LeavesDone}
 use Rattle.pea_top.specs.Status.{Ending, completed, refused, failed, out_of_memory}
 use Rattle.pea_top.specs.Folders.{AreReadAs, HasClassFiles, class_file, names_class_file, no_name, other_file}
 use Rattle.pea_top.specs.Meaning.{MeansTheSame, under_names}
-use Rattle.pea_top.specs.Words.{Word, Command, Optimise, Spells}
+use Rattle.pea_top.specs.Words.{Word, Optimise, Command, OnFolder, Spells}
 use Rattle.pea_top.specs.Optimising as optimising
 use Rattle.pea_top.specs.Optimising.{AreFinal, AreOptimised, IsFinal, PutsOptimised}
 
@@ -127,10 +127,10 @@ means_the_same one_class input output library old new puts =
     subst (λ (folder : Folder). MeansTheSame (old input) (old library) folder) (under_is_final one_class tree written kept spelled (old input) puts.final puts.are_final (new output) puts.put.put) at_final
 
 -- a call that was done with words that spell this command
-pub done_means : OneClass → ((words : List Word) (one other : Command) → Spells one words → Spells other words → one ≡ other) → (words : List Word) (input output library : Bytes) (old new : Files) → Spells (Optimise input output library) words → LeavesDone words old new
+pub done_means : OneClass → ((words : List Word) (one other : Command) → Spells one words → Spells other words → one ≡ other) → (words : List Word) (input output library : Bytes) (old new : Files) → Spells (OnFolder input library (Optimise output)) words → LeavesDone words old new
     → MeansTheSame (old input) (old library) (under_names (old input) (new output))
 done_means one_class one_command words input output library old new spelled done =
-    let same : done.command ≡ Optimise input output library = one_command words done.command (Optimise input output library) done.spelled spelled in
+    let same : done.command ≡ OnFolder input library (Optimise output) = one_command words done.command (OnFolder input library (Optimise output)) done.spelled spelled in
     means_the_same one_class input output library old new (subst (λ (command : Command). DoneFiles command old new) same done.files)
 
 -- what a call that was done has left

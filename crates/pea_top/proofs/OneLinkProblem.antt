@@ -21,7 +21,7 @@ pub record TreeLaws : Type 0 where
   pub arranged : (folder : List ClassFile) (library : List Header) (one other : Classes) → IsArranged folder library one → IsInOrder (headers_of one) → IsArranged folder library other → one ≡ other
 
 module _ (laws : TreeLaws) (folder : List ClassFile) (library : List Header) where
-  tree_no_problem : (classes : Classes) (problem : Problem) → IsArranged folder library classes → IsTree classes → ¬ IsProblem folder library problem
+  pub tree_no_problem : (classes : Classes) (problem : Problem) → IsArranged folder library classes → IsTree classes → ¬ IsProblem folder library problem
   tree_no_problem classes problem arranged tree h =
       let same : classes ≡ h.classes = laws.arranged folder library classes h.classes arranged tree.in_order h.arranged in
       no_problem_of_tree (subst IsTree same tree) h.first

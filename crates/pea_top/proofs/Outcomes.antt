@@ -19,24 +19,29 @@ use Rattle.machine_values.specs.declared.action.Action.{Action}
 use Rattle.member_link.specs.Machine.Runs.{shown_after}
 use Rattle.pea_top.proofs.Copying.{files_are_put, files_are_partly_put}
 use Rattle.pea_top.proofs.WrittenFiles.{written_final, written_same}
-use Rattle.pea_top.specs.Answer.{AreRead, IsFirstOf, IsScriptThere, HasScript, CanDo, IsAnswer, CauseOf}
-use Rattle.pea_top.specs.Effects.{DoneFiles, IsNeverStuck, LeavesDone, LeavesPart, IsRunText, IsDoneText, IsSummary, PrintsPart, PrintsLine, before_work, in_refusal, in_writes, in_print, Leaves}
+use Rattle.pea_top.specs.Answer.{AreRead, IsFirstOf, IsScriptThere, HasScript, CanDo, IsCommandAnswer, HasAnswer, IsAnswer, CauseOf}
+use Rattle.pea_top.specs.Both.{AreBothShown}
+use Rattle.pea_top.specs.Effects.{DoneFiles, IsNeverStuck, LeavesDone, LeavesPart, IsRunText, IsBothText, IsTaskText, IsListingText, IsDoneText, IsSummary, PrintsPart, PrintsLine, before_work, in_refusal, in_writes, in_print, Leaves}
 use Rattle.pea_top.specs.Folders.{HasClassFiles}
+use Rattle.pea_top.specs.Inner.Both.{AreBoth}
 use Rattle.pea_top.specs.Inner.CommandEffects.{some_files, all_files, LeavesWritten, LeavesPrinted}
 use Rattle.pea_top.specs.Inner.Deciding.{AreInput, IsWork, IsPrepared, AreReady, IsShown, IsOutcome, Stands, IsStop}
+use Rattle.pea_top.specs.Inner.Listing.{IsListStop, list_status}
 use Rattle.pea_top.specs.Inner.Optimising.{IsOutput, IsReported}
 use Rattle.pea_top.specs.Inner.Reading.{AreFiles, AreGoodFiles, StopsAt, status_of}
 use Rattle.pea_top.specs.Inner.Writing.{Puts, PutsSome}
 use Rattle.pea_top.specs.Lines.{summary_line}
 use Rattle.pea_top.specs.Optimising.{AreFinal, AreOptimised, IsPlanText}
 use Rattle.pea_top.specs.Status.{Ending, completed, refused, failed, out_of_memory, ending, is_refused, line_of}
-use Rattle.pea_top.specs.Words.{Word, Command, Optimise, Verify, Plan, Run, input_of, library_of, Spells}
+use Rattle.pea_top.specs.Words.{Word, Task, Optimise, Verify, Plan, Run, Both, Command, OnFolder, Listing, Spells}
 use Rattle.pea_top.specs.declared.folder.NamedFile.{NamedFile}
+use Rattle.pea_top.specs.declared.listing.ListStop.{ListStop}
+use Rattle.pea_top.specs.declared.listing.ListStop.TheVariants as lists
 use Rattle.pea_top.specs.declared.optimising.Output.{Output}
 use Rattle.pea_top.specs.declared.reading.ReadStop.{ReadStop}
 use Rattle.pea_top.specs.declared.reading.ReadStop.TheVariants as stops
 use Rattle.pea_top.specs.declared.status.Status.{Status}
-use Rattle.pea_top.specs.declared.status.Status.TheVariants.{Usage, Malformed, Version, HostFault, NoMemory}
+use Rattle.pea_top.specs.declared.status.Status.TheVariants.{Usage, Malformed, Version, Absent, HostFault, NoMemory}
 use Rattle.pea_top.specs.declared.work.Work.{Work}
 use Rattle.pea_top.specs.declared.work.Work.TheVariants as works
 use Rattle.script_text.specs.Events.{events_text}
@@ -56,9 +61,9 @@ are_read folder library files classes headers good has = record {
   headers_read = has;
 }
 
--- what was read for a command
-pub input_read : {command : Command} {old : Files} {files : List NamedFile} {classes : List ClassFile} {headers : List Header} → AreInput command old files classes headers → AreRead (old (input_of command)) (old (library_of command)) classes headers
-input_read {command} {old} {files} {classes} {headers} input = are_read (old (input_of command)) (old (library_of command)) files classes headers input.good input.library
+-- what was read for a task
+pub input_read : {input library : Word} {old : Files} {files : List NamedFile} {classes : List ClassFile} {headers : List Header} → AreInput input library old files classes headers → AreRead (old input) (old library) classes headers
+input_read {input} {library} {old} {files} {classes} {headers} read = are_read (old input) (old library) files classes headers read.good read.headers_read
 
 -- ---- calls that stop before anything is written or printed
 
@@ -87,13 +92,25 @@ module _ (words : List Word) (old new : Files) (before after : Bytes) (same : Sa
   stop_failed call (inl is) = subst (λ (call : HostCall). IsStop words old new before after (HostFault call)) (sym is) (record { cause = tt; stands = (same, none) })
   stop_failed call (inr is) = subst (λ (call : HostCall). IsStop words old new before after (HostFault call)) (sym is) (record { cause = tt; stands = (same, none) })
 
-  -- reading stopped
-  pub stop_reading : (command : Command) → Spells command words → (stop : ReadStop) → ((call : HostCall) → stop ≡ stops.Fault call → (call ≡ calls.List) ⊎ (call ≡ calls.Read))
-      → StopsAt (IsFirstOf (old (input_of command)) (old (library_of command))) stop → IsStop words old new before after (status_of stop)
-  stop_reading command spelled (stops.Fault call) kind why = stop_failed call (kind call refl)
-  stop_reading command spelled stops.NoMemory kind why = stop_no_memory
-  stop_reading command spelled (stops.Malformed name at rule file) kind why = stop_refused (Malformed name at rule) refl (record { command = command; spelled = spelled; first = why })
-  stop_reading command spelled (stops.Version name major minor side) kind why = stop_refused (Version name major minor) refl (record { command = command; spelled = spelled; first = why })
+  -- a refusal that a command has for its answer
+  refused_answer : (command : Command) → Spells command words → (status : Status) → is_refused (ending status) ≡ true → (HasAnswer words old status → IsAnswer words old status) → IsCommandAnswer command old status → IsStop words old new before after status
+  refused_answer command spelled status refusal as_answer answer = stop_refused status refusal (as_answer (record { command = command; spelled = spelled; is = answer }))
+
+  -- reading a folder stopped
+  pub stop_reading : (input library : Word) (task : Task) → Spells (OnFolder input library task) words → (stop : ReadStop) → ((call : HostCall) → stop ≡ stops.Fault call → (call ≡ calls.List) ⊎ (call ≡ calls.Read))
+      → StopsAt (IsFirstOf (old input) (old library)) stop → IsStop words old new before after (status_of stop)
+  stop_reading input library task spelled (stops.Fault call) kind why = stop_failed call (kind call refl)
+  stop_reading input library task spelled stops.NoMemory kind why = stop_no_memory
+  stop_reading input library task spelled (stops.Malformed name at rule file) kind why = refused_answer _ spelled (Malformed name at rule) refl (λ answer. answer) why
+  stop_reading input library task spelled (stops.Version name major minor side) kind why = refused_answer _ spelled (Version name major minor) refl (λ answer. answer) why
+
+  -- reading a file alone stopped
+  pub stop_listing : (input name : Word) → Spells (Listing input name) words → (stop : ListStop) → IsListStop (old input) name stop → IsStop words old new before after (list_status stop)
+  stop_listing input name spelled (lists.Absent told) why = refused_answer _ spelled (Absent told) refl (λ answer. answer) why
+  stop_listing input name spelled lists.Fault why = stop_failed calls.Read (inr refl)
+  stop_listing input name spelled (lists.Malformed told at rule bytes) why = refused_answer _ spelled (Malformed told at rule) refl (λ answer. answer) why
+  stop_listing input name spelled (lists.Version told major minor) why = refused_answer _ spelled (Version told major minor) refl (λ answer. answer) why
+  stop_listing input name spelled lists.NoMemory why = stop_no_memory
 
 -- a refusal before anything was done
 pub stop_at_once : (words : List Word) (old : Files) (before : Bytes) (status : Status) → is_refused (ending status) ≡ true → IsAnswer words old status → IsStop words old old before before status
@@ -122,70 +139,81 @@ stop_then words old mid new before text after status same same_text stop =
 
 -- ---- a command that is carried out
 
--- the script of a run is there
-script_there : (command : Command) (old : Files) (classes : List ClassFile) (work : Work) → IsWork command old classes work → HasScript command old
-script_there (Optimise input output library) old classes work is = tt
-script_there (Verify input library) old classes work is = tt
-script_there (Plan input library) old classes work is = tt
-script_there (Run input script library steps) old classes (works.Optimise folder names) never = absurd never
-script_there (Run input script library steps) old classes works.Plan never = absurd never
-script_there (Run input script library steps) old classes (works.Print line) never = absurd never
-script_there (Run input script library steps) old classes (works.Run actions most) is = (actions, is.0)
+-- the script of a task is there
+script_there : (task : Task) (old : Files) (classes : List ClassFile) (work : Work) → IsWork task old classes work → HasScript task old
+script_there (Optimise output) old classes work is = tt
+script_there Verify old classes work is = tt
+script_there Plan old classes work is = tt
+script_there (Run script steps) old classes (works.Optimise folder names) never = absurd never
+script_there (Run script steps) old classes works.Plan never = absurd never
+script_there (Run script steps) old classes (works.Print line) never = absurd never
+script_there (Run script steps) old classes (works.Run actions most) is = (actions, is.0)
+script_there (Run script steps) old classes (works.Both actions most) never = absurd never
+script_there (Both script steps) old classes (works.Optimise folder names) never = absurd never
+script_there (Both script steps) old classes works.Plan never = absurd never
+script_there (Both script steps) old classes (works.Print line) never = absurd never
+script_there (Both script steps) old classes (works.Run actions most) never = absurd never
+script_there (Both script steps) old classes (works.Both actions most) is = (actions, is.0)
 
-pub prepared_script : {command : Command} {old : Files} {files : List NamedFile} {classes : List ClassFile} {headers : List Header} {work : Work} → IsPrepared command old files classes headers work → HasScript command old
-prepared_script {command} {old} {files} {classes} {headers} {work} prepared = script_there command old classes work prepared.is_work
+pub prepared_script : {input library : Word} {task : Task} {old : Files} {files : List NamedFile} {classes : List ClassFile} {headers : List Header} {work : Work} → IsPrepared input library task old files classes headers work → HasScript task old
+prepared_script {input} {library} {task} {old} {files} {classes} {headers} {work} prepared = script_there task old classes work prepared.is_work
 
-module _ (words : List Word) (command : Command) (spelled : Spells command words) (old : Files) {files : List NamedFile} {tree : Classes} {work : Work} (ready : AreReady command old files tree work) where
+module _ (words : List Word) (input library : Word) (task : Task) (spelled : Spells (OnFolder input library task) words) (old : Files) {files : List NamedFile} {tree : Classes} {work : Work} (ready : AreReady input library task old files tree work) where
   can_do : CanDo words old
   can_do = record {
-    command = command;
+    command = OnFolder input library task;
     spelled = spelled;
-    classes = ready.classes;
-    headers = ready.headers;
-    read = input_read ready.prepared.input;
-    script = prepared_script ready.prepared;
-    verified = record { classes = tree; arranged = ready.arranged; verified = ready.verified };
+    is = record {
+      classes = ready.classes;
+      headers = ready.headers;
+      read = input_read ready.prepared.read;
+      script = prepared_script ready.prepared;
+      verified = record { classes = tree; arranged = ready.arranged; verified = ready.verified };
+    };
   }
 
-  is_summary : (text : Bytes) → IsDoneText command old (length files) ready.classes text → IsSummary words old text
-  is_summary text is = record {
-    command = command;
-    spelled = spelled;
+  folder_text : (text : Bytes) → IsTaskText input library task old (length files) ready.classes text → IsDoneText (OnFolder input library task) old text
+  folder_text text is = record {
     names = map (λ (file : NamedFile). file.name) files;
-    of_input = ready.prepared.input.good.are.names;
+    of_input = ready.prepared.read.good.are.names;
     classes = ready.classes;
-    are_read = ready.prepared.input.good.are_read;
-    is = subst (λ (count : ℕ). IsDoneText command old count ready.classes text) (sym (length-map files (λ file. file.name))) is;
+    are_read = ready.prepared.read.good.are_read;
+    is = subst (λ (count : ℕ). IsTaskText input library task old count ready.classes text) (sym (length-map files (λ file. file.name))) is;
   }
 
-  part_of_summary : (text before after : Bytes) → IsDoneText command old (length files) ready.classes text → IsPrefixPrinted text before after → PrintsPart words old before after
-  part_of_summary text before after is prefix = record { line = text; is_line = is_summary text is; prefix = prefix }
+-- what is printed of a command
+module _ (words : List Word) (command : Command) (spelled : Spells command words) (old : Files) (text : Bytes) (is_text : IsDoneText command old text) where
+  is_summary : IsSummary words old text
+  is_summary = record { command = command; spelled = spelled; is = is_text }
+
+  part_of_summary : (before after : Bytes) → IsPrefixPrinted text before after → PrintsPart words old before after
+  part_of_summary before after prefix = record { line = text; is_line = is_summary; prefix = prefix }
 
 -- what was read and verified is optimised as these
-optimised_as : {command : Command} {old : Files} {files : List NamedFile} {tree : Classes} {work : Work} (ready : AreReady command old files tree work) (typed : FolderFrames) → TypesFolder tree typed → (optimised : Optimised) → IsOptimised tree typed optimised
-    → AreOptimised (old (input_of command)) (old (library_of command)) tree optimised
-optimised_as {command} {old} {files} {tree} ready typed types optimised is = record {
+optimised_as : {input library : Word} {task : Task} {old : Files} {files : List NamedFile} {tree : Classes} {work : Work} (ready : AreReady input library task old files tree work) (typed : FolderFrames) → TypesFolder tree typed → (optimised : Optimised) → IsOptimised tree typed optimised
+    → AreOptimised (old input) (old library) tree optimised
+optimised_as {input} {library} {task} {old} {files} {tree} ready typed types optimised is = record {
   classes = ready.classes;
   headers = ready.headers;
-  read = input_read ready.prepared.input;
+  read = input_read ready.prepared.read;
   arranged = ready.arranged;
   verified = record { tree = ready.verified.tree; linked = ready.verified.linked; typed = typed; types = types };
   is = is;
 }
 
 -- the files of the input are optimised and written, and then a line is printed
-module _ (words : List Word) (input output library : Word) (spelled : Spells (Optimise input output library) words) (old new : Files) {files : List NamedFile} {tree : Classes} {work : Work} (ready : AreReady (Optimise input output library) old files tree work)
+module _ (words : List Word) (input output library : Word) (spelled : Spells (OnFolder input library (Optimise output)) words) (old new : Files) {files : List NamedFile} {tree : Classes} {work : Work} (ready : AreReady input library (Optimise output) old files tree work)
     (typed : FolderFrames) (types : TypesFolder tree typed) (out : Output) (is : IsOutput tree typed files out) (before after : Bytes) where
   optimised : AreOptimised (old input) (old library) tree is.optimised
   optimised = optimised_as ready typed types is.optimised is.is
 
   out_are : AreFiles (old input) out.files.items
-  out_are = subst (AreFiles (old input)) (sym (written_same tree is.optimised.classes files out.files.items is.written)) ready.prepared.input.good.are
+  out_are = subst (AreFiles (old input)) (sym (written_same tree is.optimised.classes files out.files.items is.written)) ready.prepared.read.good.are
 
   finals : AreFinal tree is.optimised.classes (old input) (old input)
-  finals = written_final tree is.optimised.classes (old input) files out.files.items ready.prepared.input.good.are is.written
+  finals = written_final tree is.optimised.classes (old input) files out.files.items ready.prepared.read.good.are is.written
 
-  is_line : IsDoneText (Optimise input output library) old (length files) ready.classes out.line.items
+  is_line : IsTaskText input library (Optimise output) old (length files) ready.classes out.line.items
   is_line = record {
     tree = tree;
     optimised = is.optimised;
@@ -195,27 +223,33 @@ module _ (words : List Word) (input output library : Word) (spelled : Spells (Op
 
   are_put : Puts output out.files.items old new → LeavesDone words old new
   are_put puts = record {
-    command = Optimise input output library;
+    command = OnFolder input library (Optimise output);
     spelled = spelled;
     files = record { tree = tree; optimised = is.optimised; are = optimised; final = old input; are_final = finals; put = files_are_put (old input) output out.files.items old new out_are puts };
   }
 
   are_partly_put : PutsSome output out.files.items old new → LeavesPart words old new
   are_partly_put puts = record {
-    command = Optimise input output library;
+    command = OnFolder input library (Optimise output);
     spelled = spelled;
     files = record { tree = tree; optimised = is.optimised; are = optimised; final = old input; are_final = finals; put = files_are_partly_put (old input) output out.files.items old new out_are puts };
   }
 
+  can : CanDo words old
+  can = can_do words input library (Optimise output) spelled old ready
+
+  done_text : IsDoneText (OnFolder input library (Optimise output)) old out.line.items
+  done_text = folder_text words input library (Optimise output) spelled old ready out.line.items is_line
+
   written : (Refuses : Type 0) (e : Ending) → LeavesWritten output out.files.items out.line.items old new before after e → CauseOf words old Refuses e × Stands words old new before after e
-  written Refuses completed left = (can_do words _ spelled old ready, (are_put left.0, record { line = out.line.items; is_line = is_summary words _ spelled old ready out.line.items is_line; printed = left.1 }))
+  written Refuses completed left = (can, (are_put left.0, record { line = out.line.items; is_line = is_summary words _ spelled old out.line.items done_text; printed = left.1 }))
   written Refuses (refused refusal) never = absurd never
   written Refuses (failed calls.List) never = absurd never
   written Refuses (failed calls.Read) never = absurd never
-  written Refuses (failed calls.Write) left = (can_do words _ spelled old ready, (are_partly_put left.0, left.1))
-  written Refuses (failed calls.Print) left = (can_do words _ spelled old ready, (are_put left.0, part_of_summary words _ spelled old ready out.line.items before after is_line left.1))
-  written Refuses out_of_memory (some_files puts none) = (tt, in_writes (can_do words _ spelled old ready) (are_partly_put puts) none)
-  written Refuses out_of_memory (all_files puts prefix) = (tt, in_print (can_do words _ spelled old ready) (are_put puts) (part_of_summary words _ spelled old ready out.line.items before after is_line prefix))
+  written Refuses (failed calls.Write) left = (can, (are_partly_put left.0, left.1))
+  written Refuses (failed calls.Print) left = (can, (are_put left.0, part_of_summary words _ spelled old out.line.items done_text before after left.1))
+  written Refuses out_of_memory (some_files puts none) = (tt, in_writes can (are_partly_put puts) none)
+  written Refuses out_of_memory (all_files puts prefix) = (tt, in_print can (are_put puts) (part_of_summary words _ spelled old out.line.items done_text before after prefix))
 
   stop_written : (status : Status) → LeavesWritten output out.files.items out.line.items old new before after (ending status) → IsStop words old new before after status
   stop_written status left =
@@ -223,24 +257,31 @@ module _ (words : List Word) (input output library : Word) (spelled : Spells (Op
       record { cause = both.0; stands = both.1 }
 
 -- a text is printed, and nothing is written
-module _ (words : List Word) (command : Command) (spelled : Spells command words) (old new : Files) {files : List NamedFile} {tree : Classes} {work : Work} (ready : AreReady command old files tree work)
-    (unchanged : SameFiles old new → DoneFiles command old new) (text : Bytes) (is_text : IsDoneText command old (length files) ready.classes text) (before after : Bytes) where
+module _ (words : List Word) (command : Command) (spelled : Spells command words) (old new : Files) (can : CanDo words old)
+    (unchanged : SameFiles old new → DoneFiles command old new) (text : Bytes) (is_text : IsDoneText command old text) (before after : Bytes) where
   leaves_same : SameFiles old new → LeavesDone words old new
   leaves_same same = record { command = command; spelled = spelled; files = unchanged same }
 
   printed : (Refuses : Type 0) (e : Ending) → LeavesPrinted text old new before after e → CauseOf words old Refuses e × Stands words old new before after e
-  printed Refuses completed left = (can_do words _ spelled old ready, (leaves_same left.0, record { line = text; is_line = is_summary words _ spelled old ready text is_text; printed = left.1 }))
+  printed Refuses completed left = (can, (leaves_same left.0, record { line = text; is_line = is_summary words _ spelled old text is_text; printed = left.1 }))
   printed Refuses (refused refusal) never = absurd never
   printed Refuses (failed calls.List) never = absurd never
   printed Refuses (failed calls.Read) never = absurd never
   printed Refuses (failed calls.Write) never = absurd never
-  printed Refuses (failed calls.Print) left = (can_do words _ spelled old ready, (leaves_same left.0, part_of_summary words _ spelled old ready text before after is_text left.1))
-  printed Refuses out_of_memory left = (tt, in_print (can_do words _ spelled old ready) (leaves_same left.0) (part_of_summary words _ spelled old ready text before after is_text left.1))
+  printed Refuses (failed calls.Print) left = (can, (leaves_same left.0, part_of_summary words _ spelled old text is_text before after left.1))
+  printed Refuses out_of_memory left = (tt, in_print can (leaves_same left.0) (part_of_summary words _ spelled old text is_text before after left.1))
 
   stop_printed : (status : Status) → LeavesPrinted text old new before after (ending status) → IsStop words old new before after status
   stop_printed status left =
       let both = printed (IsAnswer words old status) (ending status) left in
       record { cause = both.0; stands = both.1 }
+
+-- the listing of one file is printed
+pub stop_listed : (words : List Word) (input name : Word) → Spells (Listing input name) words → (old new : Files) (text before after : Bytes) → IsListingText (old input) name text → (status : Status) → LeavesPrinted text old new before after (ending status)
+    → IsStop words old new before after status
+stop_listed words input name spelled old new text before after is status left =
+    let can : CanDo words old = record { command = Listing input name; spelled = spelled; is = record { bytes = is.bytes; there = is.there; class = is.class; is_class = is.is_class } } in
+    stop_printed words (Listing input name) spelled old new can (λ same. same) text is before after status left
 
 -- what carrying out the work leaves, as its calls say
 abbrev pub WorkLeaves : Work → List NamedFile → Classes → Files → Files → Bytes → Bytes → Ending → Type 0
@@ -250,14 +291,16 @@ WorkLeaves works.Plan files tree old new before after e =
     (typed : FolderFrames) × TypesFolder tree typed × (text : Bytes) × IsReported tree typed text × LeavesPrinted text old new before after e
 WorkLeaves (works.Print line) files tree old new before after e = LeavesPrinted line.items old new before after e
 WorkLeaves (works.Run actions most) files tree old new before after e = (text : Bytes) × (IsShown tree actions most text × LeavesPrinted text old new before after e)
+WorkLeaves (works.Both actions most) files tree old new before after e =
+    (typed : FolderFrames) × TypesFolder tree typed × (text : Bytes) × AreBoth tree typed actions most text × LeavesPrinted text old new before after e
 
 module _ (words : List Word) (old new : Files) {files : List NamedFile} {tree : Classes} (before after : Bytes) where
   -- the text of a run
-  run_text : (input script library : Word) (steps : ℕ) (work : Work) (ready : AreReady (Run input script library steps) old files tree work) (actions : List Action) (most : ℕ) (text : Bytes)
+  run_text : (input script library : Word) (steps : ℕ) (work : Work) (ready : AreReady input library (Run script steps) old files tree work) (actions : List Action) (most : ℕ) (text : Bytes)
       → IsScriptThere old script actions → most ≡ steps → IsShown tree actions most text → IsRunText old script library steps ready.classes text
   run_text input script library steps work ready actions most text there same shown = record {
     headers = ready.headers;
-    headers_read = ready.prepared.input.library;
+    headers_read = ready.prepared.read.headers_read;
     actions = actions;
     is_script = there;
     tree = tree;
@@ -268,31 +311,59 @@ module _ (words : List Word) (old new : Files) {files : List NamedFile} {tree : 
     not_stuck = subst (λ (count : ℕ). IsNeverStuck shown.program actions count) same shown.not_stuck;
   }
 
-  -- the work of a command was carried out, or that stopped
-  pub stop_carried : (command : Command) → Spells command words → (work : Work) → AreReady command old files tree work → (status : Status) → WorkLeaves work files tree old new before after (ending status) → IsStop words old new before after status
-  stop_carried (Optimise input output library) spelled (works.Optimise folder names) ready status (typed, types, out, is, left) =
+  -- the text of a task was printed, or that stopped
+  stop_text : (input library : Word) (task : Task) (spelled : Spells (OnFolder input library task) words) (work : Work) (ready : AreReady input library task old files tree work) → (SameFiles old new → DoneFiles (OnFolder input library task) old new) → (text : Bytes)
+      → IsTaskText input library task old (length files) ready.classes text → (status : Status) → LeavesPrinted text old new before after (ending status) → IsStop words old new before after status
+  stop_text input library task spelled work ready unchanged text is_text status left =
+      stop_printed words (OnFolder input library task) spelled old new (can_do words input library task spelled old ready) unchanged text (folder_text words input library task spelled old ready text is_text) before after status left
+
+  -- the work of a task was carried out, or that stopped
+  pub stop_carried : (input library : Word) (task : Task) → Spells (OnFolder input library task) words → (work : Work) → AreReady input library task old files tree work → (status : Status) → WorkLeaves work files tree old new before after (ending status) → IsStop words old new before after status
+  stop_carried input library (Optimise output) spelled (works.Optimise folder names) ready status (typed, types, out, is, left) =
       stop_written words input output library spelled old new ready typed types out is before after status
       (subst (λ (root : Bytes). LeavesWritten root out.files.items out.line.items old new before after (ending status)) ready.prepared.is_work left)
-  stop_carried (Optimise input output library) spelled works.Plan ready status left = absurd ready.prepared.is_work
-  stop_carried (Optimise input output library) spelled (works.Print line) ready status left = absurd ready.prepared.is_work
-  stop_carried (Optimise input output library) spelled (works.Run actions most) ready status left = absurd ready.prepared.is_work
-  stop_carried (Verify input library) spelled (works.Optimise folder names) ready status left = absurd ready.prepared.is_work
-  stop_carried (Verify input library) spelled works.Plan ready status left = absurd ready.prepared.is_work
-  stop_carried (Verify input library) spelled (works.Print line) ready status left =
-      stop_printed words _ spelled old new ready (λ same. same) line.items ready.prepared.is_work before after status left
-  stop_carried (Verify input library) spelled (works.Run actions most) ready status left = absurd ready.prepared.is_work
-  stop_carried (Plan input library) spelled (works.Optimise folder names) ready status left = absurd ready.prepared.is_work
-  stop_carried (Plan input library) spelled works.Plan ready status (typed, types, text, is, left) =
+  stop_carried input library (Optimise output) spelled works.Plan ready status left = absurd ready.prepared.is_work
+  stop_carried input library (Optimise output) spelled (works.Print line) ready status left = absurd ready.prepared.is_work
+  stop_carried input library (Optimise output) spelled (works.Run actions most) ready status left = absurd ready.prepared.is_work
+  stop_carried input library (Optimise output) spelled (works.Both actions most) ready status left = absurd ready.prepared.is_work
+  stop_carried input library Verify spelled (works.Optimise folder names) ready status left = absurd ready.prepared.is_work
+  stop_carried input library Verify spelled works.Plan ready status left = absurd ready.prepared.is_work
+  stop_carried input library Verify spelled (works.Print line) ready status left =
+      stop_text input library Verify spelled (works.Print line) ready (λ same. same) line.items ready.prepared.is_work status left
+  stop_carried input library Verify spelled (works.Run actions most) ready status left = absurd ready.prepared.is_work
+  stop_carried input library Verify spelled (works.Both actions most) ready status left = absurd ready.prepared.is_work
+  stop_carried input library Plan spelled (works.Optimise folder names) ready status left = absurd ready.prepared.is_work
+  stop_carried input library Plan spelled works.Plan ready status (typed, types, text, is, left) =
       let is_text : IsPlanText (old input) (old library) text = record { tree = tree; optimised = is.optimised; are = optimised_as ready typed types is.optimised is.is; is = is.text_is } in
-      stop_printed words _ spelled old new ready (λ same. same) text is_text before after status left
-  stop_carried (Plan input library) spelled (works.Print line) ready status left = absurd ready.prepared.is_work
-  stop_carried (Plan input library) spelled (works.Run actions most) ready status left = absurd ready.prepared.is_work
-  stop_carried (Run input script library steps) spelled (works.Optimise folder names) ready status left = absurd ready.prepared.is_work
-  stop_carried (Run input script library steps) spelled works.Plan ready status left = absurd ready.prepared.is_work
-  stop_carried (Run input script library steps) spelled (works.Print line) ready status left = absurd ready.prepared.is_work
-  stop_carried (Run input script library steps) spelled (works.Run actions most) ready status (text, (shown, left)) =
+      stop_text input library Plan spelled works.Plan ready (λ same. same) text is_text status left
+  stop_carried input library Plan spelled (works.Print line) ready status left = absurd ready.prepared.is_work
+  stop_carried input library Plan spelled (works.Run actions most) ready status left = absurd ready.prepared.is_work
+  stop_carried input library Plan spelled (works.Both actions most) ready status left = absurd ready.prepared.is_work
+  stop_carried input library (Run script steps) spelled (works.Optimise folder names) ready status left = absurd ready.prepared.is_work
+  stop_carried input library (Run script steps) spelled works.Plan ready status left = absurd ready.prepared.is_work
+  stop_carried input library (Run script steps) spelled (works.Print line) ready status left = absurd ready.prepared.is_work
+  stop_carried input library (Run script steps) spelled (works.Run actions most) ready status (text, (shown, left)) =
       let is_text = run_text input script library steps (works.Run actions most) ready actions most text ready.prepared.is_work.0 ready.prepared.is_work.1 shown in
-      stop_printed words _ spelled old new ready (λ same. same) text is_text before after status left
+      stop_text input library (Run script steps) spelled (works.Run actions most) ready (λ same. same) text is_text status left
+  stop_carried input library (Run script steps) spelled (works.Both actions most) ready status left = absurd ready.prepared.is_work
+  stop_carried input library (Both script steps) spelled (works.Optimise folder names) ready status left = absurd ready.prepared.is_work
+  stop_carried input library (Both script steps) spelled works.Plan ready status left = absurd ready.prepared.is_work
+  stop_carried input library (Both script steps) spelled (works.Print line) ready status left = absurd ready.prepared.is_work
+  stop_carried input library (Both script steps) spelled (works.Run actions most) ready status left = absurd ready.prepared.is_work
+  stop_carried input library (Both script steps) spelled (works.Both actions most) ready status (typed, types, text, is, left) =
+      let is_text : IsBothText old input script library steps text = record {
+        tree = tree;
+        optimised = is.optimised;
+        are = optimised_as ready typed types is.optimised is.is;
+        actions = actions;
+        is_script = ready.prepared.is_work.0;
+        before = is.before;
+        after = is.after;
+        shown = subst (λ (count : ℕ). AreBothShown tree is.optimised.classes actions count is.before is.after) ready.prepared.is_work.1 is.shown;
+        is = is.text_is;
+      }
+      in
+      stop_text input library (Both script steps) spelled (works.Both actions most) ready (λ same. same) text is_text status left
 
 -- files that are put, and then a line
 module _ (root : Bytes) (files : List NamedFile) (line : Bytes) (old mid new : Files) (puts : Puts root files old mid) (before after : Bytes) where

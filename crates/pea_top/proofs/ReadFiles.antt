@@ -26,3 +26,4 @@ files_for files classes headers tree (works.Optimise folder names) pairs arrange
 files_for files classes headers tree works.Plan pairs arranged same = tt
 files_for files classes headers tree (works.Print line) pairs arranged same = tt
 files_for files classes headers tree (works.Run actions most) pairs arranged same = tt
+files_for files classes headers tree (works.Both actions most) pairs arranged same = tt

@@ -1,8 +1,13 @@
--- Words are cut into parts in one way.
-use Rattle.std.proofs.Common.{◌≡◌, ◌≢◌, ℕ, List, [], ◌∷◌, ◌++◌, get_or, refl, sym, ap, subst, ◌∙◌, arith}
+-- Words are cut into parts in one way, and spell one command.
+use Rattle.std.proofs.Common.{◌≡◌, ◌≢◌, ◌==◌, ℕ, List, [], ◌∷◌, ◌++◌, get_or, if◌then◌else◌, true, Option, None, Some, refl, sym, ap, subst, ◌∙◌}
 use Rattle.std.specs.Prelude.{codes}
 use Rattle.std.specs.List.{flat_map, AllByRecursion}
-use Rattle.pea_top.specs.Words.{Word, Command, Optimise, Verify, Plan, Run, name_of, positionals_of, library_of, HasSteps, CommandOption, lib_option, steps_option, option_name, Part, Positional, Separate, Joined, words_of, IsOperand, IsPart, positionals, values_of, Spells}
+use Rattle.std.specs.Str.Parse.{digits_value}
+use Rattle.pea_top.specs.Words.{Word, Task, Optimise, Verify, Plan, Run, Both, Command, OnFolder, Listing, name_of, positionals_of, HasSteps, HasValues, CommandOption, lib_option, steps_option, option_name, Part, Positional, Separate, Joined, words_of, IsOperand, IsPart, positionals, values_of, Spells}
+use Rattle.std.specs.Borrow.{Bor}
+use Rattle.std.specs.Option.{is_some}
+use Rattle.pea_top.specs.Seen.{Makes, MakesNone, positional_words, value_words, values_seen}
+use Rattle.pea_top.specs.declared.words.Arguments.{Arguments}
 
 -- an operand does not begin with a dash
 not_dashed : (word rest : Word) → IsOperand word → word ≢ 45 ∷ rest
@@ -19,30 +24,40 @@ not_joined : (option : CommandOption) (word value : Word) → IsOperand word →
 not_joined lib_option word value operand e = not_dashed word (codes "-lib=" ++ value) operand e
 not_joined steps_option word value operand e = not_dashed word (codes "-steps=" ++ value) operand e
 
--- the names of two options differ in their first letter
-not_both : (word rest : Word) → 45 ∷ 45 ∷ 108 ∷ word ≢ 45 ∷ 45 ∷ 115 ∷ rest
-not_both word rest e =
-    let letters : 108 ≡ 115 = ap (λ letters. get_or letters 2 0) e in
-    absurd (omega (arith, letters))
+-- the fifth letter of its name tells an option from the others
+abbrev option_from : Word → CommandOption
+option_from word = if get_or word 4 0 == 98 then lib_option else steps_option
+
+option_named : (option : CommandOption) → option_from (option_name option) ≡ option
+option_named lib_option = refl
+option_named steps_option = refl
+
+option_joined : (option : CommandOption) (value : Word) → option_from (option_name option ++ codes "=" ++ value) ≡ option
+option_joined lib_option value = refl
+option_joined steps_option value = refl
 
 same_option : (one other : CommandOption) → option_name one ≡ option_name other → one ≡ other
-same_option lib_option lib_option e = refl
-same_option lib_option steps_option e = absurd (not_both (codes "ib") (codes "teps") e)
-same_option steps_option lib_option e = absurd (not_both (codes "ib") (codes "teps") (sym e))
-same_option steps_option steps_option e = refl
+same_option one other e = sym (option_named one) ∙ ap option_from e ∙ option_named other
+
+not_longer : (option : CommandOption) (value : Word) → option_name option ≢ option_name option ++ codes "=" ++ value
+not_longer lib_option value e = cc
+not_longer steps_option value e = cc
 
 pub name_not_joined : (one other : CommandOption) (value : Word) → option_name one ≢ option_name other ++ codes "=" ++ value
-name_not_joined lib_option lib_option value e = cc
-name_not_joined lib_option steps_option value e = not_both (codes "ib") (codes "teps=" ++ value) e
-name_not_joined steps_option lib_option value e = not_both (codes "ib=" ++ value) (codes "teps") (sym e)
-name_not_joined steps_option steps_option value e = cc
+name_not_joined one other value e =
+    let same : one ≡ other = sym (option_named one) ∙ ap option_from e ∙ option_joined other value in
+    not_longer other value (subst (λ (option : CommandOption). option_name option ≡ option_name other ++ codes "=" ++ value) same e)
+
+same_value : (option : CommandOption) (value word : Word) → option_name option ++ codes "=" ++ value ≡ option_name option ++ codes "=" ++ word → value ≡ word
+same_value lib_option value word e = cc
+same_value steps_option value word e = cc
 
 same_joined : (one other : CommandOption) (value word : Word)
     → option_name one ++ codes "=" ++ value ≡ option_name other ++ codes "=" ++ word → Joined one value ≡ Joined other word
-same_joined lib_option lib_option value word e = cc
-same_joined lib_option steps_option value word e = absurd (not_both (codes "ib=" ++ value) (codes "teps=" ++ word) e)
-same_joined steps_option lib_option value word e = absurd (not_both (codes "ib=" ++ word) (codes "teps=" ++ value) (sym e))
-same_joined steps_option steps_option value word e = cc
+same_joined one other value word e =
+    let same : one ≡ other = sym (option_joined one value) ∙ ap option_from e ∙ option_joined other word in
+    let words : value ≡ word = same_value other value word (subst (λ (option : CommandOption). option_name option ++ codes "=" ++ value ≡ option_name other ++ codes "=" ++ word) same e) in
+    cc
 
 -- words that begin with a part begin with no other
 pub same_part : (one other : Part) (xs ys : List Word) → IsPart one → IsPart other → words_of one ++ xs ≡ words_of other ++ ys
@@ -76,40 +91,43 @@ same_parts (p ∷ ps) (q ∷ qs) h i e =
     let tails : ps ≡ qs = same_parts ps qs h.1 i.1 heads.1 in
     cc
 
--- the values of --steps are those of one number
-same_steps : (input script library : Word) (steps others : ℕ) (values : List Word) → HasSteps (Run input script library steps) values
-    → HasSteps (Run input script library others) values → steps ≡ others
-same_steps input script library steps others [] h i = h ∙ sym i
-same_steps input script library steps others (word ∷ []) h i = sym h.number.value ∙ i.number.value
-same_steps input script library steps others (first ∷ second ∷ values) h i = absurd h
+-- ---- a command is given by its name, its positional words and the values of its options
 
--- the names of two commands differ in their first letter
-verify_not_plan : codes "verify" ≢ codes "plan"
-verify_not_plan e =
-    let letters : 118 ≡ 112 = ap (λ letters. get_or letters 0 0) e in
-    absurd (omega (arith, letters))
+abbrev pub steps_in : List Word → ℕ
+steps_in [] = 1000000
+steps_in (word ∷ words) = digits_value 10 word
 
--- a command is given by its name, its positional words and the values of its options
-same_words : (one other : Command) (values : List Word) → name_of one ≡ name_of other → positionals_of one ≡ positionals_of other
-    → library_of one ∷ [] ≡ library_of other ∷ [] → HasSteps one values → HasSteps other values → one ≡ other
-same_words (Optimise input output library) (Optimise input' output' library') values n p l h i = cc
-same_words (Optimise input output library) (Verify input' library') values n p l h i = cc
-same_words (Optimise input output library) (Plan input' library') values n p l h i = cc
-same_words (Optimise input output library) (Run input' script' library' steps') values n p l h i = cc
-same_words (Verify input library) (Optimise input' output' library') values n p l h i = cc
-same_words (Verify input library) (Verify input' library') values n p l h i = cc
-same_words (Verify input library) (Plan input' library') values n p l h i = absurd (verify_not_plan n)
-same_words (Verify input library) (Run input' script' library' steps') values n p l h i = cc
-same_words (Plan input library) (Optimise input' output' library') values n p l h i = cc
-same_words (Plan input library) (Verify input' library') values n p l h i = absurd (verify_not_plan (sym n))
-same_words (Plan input library) (Plan input' library') values n p l h i = cc
-same_words (Plan input library) (Run input' script' library' steps') values n p l h i = cc
-same_words (Run input script library steps) (Optimise input' output' library') values n p l h i = cc
-same_words (Run input script library steps) (Verify input' library') values n p l h i = cc
-same_words (Run input script library steps) (Plan input' library') values n p l h i = cc
-same_words (Run input script library steps) (Run input' script' library' steps') values n p l h i =
-    let numbers : steps ≡ steps' = same_steps input script library steps steps' values h i in
-    cc
+steps_are : (steps : ℕ) (values : List Word) → HasSteps steps values → steps_in values ≡ steps
+steps_are steps [] h = sym h
+steps_are steps (word ∷ []) h = h.is.value
+steps_are steps (first ∷ second ∷ values) h = absurd h
+
+-- the command of a name whose first letter is this
+abbrev pub command_by : ℕ → (input second library : Word) (steps : ℕ) → Command
+command_by letter input second library steps =
+    if letter == 111 then OnFolder input library (Optimise second)
+    else if letter == 118 then OnFolder input library Verify
+    else if letter == 112 then OnFolder input library Plan
+    else if letter == 114 then OnFolder input library (Run second steps)
+    else if letter == 98 then OnFolder input library (Both second steps)
+    else Listing input second
+
+abbrev pub command_from : Word → List Word → (CommandOption → List Word) → Command
+command_from name words values =
+    command_by (get_or name 0 0) (get_or words 0 []) (get_or words 1 []) (get_or (values lib_option) 0 []) (steps_in (values steps_option))
+
+pub rebuilt : (command : Command) (values : CommandOption → List Word) → ((option : CommandOption) → HasValues command option (values option))
+    → command_from (name_of command) (positionals_of command) values ≡ command
+rebuilt (OnFolder input library (Optimise output)) values has = ap (λ words. OnFolder input (get_or words 0 []) (Optimise output)) (has lib_option)
+rebuilt (OnFolder input library Verify) values has = ap (λ words. OnFolder input (get_or words 0 []) Verify) (has lib_option)
+rebuilt (OnFolder input library Plan) values has = ap (λ words. OnFolder input (get_or words 0 []) Plan) (has lib_option)
+rebuilt (OnFolder input library (Run script steps)) values has =
+    let number : steps_in (values steps_option) ≡ steps = steps_are steps (values steps_option) (has steps_option) in
+    ap (λ words. OnFolder input (get_or words 0 []) (Run script (steps_in (values steps_option)))) (has lib_option) ∙ ap (λ n. OnFolder input library (Run script n)) number
+rebuilt (OnFolder input library (Both script steps)) values has =
+    let number : steps_in (values steps_option) ≡ steps = steps_are steps (values steps_option) (has steps_option) in
+    ap (λ words. OnFolder input (get_or words 0 []) (Both script (steps_in (values steps_option)))) (has lib_option) ∙ ap (λ n. OnFolder input library (Both script n)) number
+rebuilt (Listing input name) values has = refl
 
 -- words spell one command at most
 pub same_command : (words : List Word) (one other : Command) → Spells one words → Spells other words → one ≡ other
@@ -118,6 +136,32 @@ same_command words one other h i =
     let rests : flat_map words_of h.parts ≡ flat_map words_of i.parts = cc (h.spelled, i.spelled) in
     let parts : h.parts ≡ i.parts = same_parts h.parts i.parts h.each i.each rests in
     let positional : positionals_of one ≡ positionals_of other = cc (h.positional, i.positional, ap positionals parts) in
-    let library : library_of one ∷ [] ≡ library_of other ∷ [] = cc (h.library, i.library, ap (values_of lib_option) parts) in
-    let steps : HasSteps other (values_of steps_option h.parts) = subst (λ ps. HasSteps other (values_of steps_option ps)) (sym parts) i.steps in
-    same_words one other (values_of steps_option h.parts) names positional library h.steps steps
+    let values : CommandOption → List Word = λ option. values_of option h.parts in
+    let has : (option : CommandOption) → HasValues other option (values option) = λ option. subst (λ ps. HasValues other option (values_of option ps)) (sym parts) (i.values option) in
+    sym (rebuilt one values h.values) ∙ ap (λ name. command_from name (positionals_of one) values) names ∙ ap (λ ps. command_from (name_of other) ps values) positional ∙ rebuilt other values has
+
+-- the arguments seen make one command of a name at most
+pub makes_from : (seen : Arguments) (command : Command) (name : Word) → name_of command ≡ name → Makes seen command
+    → command_from name (positional_words seen.positional) (values_seen seen) ≡ command
+makes_from seen command name named makes =
+    ap (λ word. command_from word (positional_words seen.positional) (values_seen seen)) (sym named)
+    ∙ ap (λ words. command_from (name_of command) words (values_seen seen)) makes.positional_are
+    ∙ rebuilt command (values_seen seen) makes.values_are
+
+-- they make the command that they give, where they make one
+pub makes_it : (seen : Arguments) (command : Command) (name : Word) → name_of command ≡ name → Makes seen command
+    → Makes seen (command_from name (positional_words seen.positional) (values_seen seen))
+makes_it seen command name named makes = subst (λ (at : Command). Makes seen at) (sym (makes_from seen command name named makes)) makes
+
+-- where they do not make that one, they make none
+pub makes_none : (seen : Arguments) (name : Word) → ¬ Makes seen (command_from name (positional_words seen.positional) (values_seen seen)) → MakesNone seen name
+makes_none seen name not_it command named makes = not_it (makes_it seen command name named makes)
+
+pub no_library : (seen : Arguments) (input library : Word) (task : Task) → seen.library ≡ None → ¬ Makes seen (OnFolder input library task)
+no_library seen input library task none makes =
+    let given : [] ≡ library ∷ [] = rw none at (makes.values_are lib_option) in
+    cc
+
+pub no_value : (value : Option (Bor Word)) → is_some value ≡ true → value_words value ≢ []
+no_value None some e = cc
+no_value (Some word) some e = cc

@@ -1,5 +1,5 @@
 -- What words and files answer.
-use Rattle.std.specs.Prelude.{◌≡◌, ℕ, List, [], Some, None, IsTrue}
+use Rattle.std.specs.Prelude.{◌≡◌, ℕ, List, [], Option, Some, None, IsTrue}
 use Rattle.class_model.specs.Checks.{Fault, fault}
 use Rattle.class_model.specs.ClassOf.{ClassOf, FirstFault, IsOtherVersion}
 use Rattle.class_model.specs.Cutting as cutting
@@ -12,7 +12,7 @@ use Rattle.host_tree.specs.declared.call.HostCall.TheVariants as calls
 use Rattle.machine_values.specs.declared.action.Action.{Action}
 use Rattle.script_text.specs.Scripts.{IsFirstOutside, IsScript, lines_of}
 use Rattle.verify_folder.specs.Verifying.{Failure}
-use Rattle.pea_top.specs.Words.{Word, Command, Run, input_of, library_of, Spells, IsUsage}
+use Rattle.pea_top.specs.Words.{Word, Task, Run, Both, Command, OnFolder, Listing, Spells, IsUsage}
 use Rattle.pea_top.specs.Folders.{IsBytesBefore, names_class_file, HasClassFiles}
 use Rattle.pea_top.specs.Linking.{IsLinkProblem}
 use Rattle.pea_top.specs.Status.{Ending, completed, refused, failed, out_of_memory, ending}
@@ -84,93 +84,144 @@ pub record IsScriptThere (files : Files) (name : Bytes) (actions : List Action) 
   pub there : files [] name ≡ Some bytes
   pub is_script : IsScript bytes actions
 
--- the script of a run is there; other commands have none
-abbrev pub HasScript : Command → Files → Type 0
-HasScript (Run input script library steps) files =
-    (actions : List Action) × IsScriptThere files script actions
-HasScript command files = Unit {0}
+-- the script of a task, if it has one
+abbrev pub script_of : Task → Option Word
+script_of (Run script steps) = Some script
+script_of (Both script steps) = Some script
+script_of task = None
 
--- ---- the answer
+-- the script is there, if the task has one
+abbrev pub HasNamed : Option Word → Files → Type 0
+HasNamed None files = Unit {0}
+HasNamed (Some script) files = (actions : List Action) × IsScriptThere files script actions
 
--- The words spell a command that can be done: no file of its input or library is refused, the script of a run is one, and the
--- class files of the input are linked with those of the library and verified.
-pub record CanDo (words : List Word) (files : Files) : Type 0 where
-  pub command : Command
-  pub spelled : Spells command words
+abbrev pub HasScript : Task → Files → Type 0
+HasScript task files = HasNamed (script_of task) files
+
+-- ---- what is answered of a folder
+
+-- What is to be done with the folder can be done: no file of it or of the library is refused, the script is one, and the class files of the
+-- folder are linked with those of the library and verified.
+pub record CanDoTask (input library : Word) (task : Task) (files : Files) : Type 0 where
   pub classes : List ClassFile
   pub headers : List Header
-  pub read : AreRead (files (input_of command)) (files (library_of command)) classes headers
-  pub script : HasScript command files
+  pub read : AreRead (files input) (files library) classes headers
+  pub script : HasScript task files
   pub verified : AreVerified classes headers
 
--- the words spell a command whose first refused file has this name, and is refused for this
-pub record MustRefuse (words : List Word) (files : Files) (name : Bytes) (why : Refusal)
+-- the files are read, and the script is not there
+pub record LacksScript (input library : Word) (task : Task) (files : Files) (name : Bytes)
     : Type 0 where
-  pub command : Command
-  pub spelled : Spells command words
-  pub first : IsFirstOf (files (input_of command)) (files (library_of command)) name why
-
--- the words spell a run whose files are read, and whose script is not there
-pub record LacksScript (words : List Word) (files : Files) (name : Bytes) : Type 0 where
-  pub input : Word
-  pub library : Word
-  pub steps : ℕ
-  pub spelled : Spells (Run input name library steps) words
   pub classes : List ClassFile
   pub headers : List Header
   pub read : AreRead (files input) (files library) classes headers
+  pub named : script_of task ≡ Some name
   pub absent : files [] name ≡ None
 
--- the words spell a run whose files are read, and this is the first line of its script outside the grammar
-pub record HasBadScript (words : List Word) (files : Files) (line : ℕ) : Type 0 where
-  pub input : Word
-  pub script : Word
-  pub library : Word
-  pub steps : ℕ
-  pub spelled : Spells (Run input script library steps) words
+-- the files are read, and this is the first line of the script outside the grammar
+pub record HasBadScript (input library : Word) (task : Task) (files : Files) (line : ℕ)
+    : Type 0 where
   pub classes : List ClassFile
   pub headers : List Header
   pub read : AreRead (files input) (files library) classes headers
+  pub script : Word
+  pub named : script_of task ≡ Some script
   pub bytes : Bytes
   pub there : files [] script ≡ Some bytes
   pub outside : IsFirstOutside (lines_of bytes) line
 
--- The words spell a command whose files are read, its script too, and this is the first problem of linking them.
-pub record CannotLink (words : List Word) (files : Files) (problem : Problem) : Type 0 where
-  pub command : Command
-  pub spelled : Spells command words
+-- the files are read, the script too, and this is the first problem of linking them
+pub record CannotLink (input library : Word) (task : Task) (files : Files) (problem : Problem)
+    : Type 0 where
   pub classes : List ClassFile
   pub headers : List Header
-  pub read : AreRead (files (input_of command)) (files (library_of command)) classes headers
-  pub script : HasScript command files
+  pub read : AreRead (files input) (files library) classes headers
+  pub script : HasScript task files
   pub first : IsLinkProblem classes headers problem
 
--- The words spell a command whose files are read, its script too, and linked, and this is where the input fails first.
-pub record CannotVerify (words : List Word) (files : Files) (failure : Failure) : Type 0 where
-  pub command : Command
-  pub spelled : Spells command words
+-- the files are read, the script too, and linked, and this is where the folder fails first
+pub record CannotVerify (input library : Word) (task : Task) (files : Files) (failure : Failure)
+    : Type 0 where
   pub classes : List ClassFile
   pub headers : List Header
-  pub read : AreRead (files (input_of command)) (files (library_of command)) classes headers
-  pub script : HasScript command files
+  pub read : AreRead (files input) (files library) classes headers
+  pub script : HasScript task files
   pub first : IsTypeFailure classes headers failure
+
+-- the answer that a folder with its library determines
+abbrev pub IsTaskAnswer : Word → Word → Task → Files → Status → Type 0
+IsTaskAnswer input library task files Done = CanDoTask input library task files
+IsTaskAnswer input library task files Usage = ⊥
+IsTaskAnswer input library task files (Malformed name at rule) =
+    IsFirstOf (files input) (files library) name (broken (fault at rule))
+IsTaskAnswer input library task files (Version name major minor) =
+    IsFirstOf (files input) (files library) name
+    (other_version (record { minor = minor; major = major }))
+IsTaskAnswer input library task files (Unlinked class member rule) =
+    CannotLink input library task files
+    (record { class = class; member = member; rule = rule })
+IsTaskAnswer input library task files (Unverified class method offset rule) =
+    CannotVerify input library task files
+    (record { class = class; method = method; offset = offset; rule = rule })
+IsTaskAnswer input library task files (BadScript line) =
+    HasBadScript input library task files line
+IsTaskAnswer input library task files (Absent name) = LacksScript input library task files name
+IsTaskAnswer input library task files (HostFault call) = ⊥
+IsTaskAnswer input library task files NoMemory = ⊥
+
+-- ---- what is answered of one file
+
+-- the file of this name is read as a class file
+pub record IsClassThere (folder : Folder) (name : Bytes) : Type 0 where
+  pub bytes : Bytes
+  pub there : folder name ≡ Some bytes
+  pub class : ClassFile
+  pub is_class : ClassOf bytes class
+
+-- the file of this name is refused for this, and is the one that is told
+pub record IsRefusedThere (folder : Folder) (name told : Bytes) (why : Refusal) : Type 0 where
+  pub same : told ≡ name
+  pub bytes : Bytes
+  pub there : folder name ≡ Some bytes
+  pub refused : IsRefusedClass bytes why
+
+-- there is no file of this name, which is the one that is told
+pub record IsAbsentThere (folder : Folder) (name told : Bytes) : Type 0 where
+  pub same : told ≡ name
+  pub absent : folder name ≡ None
+
+-- The answer that one file of a folder determines. It is read alone, and need not have the name of a class file.
+abbrev pub IsFileAnswer : Folder → Bytes → Status → Type 0
+IsFileAnswer folder name Done = IsClassThere folder name
+IsFileAnswer folder name (Malformed told at rule) =
+    IsRefusedThere folder name told (broken (fault at rule))
+IsFileAnswer folder name (Version told major minor) =
+    IsRefusedThere folder name told (other_version (record { minor = minor; major = major }))
+IsFileAnswer folder name (Absent told) = IsAbsentThere folder name told
+IsFileAnswer folder name status = ⊥
+
+-- ---- the answer
+
+-- that of a command
+abbrev pub IsCommandAnswer : Command → Files → Status → Type 0
+IsCommandAnswer (OnFolder input library task) files status =
+    IsTaskAnswer input library task files status
+IsCommandAnswer (Listing input name) files status = IsFileAnswer (files input) name status
+
+-- the words spell a command with this answer
+pub record HasAnswer (words : List Word) (files : Files) (status : Status) : Type 0 where
+  pub command : Command
+  pub spelled : Spells command words
+  pub is : IsCommandAnswer command files status
+
+-- the words spell a command that can be done
+abbrev pub CanDo : List Word → Files → Type 0
+CanDo words files = HasAnswer words files Done
 
 -- The answer that words and files determine. A fault of the host and want of memory are no such answer.
 abbrev pub IsAnswer : List Word → Files → Status → Type 0
-IsAnswer words files Done = CanDo words files
 IsAnswer words files Usage = IsUsage words
-IsAnswer words files (Malformed name at rule) = MustRefuse words files name (broken (fault at rule))
-IsAnswer words files (Version name major minor) =
-    MustRefuse words files name (other_version (record { minor = minor; major = major }))
-IsAnswer words files (Unlinked class member rule) =
-    CannotLink words files (record { class = class; member = member; rule = rule })
-IsAnswer words files (Unverified class method offset rule) =
-    CannotVerify words files
-    (record { class = class; method = method; offset = offset; rule = rule })
-IsAnswer words files (BadScript line) = HasBadScript words files line
-IsAnswer words files (Absent name) = LacksScript words files name
-IsAnswer words files (HostFault call) = ⊥
-IsAnswer words files NoMemory = ⊥
+IsAnswer words files status = HasAnswer words files status
 
 -- The cause of an ending, where that of a refusal is given. A failed write or print comes only where all was decided and the
 -- command can be done.

@@ -4,6 +4,8 @@ use Rattle.class_model.specs.ClassOf.{ClassOf}
 use Rattle.class_model.specs.Header.{HeaderOf}
 use Rattle.class_model.specs.declared.class_file.ClassFile.{ClassFile}
 use Rattle.class_model.specs.declared.header.Header.{Header}
+use Rattle.class_listing.specs.Listings.{listing}
+use Rattle.class_rewrite.specs.declared.folder.Optimised.{Optimised}
 use Rattle.class_tree.specs.Headers.{Classes}
 use Rattle.class_tree.specs.Trees.{IsArranged}
 use Rattle.host_tree.specs.Host.{Bytes, Folder, Files, SameFiles, IsPrefixPrinted}
@@ -13,11 +15,13 @@ use Rattle.machine_values.specs.declared.action.Action.{Action}
 use Rattle.member_link.specs.Machine.Programs.{Program}
 use Rattle.member_link.specs.Machine.Runs.{shown_after}
 use Rattle.machine_values.specs.declared.event.End.TheVariants as ends
+use Rattle.machine_values.specs.declared.event.Shown.{Shown}
 use Rattle.script_text.specs.Events.{events_text}
-use Rattle.pea_top.specs.Words.{Word, Command, Optimise, Verify, Plan, Run, input_of, Spells}
+use Rattle.pea_top.specs.Words.{Word, Task, Optimise, Verify, Plan, Run, Both, Command, OnFolder, Listing, Spells}
 use Rattle.pea_top.specs.Folders.{IsBytesBefore, AreNames, AreReadAs, HasClassFiles}
 use Rattle.pea_top.specs.Lines.{verified_line}
-use Rattle.pea_top.specs.Optimising.{IsOptimisedLine, IsPlanText, PutsOptimised}
+use Rattle.pea_top.specs.Both.{AreBothShown, both_text}
+use Rattle.pea_top.specs.Optimising.{AreOptimised, IsOptimisedLine, IsPlanText, PutsOptimised}
 use Rattle.pea_top.specs.Status.{Ending, completed, refused, failed, out_of_memory, line_of, refusal_line}
 use Rattle.pea_top.specs.Answer.{CanDo, IsAnswer, IsScriptThere}
 use Rattle.pea_top.specs.declared.status.Status.{Status}
@@ -45,19 +49,15 @@ pub record ArePartlyPut (final : Folder) (output : Bytes) (old new : Files) : Ty
 
 -- the files after a command that was done
 abbrev pub DoneFiles : Command → Files → Files → Type 0
-DoneFiles (Optimise input output library) old new =
+DoneFiles (OnFolder input library (Optimise output)) old new =
     PutsOptimised (λ final. ArePut final output old new) (old input) (old library)
-DoneFiles (Verify input library) old new = SameFiles old new
-DoneFiles (Plan input library) old new = SameFiles old new
-DoneFiles (Run input script library steps) old new = SameFiles old new
+DoneFiles command old new = SameFiles old new
 
 -- the files after a command of which a write failed; only optimising writes any
 abbrev pub PartFiles : Command → Files → Files → Type 0
-PartFiles (Optimise input output library) old new =
+PartFiles (OnFolder input library (Optimise output)) old new =
     PutsOptimised (λ final. ArePartlyPut final output old new) (old input) (old library)
-PartFiles (Verify input library) old new = ⊥
-PartFiles (Plan input library) old new = ⊥
-PartFiles (Run input script library steps) old new = ⊥
+PartFiles command old new = ⊥
 
 -- for the command that the words spell
 pub record LeavesDone (words : List Word) (old new : Files) : Type 0 where
@@ -93,26 +93,60 @@ pub record IsRunText (files : Files) (script library : Word) (steps : ℕ) (clas
   pub is : text ≡ events_text (shown_after program actions steps)
   pub not_stuck : IsNeverStuck program actions steps
 
--- what is printed of a command that was done, over so many files of its input, of which these are its class files
-abbrev pub IsDoneText : Command → Files → ℕ → List ClassFile → Bytes → Type 0
-IsDoneText (Optimise input output library) files count classes text =
-    IsOptimisedLine (files input) (files library) count (length classes) text
-IsDoneText (Verify input library) files count classes text =
-    text ≡ verified_line (length classes) (method_count classes)
-IsDoneText (Plan input library) files count classes text =
-    IsPlanText (files input) (files library) text
-IsDoneText (Run input script library steps) files count classes text =
-    IsRunText files script library steps classes text
+-- the texts of what these class files show, and of what their written folder shows, with the headers of the library and by the script, in at
+-- most so many steps each
+pub record IsBothText (files : Files) (input script library : Word) (steps : ℕ) (text : Bytes)
+    : Type 0 where
+  pub tree : Classes
+  pub optimised : Optimised
+  pub are : AreOptimised (files input) (files library) tree optimised
+  pub actions : List Action
+  pub is_script : IsScriptThere files script actions
+  pub before : Shown
+  pub after : Shown
+  pub shown : AreBothShown tree optimised.classes actions steps before after
+  pub is : text ≡ both_text before after
 
--- what is printed of a command over these files that was done
+-- what is printed where a task was done, over so many files of its folder, of which these are its class files
+abbrev pub IsTaskText : Word → Word → Task → Files → ℕ → List ClassFile → Bytes → Type 0
+IsTaskText input library (Optimise output) files count classes text =
+    IsOptimisedLine (files input) (files library) count (length classes) text
+IsTaskText input library Verify files count classes text =
+    text ≡ verified_line (length classes) (method_count classes)
+IsTaskText input library Plan files count classes text =
+    IsPlanText (files input) (files library) text
+IsTaskText input library (Run script steps) files count classes text =
+    IsRunText files script library steps classes text
+IsTaskText input library (Both script steps) files count classes text =
+    IsBothText files input script library steps text
+
+-- the same, over the files of the folder
+pub record IsFolderText (input library : Word) (task : Task) (files : Files) (text : Bytes)
+    : Type 0 where
+  pub names : List Bytes
+  pub of_input : AreNames (files input) names
+  pub classes : List ClassFile
+  pub are_read : AreReadAs ClassOf (files input) names classes
+  pub is : IsTaskText input library task files (length names) classes text
+
+-- the listing of the class file of this name
+pub record IsListingText (folder : Folder) (name text : Bytes) : Type 0 where
+  pub bytes : Bytes
+  pub there : folder name ≡ Some bytes
+  pub class : ClassFile
+  pub is_class : ClassOf bytes class
+  pub is : text ≡ listing class
+
+-- what is printed of a command that was done
+abbrev pub IsDoneText : Command → Files → Bytes → Type 0
+IsDoneText (OnFolder input library task) files text = IsFolderText input library task files text
+IsDoneText (Listing input name) files text = IsListingText (files input) name text
+
+-- what is printed of the command that the words spell
 pub record IsSummary (words : List Word) (files : Files) (line : Bytes) : Type 0 where
   pub command : Command
   pub spelled : Spells command words
-  pub names : List Bytes
-  pub of_input : AreNames (files (input_of command)) names
-  pub classes : List ClassFile
-  pub are_read : AreReadAs ClassOf (files (input_of command)) names classes
-  pub is : IsDoneText command files (length names) classes line
+  pub is : IsDoneText command files line
 
 -- all of the summary was printed
 pub record PrintsSummary (words : List Word) (files : Files) (old new : Bytes) : Type 0 where
@@ -165,13 +199,25 @@ Leaves words old new PrintRose before after (failed calls.Print) =
     LeavesDone words old new × PrintsPart words old before after
 Leaves words old new PrintRose before after out_of_memory = Unfinished words old new before after
 
+-- the task writes files
+abbrev pub WritesTask : Task → Type 0
+WritesTask (Optimise output) = Unit {0}
+WritesTask task = ⊥
+
 -- the command writes files
 abbrev pub IsWriting : Command → Type 0
-IsWriting (Optimise input output library) = Unit {0}
-IsWriting (Verify input library) = ⊥
-IsWriting (Plan input library) = ⊥
-IsWriting (Run input script library steps) = ⊥
+IsWriting (OnFolder input library task) = WritesTask task
+IsWriting (Listing input name) = ⊥
 
 -- the words spell no command that writes
 abbrev pub SpellNoWrite : List Word → Type 0
 SpellNoWrite words = (command : Command) → Spells command words → ¬ IsWriting command
+
+-- the command reads folders
+abbrev pub IsOnFolder : Command → Type 0
+IsOnFolder (OnFolder input library task) = Unit {0}
+IsOnFolder (Listing input name) = ⊥
+
+-- the words spell no command that reads folders
+abbrev pub SpellNoFolder : List Word → Type 0
+SpellNoFolder words = (command : Command) → Spells command words → ¬ IsOnFolder command

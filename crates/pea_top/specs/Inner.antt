@@ -4,7 +4,9 @@ pub mod Reading
 pub mod ReadingSteps
 pub mod ReadFiles
 pub mod Optimising
+pub mod Both
 pub mod Scripts
+pub mod Listing
 pub mod Linking
 pub mod Verifying
 pub mod Writing

@@ -6,6 +6,7 @@ pub mod Linking
 pub mod Verifying
 pub mod Answer
 pub mod Optimising
+pub mod Both
 pub mod Effects
 pub mod Meaning
 pub mod CommandView

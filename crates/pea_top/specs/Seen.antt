@@ -2,7 +2,7 @@
 use Rattle.std.specs.Prelude.{◌≡◌, ◌↔◌, Option, Some, None, List, [], ◌∷◌, ◌++◌, length}
 use Rattle.std.specs.Borrow.{Bor}
 use Rattle.std.specs.List.{flat_map, AllByRecursion}
-use Rattle.pea_top.specs.Words.{Word, Command, CommandOption, lib_option, steps_option, option_name, Part, Positional, Separate, Joined, words_of, IsPart, positionals, values_of, name_of, positionals_of, library_of, HasSteps, IsApart}
+use Rattle.pea_top.specs.Words.{Word, Command, CommandOption, lib_option, steps_option, option_name, Part, Positional, Separate, Joined, words_of, IsPart, positionals, values_of, name_of, positionals_of, HasValues, IsApart}
 use Rattle.pea_top.specs.declared.words.OptionName.{OptionName}
 use Rattle.pea_top.specs.declared.words.OptionName.TheVariants.{Lib, Steps}
 use Rattle.pea_top.specs.declared.words.Positionals.{Positionals}
@@ -40,8 +40,7 @@ awaiting (Some option) = option_name (option_view option) ∷ []
 pub record AreOf (command : Command) (positional : List Word) (values : CommandOption → List Word)
     : Type 0 where
   pub positional_are : positional ≡ positionals_of command
-  pub library_is : values lib_option ≡ library_of command ∷ []
-  pub steps_are : HasSteps command (values steps_option)
+  pub values_are : (option : CommandOption) → HasValues command option (values option)
   pub apart : IsApart command
 
 -- the arguments seen are all of the command's

@@ -7,45 +7,48 @@ use Rattle.std.specs.Str.Parse.{IsNumeral, digits_value}
 abbrev pub Word : Type 0
 Word = List ℕ
 
--- What the words ask for: to optimise the folder input into the folder output, to verify the folder input, to say what becomes of each
--- of its methods, or to run it by a script, in at most so many steps, with the library's folder.
+-- What is done with a folder: to optimise it into the folder output, to verify it, to say what becomes of each of its methods, to run it by
+-- a script in at most so many steps, or to run both it and its written folder.
+pub data Task : Type 0 where
+  Optimise : (output : Word) → Task
+  Verify : Task
+  Plan : Task
+  Run : (script : Word) (steps : ℕ) → Task
+  Both : (script : Word) (steps : ℕ) → Task
+
+-- What the words ask for: to do this with the folder input and the library's folder, or to list the class file of this name in the folder
+-- input.
 pub data Command : Type 0 where
-  Optimise : (input output library : Word) → Command
-  Verify : (input library : Word) → Command
-  Plan : (input library : Word) → Command
-  Run : (input script library : Word) (steps : ℕ) → Command
+  OnFolder : (input library : Word) (task : Task) → Command
+  Listing : (input name : Word) → Command
+
+abbrev pub task_name : Task → Word
+task_name (Optimise output) = codes "optimise"
+task_name Verify = codes "verify"
+task_name Plan = codes "plan"
+task_name (Run script steps) = codes "run"
+task_name (Both script steps) = codes "both"
 
 abbrev pub name_of : Command → Word
-name_of (Optimise input output library) = codes "optimise"
-name_of (Verify input library) = codes "verify"
-name_of (Plan input library) = codes "plan"
-name_of (Run input script library steps) = codes "run"
+name_of (OnFolder input library task) = task_name task
+name_of (Listing input name) = codes "list"
 
-abbrev pub input_of : Command → Word
-input_of (Optimise input output library) = input
-input_of (Verify input library) = input
-input_of (Plan input library) = input
-input_of (Run input script library steps) = input
+-- the positional words of its spelling, in order: of a task those behind the input
+abbrev pub task_positionals : Task → List Word
+task_positionals (Optimise output) = output ∷ []
+task_positionals Verify = []
+task_positionals Plan = []
+task_positionals (Run script steps) = script ∷ []
+task_positionals (Both script steps) = script ∷ []
 
-abbrev pub library_of : Command → Word
-library_of (Optimise input output library) = library
-library_of (Verify input library) = library
-library_of (Plan input library) = library
-library_of (Run input script library steps) = library
-
--- the positional words of its spelling, in order
 abbrev pub positionals_of : Command → List Word
-positionals_of (Optimise input output library) = input ∷ output ∷ []
-positionals_of (Verify input library) = input ∷ []
-positionals_of (Plan input library) = input ∷ []
-positionals_of (Run input script library steps) = input ∷ script ∷ []
+positionals_of (OnFolder input library task) = input ∷ task_positionals task
+positionals_of (Listing input name) = input ∷ name ∷ []
 
 -- the output differs as text from the input and from the library
 abbrev pub IsApart : Command → Type 0
-IsApart (Optimise input output library) = (output ≢ input) × (output ≢ library)
-IsApart (Verify input library) = Unit {0}
-IsApart (Plan input library) = Unit {0}
-IsApart (Run input script library steps) = Unit {0}
+IsApart (OnFolder input library (Optimise output)) = (output ≢ input) × (output ≢ library)
+IsApart command = Unit {0}
 
 -- ---- options
 
@@ -63,17 +66,34 @@ pub record IsNumber (number : ℕ) (word : Word) : Type 0 where
   pub few : length word ≤ 20
   pub value : digits_value 10 word ≡ number
 
--- the value of --steps in a run
-pub record AreSteps (steps : ℕ) (word : Word) : Type 0 where
-  pub number : IsNumber steps word
-  pub few : steps ≤ 10000000
+-- a number within these bounds
+pub record IsWithin (low high number : ℕ) (word : Word) : Type 0 where
+  pub is : IsNumber number word
+  pub least : low ≤ number
+  pub most : number ≤ high
 
--- the values of --steps in a command: a run has at most one, and else 1,000,000 steps; other commands have none
-abbrev pub HasSteps : Command → List Word → Type 0
-HasSteps (Run input script library steps) [] = steps ≡ 1000000
-HasSteps (Run input script library steps) (word ∷ []) = AreSteps steps word
-HasSteps (Run input script library steps) (first ∷ second ∷ others) = ⊥
-HasSteps command values = values ≡ []
+-- an option that stands once, with such a number
+abbrev pub HasNumber : (low high number : ℕ) → List Word → Type 0
+HasNumber low high number [] = ⊥
+HasNumber low high number (word ∷ []) = IsWithin low high number word
+HasNumber low high number (first ∷ second ∷ others) = ⊥
+
+-- the values of --steps in a run: 1,000,000 where there is none
+abbrev pub HasSteps : ℕ → List Word → Type 0
+HasSteps steps [] = steps ≡ 1000000
+HasSteps steps (word ∷ words) = HasNumber 0 10000000 steps (word ∷ words)
+
+-- the values of --steps in a task
+abbrev pub TaskSteps : Task → List Word → Type 0
+TaskSteps (Run script steps) values = HasSteps steps values
+TaskSteps (Both script steps) values = HasSteps steps values
+TaskSteps task values = values ≡ []
+
+-- the values of an option in a command
+abbrev pub HasValues : Command → CommandOption → List Word → Type 0
+HasValues (OnFolder input library task) lib_option values = values ≡ library ∷ []
+HasValues (OnFolder input library task) steps_option values = TaskSteps task values
+HasValues command option values = values ≡ []
 
 -- ---- parts
 
@@ -129,8 +149,7 @@ pub record Spells (command : Command) (words : List Word) : Type 0 where
   pub spelled : words ≡ name_of command ∷ flat_map words_of parts
   pub each : AllByRecursion IsPart parts
   pub positional : positionals parts ≡ positionals_of command
-  pub library : values_of lib_option parts ≡ library_of command ∷ []
-  pub steps : HasSteps command (values_of steps_option parts)
+  pub values : (option : CommandOption) → HasValues command option (values_of option parts)
   pub apart : IsApart command
 
 -- the words are outside the grammar

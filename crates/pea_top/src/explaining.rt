@@ -7,6 +7,7 @@ ghost use Rattle.member_link.specs.Linked.{IsLinked};
 
 use crate::folder::{NamedFile, is_class_file};
 use crate::linking::LinkStop;
+use crate::listing::ListStop;
 use crate::progress::show_linking;
 use crate::reading::{Input, ReadStop};
 use crate::script::ScriptStop;
@@ -14,8 +15,9 @@ use class_bytes::read_class;
 use class_model::NoMemory;
 use class_tree::{ClassFileList, LinkFault, Tree};
 use explain::{
-    Folders, Outlines, class_counts, explain_absent, explain_hierarchy, explain_line,
-    explain_links, explain_malformed, explain_usage, explain_verification, explain_version,
+    Folders, Outlines, Side, class_counts, explain_absent, explain_hierarchy, explain_line,
+    explain_links, explain_malformed, explain_no_file, explain_usage, explain_verification,
+    explain_version,
 };
 use host_tree::Host;
 use std::alloc::Global;
@@ -103,6 +105,38 @@ fn lines_of_script(alloc: Global, stop: &ScriptStop) -> Result<String, NoMemory>
         ScriptStop::Absent { name } => explain_absent(alloc, name.as_str()),
         ScriptStop::Outside { line, bytes } => explain_line(alloc, bytes.as_slice(), *line),
         ScriptStop::Fault | ScriptStop::NoMemory => Err(NoMemory),
+    }
+}
+
+/// Explains why a file of a folder is not listed.
+pub(crate) fn explain_listing<H: Host>(alloc: Global, host: &mut H, folder: &str, stop: &ListStop)
+    ensures files { IsTrue H.tells → SameFiles (H.file host.old) (H.file host.new) }
+    ensures printed { IsTrue H.tells → H.printed host.new ≡ H.printed host.old }
+    ensures counts { (call : HostCall) → H.faults host.new call ≡ H.faults host.old call }
+{
+    show(host, lines_of_listing(alloc, folder, stop));
+}
+
+fn lines_of_listing(alloc: Global, folder: &str, stop: &ListStop) -> Result<String, NoMemory> {
+    match stop {
+        ListStop::Absent { name } => explain_no_file(alloc, folder, name.as_str()),
+        ListStop::Malformed {
+            name,
+            at,
+            rule,
+            bytes,
+        } => explain_malformed(
+            alloc,
+            Side::Input,
+            name.as_str(),
+            bytes.as_slice(),
+            *at,
+            *rule,
+        ),
+        ListStop::Version { name, major, minor } => {
+            explain_version(alloc, Side::Input, name.as_str(), *major, *minor)
+        }
+        ListStop::Fault | ListStop::NoMemory => Err(NoMemory),
     }
 }
 

@@ -1,11 +1,13 @@
 //! The top call: from the words of a command to files, a printed line and a status.
 #![tactic(auto)]
 
+mod both;
 mod explaining;
 mod folder;
 mod laws;
 mod lines;
 mod linking;
+mod listing;
 mod optimising;
 mod progress;
 mod reading;

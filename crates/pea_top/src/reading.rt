@@ -301,7 +301,7 @@ fn file_of(
 }
 
 /// The class file that these bytes are read as.
-fn class_of(alloc: Global, bytes: &ByteList) -> Result<ClassFile, ClassFault>
+pub(crate) fn class_of(alloc: Global, bytes: &ByteList) -> Result<ClassFile, ClassFault>
     ensures class { IfOk result (λ class. ClassOf bytes.now class) }
     ensures class_file { IfOk result IsClassFile }
     ensures fits { IfOk result FitsCounts }

@@ -6,6 +6,7 @@ ghost use Rattle.host_tree.specs.Counts.{Rose, CountsOnly};
 ghost use Rattle.pea_top.specs.Inner.Scripts.{IsScriptOrWhy, IsScriptStop, script_status};
 ghost use Rattle.pea_top.specs.declared.script.ScriptStop.TheVariants.{NoMemory as no_memory};
 
+use crate::folder::file_name;
 use crate::reading::read_whole;
 use crate::status::Status;
 use class_model::{ByteList, NoMemory};
@@ -92,11 +93,9 @@ fn read_file<H: Host>(alloc: Global, host: &mut H, name: &str) -> Result<ByteLis
 fn absent(alloc: Global, name: &str) -> ScriptStop
     ensures { (result ≡ ScriptStop.Absent name.now) ⊎ (result ≡ ScriptStop.NoMemory) }
 {
-    match String::from_str(alloc, name) {
-        Ok(text) => ScriptStop::Absent {
-            name: FileName::new(text),
-        },
-        Err(_) => ScriptStop::NoMemory,
+    match file_name(alloc, name) {
+        Ok(name) => ScriptStop::Absent { name },
+        Err(NoMemory) => ScriptStop::NoMemory,
     }
 }
 

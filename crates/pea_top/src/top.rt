@@ -6,29 +6,31 @@ ghost use Rattle.host_tree.specs.declared.call.HostCall.{HostCall};
 ghost use Rattle.host_tree.specs.Host.{Bytes, Files};
 ghost use Rattle.host_tree.specs.Counts.{NeverFalls, Rose, CountsOnly};
 ghost use Rattle.member_link.specs.Linked.{IsLinked};
-ghost use Rattle.pea_top.specs.Words.{Word, Command as grammar_command, Optimise, Spells, IsUsage};
+ghost use Rattle.pea_top.specs.Words.{Word, Task as grammar_task, Optimise, OnFolder, Listing, Spells, IsUsage};
 ghost use Rattle.pea_top.specs.Meaning.{MeansTheSame, under_names};
-ghost use Rattle.pea_top.specs.CommandView.{command_view};
+ghost use Rattle.pea_top.specs.CommandView.{command_view, task_view};
 ghost use Rattle.pea_top.specs.Status.{ending};
 ghost use Rattle.pea_top.specs.Inner.Ended.{ended};
 ghost use Rattle.pea_top.specs.Answer.{CanDo, HasCause, IsAnswer};
-ghost use Rattle.pea_top.specs.Effects.{IsWriting, SpellNoWrite, Leaves};
+ghost use Rattle.pea_top.specs.Effects.{IsWriting, WritesTask, IsOnFolder, SpellNoWrite, SpellNoFolder, Leaves};
 ghost use Rattle.pea_top.specs.Inner.ReadFiles.{AreClassesOf, AreFilesFor, HasNames};
 ghost use Rattle.pea_top.specs.Inner.Deciding.{AreInput, WritesFiles, IsPrepared, AreArranged, IsOutcome, IsStop};
 
 use crate::explaining::{
-    explain_linking, explain_reading, explain_script, explain_verifying, explain_words, note_input,
+    explain_linking, explain_listing, explain_reading, explain_script, explain_verifying,
+    explain_words, note_input,
 };
 use crate::folder::NamedFile;
 use crate::laws::{words_and_files_have_one_answer, words_spell_one_command};
 use crate::lines::refusal;
 use crate::linking::{link, link_status};
+use crate::listing::{list_file, list_status};
 use crate::reading::{Input, read_input, status_of};
 use crate::script::script_status;
 use crate::status::Status;
 use crate::verifying::{verify_for, verify_status};
-use crate::words::{Command, command_of};
-use crate::work::{Work, carry_out, work_of};
+use crate::words::{Command, Task, command_of};
+use crate::work::{Work, carry_out, finish, work_of};
 use class_model::bytes_are_one_class_file;
 use class_tree::Tree;
 use explain::Outlines;
@@ -42,7 +44,9 @@ use std::alloc::Global;
 /// prints one line. `verify IN --lib LIB` decides the same, writes no file and prints one line. `plan IN --lib LIB` decides the same,
 /// writes no file and prints what becomes of each method when IN is optimised, and why. `run IN SCRIPT --lib LIB`
 /// decides the same and that the file SCRIPT is a script, runs the folder IN by it, in at most as many steps as `--steps N`
-/// says or else 1,000,000, writes no file, and prints the events of the run and its end.
+/// says or else 1,000,000, writes no file, and prints the events of the run and its end. `both` takes the same words, and prints
+/// `before`, this run, `after`, and the run of the folder that `optimise` would write, which is made in memory. `list IN NAME` reads the
+/// file NAME of the folder IN alone, whatever its name ends with, and prints its listing.
 ///
 /// # Errors
 /// `Done` and each refusal come exactly where their clauses say, unless memory runs out or a call of the host fails. A fault of the
@@ -60,16 +64,19 @@ pub fn pea<H: Host>(alloc: Global, words: &[String], host: &mut H) -> Status
     ensures counts { (call : HostCall)
         → NeverFalls (H.faults host.old call) (H.faults host.new call) }
 
-    // Of a host that does not tell, a script is absent only where its count of reading rose.
+    // Of a host that does not tell, a file is absent only where its count of reading rose.
     ensures absent { (name : Bytes)
         → result ≡ Status.Absent name
         → IsTrue H.tells ⊎ Rose (H.faults host.old HostCall.Read) (H.faults host.new HostCall.Read) }
 
-    // Words outside the grammar list, read and write nothing; words that spell no command that writes write nothing.
+    // Words outside the grammar list, read and write nothing; words that spell no command that writes write nothing, and words that
+    // spell no command on folders list nothing.
     ensures outside_counts { IsUsage (map string_bytes words.now)
         → CountsOnly HostCall.Print (H.faults host.old) (H.faults host.new) }
     ensures write_count { SpellNoWrite (map string_bytes words.now)
         → H.faults host.new HostCall.Write ≡ H.faults host.old HostCall.Write }
+    ensures list_count { SpellNoFolder (map string_bytes words.now)
+        → H.faults host.new HostCall.List ≡ H.faults host.old HostCall.List }
 
     // Where the host tells: the cause of the status, the files that it leaves, and what was printed.
     ensures cause { IsTrue H.tells
@@ -97,7 +104,7 @@ pub fn pea<H: Host>(alloc: Global, words: &[String], host: &mut H) -> Status
     ensures meaning { (input output library : Word)
         → IsTrue H.tells
         → result ≡ Status.Done
-        → Spells (Optimise input output library) (map string_bytes words.now)
+        → Spells (OnFolder input library (Optimise output)) (map string_bytes words.now)
         → MeansTheSame (H.file host.old input) (H.file host.old library)
         (under_names (H.file host.old input) (H.file host.new output)) }
 {
@@ -126,6 +133,8 @@ fn run<H: Host>(alloc: Global, words: &[String], host: &mut H) -> Result<(), Sta
         → IsTrue H.tells ⊎ Rose (H.faults host.old HostCall.Read) (H.faults host.new HostCall.Read) }
     ensures write_count { SpellNoWrite (map string_bytes words.now)
         → H.faults host.new HostCall.Write ≡ H.faults host.old HostCall.Write }
+    ensures list_count { SpellNoFolder (map string_bytes words.now)
+        → H.faults host.new HostCall.List ≡ H.faults host.old HostCall.List }
     ensures stop { IsTrue H.tells
         → IsStop (map string_bytes words.now) (H.file host.old) (H.file host.new)
         (H.printed host.old) (H.printed host.new) (ended result) }
@@ -139,7 +148,7 @@ fn run<H: Host>(alloc: Global, words: &[String], host: &mut H) -> Result<(), Sta
     }
 }
 
-/// Reads the input and the library of a command whole, and goes on with them.
+/// Does what a command asks for, up to where it stops.
 fn perform<H: Host>(alloc: Global, command: Command<'_>, host: &mut H) -> Result<(), Status>
     ensures not_usage { ¬ IsErrOf result Status.Usage }
     ensures fault { (call : HostCall)
@@ -152,16 +161,81 @@ fn perform<H: Host>(alloc: Global, command: Command<'_>, host: &mut H) -> Result
         → IsTrue H.tells ⊎ Rose (H.faults host.old HostCall.Read) (H.faults host.new HostCall.Read) }
     ensures write_count { ¬ IsWriting (command_view command.entry)
         → H.faults host.new HostCall.Write ≡ H.faults host.old HostCall.Write }
+    ensures list_count { ¬ IsOnFolder (command_view command.entry)
+        → H.faults host.new HostCall.List ≡ H.faults host.old HostCall.List }
     ensures stop { (words : List Word)
         → Spells (command_view command.entry) words
         → IsTrue H.tells
         → IsStop words (H.file host.old) (H.file host.new) (H.printed host.old) (H.printed host.new)
         (ended result) }
 {
-    match read_input(alloc, host, command.input(), command.library()) {
-        Ok(input) => {
-            note_input(alloc, host, &input);
-            decide(alloc, command, host, input)
+    match command {
+        Command::OnFolder {
+            input,
+            library,
+            task,
+        } => read_folder(alloc, host, input, library, task),
+        Command::Listing { input, name } => list(alloc, host, input, name),
+    }
+}
+
+/// Reads a file alone, and prints its listing.
+fn list<H: Host>(alloc: Global, host: &mut H, input: &str, name: &str) -> Result<(), Status>
+    ensures not_usage { ¬ IsErrOf result Status.Usage }
+    ensures fault { (call : HostCall)
+        → IsErrOf result (Status.HostFault call)
+        → Rose (H.faults host.old call) (H.faults host.new call) }
+    ensures counts { (call : HostCall)
+        → NeverFalls (H.faults host.old call) (H.faults host.new call) }
+    ensures absent { (name : Bytes)
+        → IsErrOf result (Status.Absent name)
+        → IsTrue H.tells ⊎ Rose (H.faults host.old HostCall.Read) (H.faults host.new HostCall.Read) }
+    ensures write_count { H.faults host.new HostCall.Write ≡ H.faults host.old HostCall.Write }
+    ensures list_count { H.faults host.new HostCall.List ≡ H.faults host.old HostCall.List }
+    ensures stop { (words : List Word)
+        → Spells (Listing input.now name.now) words
+        → IsTrue H.tells
+        → IsStop words (H.file host.old) (H.file host.new) (H.printed host.old) (H.printed host.new)
+        (ended result) }
+{
+    match list_file(alloc, host, input, name) {
+        Ok(text) => finish(alloc, host, text.as_slice()),
+        Err(stop) => {
+            explain_listing(alloc, host, input, &stop);
+            Err(list_status(stop))
+        }
+    }
+}
+
+/// Reads a folder and its library whole, and goes on with them.
+fn read_folder<H: Host>(
+    alloc: Global,
+    host: &mut H,
+    input: &str,
+    library: &str,
+    task: Task<'_>,
+) -> Result<(), Status>
+    ensures not_usage { ¬ IsErrOf result Status.Usage }
+    ensures fault { (call : HostCall)
+        → IsErrOf result (Status.HostFault call)
+        → Rose (H.faults host.old call) (H.faults host.new call) }
+    ensures counts { (call : HostCall)
+        → NeverFalls (H.faults host.old call) (H.faults host.new call) }
+    ensures absent { (name : Bytes)
+        → IsErrOf result (Status.Absent name)
+        → IsTrue H.tells ⊎ Rose (H.faults host.old HostCall.Read) (H.faults host.new HostCall.Read) }
+    ensures write_count { ¬ WritesTask (task_view task.entry)
+        → H.faults host.new HostCall.Write ≡ H.faults host.old HostCall.Write }
+    ensures stop { (words : List Word)
+        → Spells (OnFolder input.now library.now (task_view task.entry)) words
+        → IsTrue H.tells
+        → IsStop words (H.file host.old) (H.file host.new) (H.printed host.old) (H.printed host.new)
+        (ended result) }
+{
+    match read_input(alloc, host, input, library) {
+        Ok(read) => {
+            note_input(alloc, host, &read);
+            decide(alloc, task, host, read)
         }
         Err(stop) => {
             explain_reading(alloc, host, &stop);
@@ -170,16 +244,8 @@ fn perform<H: Host>(alloc: Global, command: Command<'_>, host: &mut H) -> Result
     }
 }
 
-/// Makes the work of a command of what was read for it, reading its script, and goes on with it.
-fn decide<H: Host>(
-    alloc: Global,
-    command: Command<'_>,
-    host: &mut H,
-    input: Input,
-) -> Result<(), Status>
-    requires read { IsTrue H.tells
-        → AreInput (command_view command) (H.file host.old) input.files.items input.classes
-        input.headers }
+/// Makes the work of a task of what was read for it, reading its script, and goes on with it.
+fn decide<H: Host>(alloc: Global, task: Task<'_>, host: &mut H, input: Input) -> Result<(), Status>
     requires classes { AllByRecursion IsClassFile input.classes }
     requires headers { AllByRecursion IsLibraryClass input.headers }
     requires pairs { AreClassesOf input.files.items input.classes }
@@ -192,15 +258,16 @@ fn decide<H: Host>(
     ensures absent { (name : Bytes)
         → IsErrOf result (Status.Absent name)
         → IsTrue H.tells ⊎ Rose (H.faults host.old HostCall.Read) (H.faults host.new HostCall.Read) }
-    ensures write_count { ¬ IsWriting (command_view command.entry)
+    ensures write_count { ¬ WritesTask (task_view task.entry)
         → H.faults host.new HostCall.Write ≡ H.faults host.old HostCall.Write }
-    ensures stop { (words : List Word)
-        → Spells (command_view command.entry) words
+    ensures stop { (folder library : Word) (words : List Word)
+        → Spells (OnFolder folder library (task_view task.entry)) words
         → IsTrue H.tells
+        → AreInput folder library (H.file host.old) input.files.items input.classes input.headers
         → IsStop words (H.file host.old) (H.file host.new) (H.printed host.old) (H.printed host.new)
         (ended result) }
 {
-    match work_of(alloc, command, host, &input) {
+    match work_of(alloc, task, host, &input) {
         Ok(work) => link_input(alloc, host, input, &work),
         Err(stop) => {
             explain_script(alloc, host, &stop);
@@ -229,10 +296,11 @@ fn link_input<H: Host>(
         → NeverFalls (H.faults host.old call) (H.faults host.new call) }
     ensures write_count { ¬ WritesFiles work.now
         → H.faults host.new HostCall.Write ≡ H.faults host.old HostCall.Write }
-    ensures stop { (command : grammar_command) (words : List Word)
-        → Spells command words
+    ensures stop { (folder library : Word) (task : grammar_task) (words : List Word)
+        → Spells (OnFolder folder library task) words
         → IsTrue H.tells
-        → IsPrepared command (H.file host.old) input.files.items input.classes input.headers work.now
+        → IsPrepared folder library task (H.file host.old) input.files.items input.classes
+        input.headers work.now
         → IsStop words (H.file host.old) (H.file host.new) (H.printed host.old) (H.printed host.new)
         (ended result) }
 {
@@ -265,10 +333,10 @@ fn verify<H: Host>(
         → NeverFalls (H.faults host.old call) (H.faults host.new call) }
     ensures write_count { ¬ WritesFiles work.now
         → H.faults host.new HostCall.Write ≡ H.faults host.old HostCall.Write }
-    ensures stop { (command : grammar_command) (words : List Word)
-        → Spells command words
+    ensures stop { (folder library : Word) (task : grammar_task) (words : List Word)
+        → Spells (OnFolder folder library task) words
         → IsTrue H.tells
-        → AreArranged command (H.file host.old) files.items tree.now work.now
+        → AreArranged folder library task (H.file host.old) files.items tree.now work.now
         → IsStop words (H.file host.old) (H.file host.new) (H.printed host.old) (H.printed host.new)
         (ended result) }
 {

@@ -33,12 +33,12 @@ pub(crate) fn verify_for<H: Host>(
             Ok(()) => Ok(None),
             Err(fault) => Err(fault),
         },
-        Work::Optimise { .. } | Work::Plan | Work::Run { .. } => match verify_all(
-            alloc, host, tree,
-        ) {
-            Ok(typed) => Ok(Some(typed)),
-            Err(fault) => Err(fault),
-        },
+        Work::Optimise { .. } | Work::Plan | Work::Run { .. } | Work::Both { .. } => {
+            match verify_all(alloc, host, tree) {
+                Ok(typed) => Ok(Some(typed)),
+                Err(fault) => Err(fault),
+            }
+        }
     }
 }
 

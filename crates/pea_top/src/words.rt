@@ -1,60 +1,35 @@
 //! The grammar of the words.
 ghost use Rattle.std.specs.Prelude.{◌≡◌, ◌≢◌, ℕ, [], ◌++◌, ◌↔◌, codes, map, string_bytes, IfSome, IfNone};
-ghost use Rattle.pea_top.specs.Words.{Word, IsOperand, AreSteps, CommandOption, option_name, Positional, Joined};
-ghost use Rattle.pea_top.specs.Words.{name_of, input_of, library_of, Spells, IsUsage};
+ghost use Rattle.pea_top.specs.Words.{Word, IsOperand, IsWithin, HasSteps, CommandOption, steps_option, option_name, Positional, Joined};
+ghost use Rattle.pea_top.specs.Words.{name_of, Spells, IsUsage};
 ghost use Rattle.pea_top.specs.Words.{Command as grammar_command};
 ghost use Rattle.pea_top.specs.CommandView.{command_view};
-ghost use Rattle.pea_top.specs.Seen.{option_view, Makes, MakesNone, EndsCommand, AreBehindName, Leads, Fails, Adds, IsTooMany};
+ghost use Rattle.pea_top.specs.Seen.{option_view, values_seen, Makes, MakesNone, EndsCommand, AreBehindName, Leads, Fails, Adds, IsTooMany};
 
-/// What the words ask for: to optimise the folder `input` into the folder `output`, to verify the folder `input`, to say what becomes of
-/// each of its methods, or to run it by the file `script` for at most `steps` steps. Each uses the folder of the library.
+/// What is done with a folder: to optimise it into the folder `output`, to verify it, to say what becomes of each of its methods, to run
+/// it by the file `script` for at most `steps` steps, or to run both it and its written folder.
 #[derive(Clone, Copy)]
-pub(crate) enum Command<'a> {
-    Optimise {
-        input: &'a str,
-        output: &'a str,
-        library: &'a str,
-    },
-    Verify {
-        input: &'a str,
-        library: &'a str,
-    },
-    Plan {
-        input: &'a str,
-        library: &'a str,
-    },
-    Run {
-        input: &'a str,
-        script: &'a str,
-        library: &'a str,
-        steps: u64,
-    },
+pub(crate) enum Task<'a> {
+    Optimise { output: &'a str },
+    Verify,
+    Plan,
+    Run { script: &'a str, steps: u64 },
+    Both { script: &'a str, steps: u64 },
 }
 
-impl<'a> Command<'a> {
-    /// The folder that is read.
-    pub(crate) fn input(self) -> &'a str
-        ensures { result.now ≡ input_of (command_view self.entry) }
-    {
-        match self {
-            Command::Optimise { input, .. }
-            | Command::Verify { input, .. }
-            | Command::Plan { input, .. }
-            | Command::Run { input, .. } => input,
-        }
-    }
-
-    /// The folder of the library.
-    pub(crate) fn library(self) -> &'a str
-        ensures { result.now ≡ library_of (command_view self.entry) }
-    {
-        match self {
-            Command::Optimise { library, .. }
-            | Command::Verify { library, .. }
-            | Command::Plan { library, .. }
-            | Command::Run { library, .. } => library,
-        }
-    }
+/// What the words ask for: to do this with the folder `input` and the folder of the library, or to list the class file of this name in
+/// the folder `input`.
+#[derive(Clone, Copy)]
+pub(crate) enum Command<'a> {
+    OnFolder {
+        input: &'a str,
+        library: &'a str,
+        task: Task<'a>,
+    },
+    Listing {
+        input: &'a str,
+        name: &'a str,
+    },
 }
 
 /// The steps of a run where --steps is absent.
@@ -109,6 +84,8 @@ pub(crate) fn command_of(words: &[String]) -> Option<Command<'_>>
         "verify" => arguments.verify(),
         "plan" => arguments.plan(),
         "run" => arguments.run(),
+        "both" => arguments.both(),
+        "list" => arguments.list(),
         _ => None,
     }
 }
@@ -245,10 +222,11 @@ impl<'a> Arguments<'a> {
         if self.steps.is_some() || output == input || output == library {
             return None;
         }
-        Some(Command::Optimise {
+        let task = Task::Optimise { output };
+        Some(Command::OnFolder {
             input,
-            output,
             library,
+            task,
         })
     }
 
@@ -265,7 +243,12 @@ impl<'a> Arguments<'a> {
         if self.steps.is_some() {
             return None;
         }
-        Some(Command::Verify { input, library })
+        let task = Task::Verify;
+        Some(Command::OnFolder {
+            input,
+            library,
+            task,
+        })
     }
 
     /// The command that says what becomes of each method, where these are its arguments.
@@ -281,7 +264,12 @@ impl<'a> Arguments<'a> {
         if self.steps.is_some() {
             return None;
         }
-        Some(Command::Plan { input, library })
+        let task = Task::Plan;
+        Some(Command::OnFolder {
+            input,
+            library,
+            task,
+        })
     }
 
     /// The command that runs, where these are its arguments.
@@ -294,16 +282,60 @@ impl<'a> Arguments<'a> {
             return None;
         };
         let library = self.library?;
-        let steps = match self.steps {
-            Some(word) => steps_of(word)?,
-            None => DEFAULT_STEPS,
-        };
-        Some(Command::Run {
+        let steps = self.most_steps()?;
+        let task = Task::Run { script, steps };
+        Some(Command::OnFolder {
             input,
-            script,
             library,
-            steps,
+            task,
         })
+    }
+
+    /// The command that runs a folder and its written folder, where these are its arguments.
+    fn both(self) -> Option<Command<'a>>
+        ensures name { IfSome result (λ command. name_of (command_view command) ≡ codes "both") }
+        ensures some { IfSome result (λ command. Makes self.entry (command_view command)) }
+        ensures none { IfNone result (MakesNone self.entry (codes "both")) }
+    {
+        let Positionals::Two(input, script) = self.positional else {
+            return None;
+        };
+        let library = self.library?;
+        let steps = self.most_steps()?;
+        let task = Task::Both { script, steps };
+        Some(Command::OnFolder {
+            input,
+            library,
+            task,
+        })
+    }
+
+    /// The steps of a run, where they are in the grammar.
+    fn most_steps(self) -> Option<u64>
+        ensures some { IfSome result
+            (λ steps. HasSteps steps (values_seen self.entry steps_option)) }
+        ensures none { IfNone result ((steps : ℕ)
+            → ¬ HasSteps steps (values_seen self.entry steps_option)) }
+    {
+        match self.steps {
+            Some(word) => number_of(word, 0, MOST_STEPS),
+            None => Some(DEFAULT_STEPS),
+        }
+    }
+
+    /// The command that lists a class file, where these are its arguments.
+    fn list(self) -> Option<Command<'a>>
+        ensures name { IfSome result (λ command. name_of (command_view command) ≡ codes "list") }
+        ensures some { IfSome result (λ command. Makes self.entry (command_view command)) }
+        ensures none { IfNone result (MakesNone self.entry (codes "list")) }
+    {
+        let Positionals::Two(input, name) = self.positional else {
+            return None;
+        };
+        if self.library.is_some() || self.steps.is_some() {
+            return None;
+        }
+        Some(Command::Listing { input, name })
     }
 }
 
@@ -350,16 +382,16 @@ fn joined_value(word: &str) -> Option<(OptionName, &str)>
     }
 }
 
-/// The number of steps that a word gives.
-fn steps_of(word: &str) -> Option<u64>
-    ensures some { IfSome result (λ steps. AreSteps steps word.now) }
-    ensures none { IfNone result ((steps : ℕ) → ¬ AreSteps steps word.now) }
+/// The number that a word gives, within these bounds.
+fn number_of(word: &str, least: u64, most: u64) -> Option<u64>
+    ensures some { IfSome result (λ number. IsWithin least most number word.now) }
+    ensures none { IfNone result ((number : ℕ) → ¬ IsWithin least most number word.now) }
 {
     if word.len() > 20 || word.starts_with('+') {
         return None;
     }
     match word.parse::<u64>() {
-        Ok(steps) if steps <= MOST_STEPS => Some(steps),
+        Ok(number) if least <= number && number <= most => Some(number),
         _ => None,
     }
 }

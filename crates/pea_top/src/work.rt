@@ -4,10 +4,10 @@ ghost use Rattle.class_model.specs.Header.{header_of};
 ghost use Rattle.host_tree.specs.declared.call.HostCall.{HostCall};
 ghost use Rattle.host_tree.specs.Host.{Bytes, Files, SameFiles};
 ghost use Rattle.host_tree.specs.Counts.{NeverFalls, Rose, CountsOnly};
-ghost use Rattle.pea_top.specs.Words.{Word, Command as grammar_command, Spells};
-ghost use Rattle.pea_top.specs.CommandView.{command_view};
+ghost use Rattle.pea_top.specs.Words.{Word, Task as grammar_task, OnFolder, Spells};
+ghost use Rattle.pea_top.specs.CommandView.{task_view};
 ghost use Rattle.pea_top.specs.Status.{ending};
-ghost use Rattle.pea_top.specs.Effects.{method_count, IsWriting};
+ghost use Rattle.pea_top.specs.Effects.{method_count, WritesTask};
 ghost use Rattle.pea_top.specs.Inner.CommandEffects.{LeavesWritten, LeavesPrinted};
 ghost use Rattle.std.specs.Option.{option_copied};
 ghost use Rattle.member_link.specs.Linked.{IsLinked};
@@ -16,8 +16,9 @@ ghost use Rattle.pea_top.specs.Inner.Verifying.{IsKept};
 ghost use Rattle.pea_top.specs.Inner.Deciding.{AreReady, IsShown, IsWork, WritesFiles, IsStop};
 ghost use Rattle.pea_top.specs.Inner.Ended.{ended};
 ghost use Rattle.pea_top.specs.Inner.ReadFiles.{AreFilesFor, HasNames, class_names};
-ghost use Rattle.pea_top.specs.Inner.Scripts.{IsCommandStop};
+ghost use Rattle.pea_top.specs.Inner.Scripts.{IsTaskStop};
 
+use crate::both::both_text;
 use crate::explaining::show;
 use crate::folder::NamedFile;
 use crate::lines::verified;
@@ -25,7 +26,7 @@ use crate::optimising::{output_of, plan_text};
 use crate::reading::Input;
 use crate::script::{ScriptStop, read_actions};
 use crate::status::Status;
-use crate::words::Command;
+use crate::words::Task;
 use crate::writing::write_files;
 use class_model::{ByteList, ClassFile, NoMemory, Text};
 use class_tree::Tree;
@@ -50,12 +51,14 @@ pub(crate) enum Work<'a> {
     Print { line: Vec<u8> },
     /// To run these actions of the library, in at most so many steps, and print what the run shows.
     Run { actions: ActionList, steps: u64 },
+    /// The same, and then to run the written folder.
+    Both { actions: ActionList, steps: u64 },
 }
 
-/// The work of a command of what was read for it. The script of a run is read for it.
+/// The work of a task of what was read for it. The script of a run is read for it.
 pub(crate) fn work_of<'a, H: Host>(
     alloc: Global,
-    command: Command<'a>,
+    task: Task<'a>,
     host: &mut H,
     input: &Input,
 ) -> Result<Work<'a>, ScriptStop>
@@ -63,12 +66,12 @@ pub(crate) fn work_of<'a, H: Host>(
     ensures printed { IsTrue H.tells → H.printed host.new ≡ H.printed host.old }
     ensures counts { CountsOnly HostCall.Read (H.faults host.old) (H.faults host.new) }
     ensures work { IsTrue H.tells
-        → IfOk result (IsWork (command_view command.entry) (H.file host.old) input.now.classes) }
+        → IfOk result (IsWork (task_view task.entry) (H.file host.old) input.now.classes) }
     ensures names { IfOk result (λ work. HasNames work input.now.classes) }
     ensures writes { IfOk result
-        (λ work. WritesFiles work → IsWriting (command_view command.entry)) }
+        (λ work. WritesFiles work → WritesTask (task_view task.entry)) }
     ensures stop { IsTrue H.tells
-        → IfErr result (IsCommandStop (command_view command.entry) (H.file host.old)) }
+        → IfErr result (IsTaskStop (task_view task.entry) (H.file host.old)) }
     ensures fault { IsErrOf result ScriptStop.Fault
         → Rose (H.faults host.old HostCall.Read) (H.faults host.new HostCall.Read) }
     ensures absent { (name : Bytes)
@@ -76,19 +79,23 @@ pub(crate) fn work_of<'a, H: Host>(
         → IsTrue H.tells ⊎ Rose (H.faults host.old HostCall.Read) (H.faults host.new HostCall.Read) }
 {
     let classes = input.classes.as_slice();
-    match command {
-        Command::Optimise { output, .. } => {
+    match task {
+        Task::Optimise { output } => {
             let names = names_of(alloc, classes)?;
             Ok(Work::Optimise { output, names })
         }
-        Command::Plan { .. } => Ok(Work::Plan),
-        Command::Verify { .. } => {
+        Task::Plan => Ok(Work::Plan),
+        Task::Verify => {
             let line = verified(alloc, classes.len(), methods(classes))?;
             Ok(Work::Print { line })
         }
-        Command::Run { script, steps, .. } => {
+        Task::Run { script, steps } => {
             let actions = read_actions(alloc, host, script)?;
             Ok(Work::Run { actions, steps })
+        }
+        Task::Both { script, steps } => {
+            let actions = read_actions(alloc, host, script)?;
+            Ok(Work::Both { actions, steps })
         }
     }
 }
@@ -135,10 +142,10 @@ pub(crate) fn carry_out<H: Host>(
         → NeverFalls (H.faults host.old call) (H.faults host.new call) }
     ensures write_count { ¬ WritesFiles work.now
         → H.faults host.new HostCall.Write ≡ H.faults host.old HostCall.Write }
-    ensures stop { (command : grammar_command) (words : List Word)
-        → Spells command words
+    ensures stop { (input library : Word) (task : grammar_task) (words : List Word)
+        → Spells (OnFolder input library task) words
         → IsTrue H.tells
-        → AreReady command (H.file host.old) files.items tree.now work.now
+        → AreReady input library task (H.file host.old) files.items tree.now work.now
         → IsStop words (H.file host.old) (H.file host.new) (H.printed host.old) (H.printed host.new)
         (ended result) }
 {
@@ -167,6 +174,13 @@ pub(crate) fn carry_out<H: Host>(
         Work::Run { actions, steps } => {
             let typed = kept(typed);
             match run_text(alloc, tree, typed, actions, *steps) {
+                Ok((text, note)) => finish_noted(alloc, host, note, text.as_slice()),
+                Err(NoMemory) => Err(Status::NoMemory),
+            }
+        }
+        Work::Both { actions, steps } => {
+            let typed = kept(typed);
+            match both_text(alloc, tree, typed, actions, *steps) {
                 Ok((text, note)) => finish_noted(alloc, host, note, text.as_slice()),
                 Err(NoMemory) => Err(Status::NoMemory),
             }
@@ -263,7 +277,7 @@ fn finish_noted<H: Host>(
 }
 
 /// Prints the last line of a command that was done.
-fn finish<H: Host>(alloc: Global, host: &mut H, line: &[u8]) -> Result<(), Status>
+pub(crate) fn finish<H: Host>(alloc: Global, host: &mut H, line: &[u8]) -> Result<(), Status>
     ensures not_usage { ¬ IsErrOf result Status.Usage }
     ensures not_absent { (name : Bytes) → ¬ IsErrOf result (Status.Absent name) }
     ensures fault { (call : HostCall)

@@ -1,5 +1,5 @@
 -- An edge is followed: its target is reached, or its state is raised.
-use Rattle.std.proofs.Common.{◌≡◌, ℕ, ◌<◌, zero, suc, Bool, true, false, ◌||◌, List, [], ◌∷◌, take, length, slice_get, slice_set, Option, Some, None, Bor, is_none, is_some, not, IsTrue, IsFalse, refl, sym, ap, subst, ◌∙◌, inl, inr, arith}
+use Rattle.std.proofs.Common.{◌≡◌, ℕ, ◌<◌, ◌≤◌, ◌+◌, zero, suc, Bool, true, false, ◌||◌, List, [], ◌∷◌, take, length, slice_get, slice_set, Option, Some, None, Bor, is_none, is_some, not, IsTrue, IsFalse, refl, sym, ap, subst, ◌∙◌, inl, inr, arith}
 use Rattle.std.specs.Option.{option_copied, option_flatten}
 use Rattle.std.proofs.lemmas.Bool.{false≢true, true≢false, both_ways, or_cases, or_parts}
 use Rattle.std.proofs.lemmas.List.{length-set}
@@ -9,9 +9,9 @@ use Rattle.flow_code.specs.FlatCode.{FlatCode}
 use Rattle.member_link.specs.Machine.Links.{AreLinksOf}
 use Rattle.member_link.specs.Machine.Programs.{Links}
 use Rattle.plan_flow.specs.Inner.Iteration.{IsRaised}
-use Rattle.plan_flow.specs.Inner.Reaching.{Reached, reached_in, IsUnder, IsMore, IsEdgeTo, LeadsIn, IsLess, IsRaisedTo, AreStarted, AreFollowed, HasListed}
+use Rattle.plan_flow.specs.Inner.Reaching.{Reached, reached_in, IsUnder, IsMore, IsEdgeTo, LeadsIn, IsLess, IsRaisedTo, AreStarted, AreFollowed}
 use Rattle.plan_flow.specs.PlanScope.{PlanScope, scope_of}
-use Rattle.plan_flow.specs.Plans.{IsStateAt, state_without_sites}
+use Rattle.plan_flow.specs.Plans.{state_without_sites}
 use Rattle.plan_flow.specs.declared.edge.Edge.{Edge}
 use Rattle.virtual_state.specs.Orders.{IsBelow, HaveSamePlaces}
 use Rattle.virtual_state.specs.Sites.{has}
@@ -95,10 +95,9 @@ pub followed_none :
     (classes : Classes) (flat : FlatCode) (states : List (Option State)) (work : List ℕ) (edges some : List Edge)
     → AreStarted classes flat states edges
     → ((number : ℕ) (edge : Edge) → slice_get some number ≡ Some edge → LeadsIn (reached_in states) edge.to edge.state)
-    → AreFollowed classes flat states states work work some false
+    → AreFollowed classes flat states states work work some
 followed_none classes flat states work edges some started lead = record {
   raised = raised_itself states work;
-  less = less_itself states work;
   under = started.under;
   lead = lead;
 }
@@ -114,13 +113,13 @@ only_leads states edge lead (suc number) one found = absurd (none-some one found
 
 -- the next edge
 pub started_next :
-    (classes : Classes) (flat : FlatCode) (before states : List (Option State)) (work also : List ℕ) (edges some : List Edge) (new : Bool)
+    (classes : Classes) (flat : FlatCode) (before states : List (Option State)) (work also : List ℕ) (edges some : List Edge)
     (number : ℕ) (edge : Edge)
     → AreStarted classes flat before edges
-    → AreFollowed classes flat before states work also some new
+    → AreFollowed classes flat before states work also some
     → slice_get edges number ≡ Some edge
     → AreStarted classes flat states (edge ∷ [])
-started_next classes flat before states work also edges some new number edge started followed is = record {
+started_next classes flat before states work also edges some number edge started followed is = record {
   len = followed.raised.len ∙ started.len;
   under = followed.under;
   edge = λ links at one are found. next links at one are found;
@@ -153,14 +152,13 @@ started_next classes flat before states work also edges some new number edge sta
 
 pub followed_more :
     (classes : Classes) (flat : FlatCode) (one two three : List (Option State)) (first second third : List ℕ) (edges : List Edge)
-    (new also : Bool) (number : ℕ) (edge : Edge)
-    → AreFollowed classes flat one two first second (take number edges) new
-    → AreFollowed classes flat two three second third (edge ∷ []) also
+    (number : ℕ) (edge : Edge)
+    → AreFollowed classes flat one two first second (take number edges)
+    → AreFollowed classes flat two three second third (edge ∷ [])
     → slice_get edges number ≡ Some edge
-    → AreFollowed classes flat one three first third (take (suc number) edges) (new || also)
-followed_more classes flat one two three first second third edges new also number edge low high is = record {
+    → AreFollowed classes flat one three first third (take (suc number) edges)
+followed_more classes flat one two three first second third edges number edge low high is = record {
   raised = raised_and_raised one two three first second third low.raised high.raised;
-  less = less_and_less one two three first second third new also low.less high.less;
   under = high.under;
   lead = λ at item found. elim (took_more edges number at edge item is found) [
     | inl before ↦ leads_more (reached_in two) (reached_in three) item.to item.state high.raised.more (low.lead at item before)
@@ -206,24 +204,52 @@ keeps_start s states to behind above under is same =
       | inr fewer ↦ absurd (omega (arith, fewer))
     ]
 
--- an edge that does not lead to its target yet, and the state that the target is to have
-record Following (classes : Classes) (flat : FlatCode) (before : List (Option State)) (work also : List ℕ) (edge : Edge)
-    (above : State) : Type 0 where
-  links : Links
-  are : AreLinksOf (headers_of classes) links
-  started : AreStarted classes flat before (edge ∷ [])
-  apart : LeadsIn (reached_in before) edge.to edge.state → ⊥
-  is : (s : PlanScope) → s.flat ≡ flat → IsStateAt s edge.to edge.state → IsRaised s edge.to edge.state (reached_in before edge.to) above
-  listed : HasListed work also edge.to
+-- a state that does not lead there yet is raised strictly
+pub raised_less :
+    (s : PlanScope) (before : List (Option State)) (work also : List ℕ) (to : ℕ) (behind above : State)
+    → to < length before
+    → (LeadsIn (reached_in before) to behind → ⊥)
+    → IsRaised s to behind (reached_in before to) above
+    → length also ≤ length work + 1
+    → IsLess before (slice_set before to (Some above)) work also (is_none (reached_in before to))
+raised_less s before work also to behind above inside apart raised more =
+    elim (some_or_none (reached_in before to)) [
+      | inr none ↦
+          subst (λ (o : Option State). IsLess before (slice_set before to (Some above)) work also (is_none o)) (sym none) (by_new none)
+      | inl found ↦
+          subst (λ (o : Option State). IsLess before (slice_set before to (Some above)) work also (is_none o)) (sym found.1)
+          (by_old found.0 found.1)
+    ] where
+      by_new : reached_in before to ≡ None → IsLess before (slice_set before to (Some above)) work also true
+      by_new none =
+          let less = unreached_new before to above inside none in
+          record { fewer = omega (arith, less); reaches = λ new. less; lighter = λ old. absurd (true≢false old) }
 
-raised_in :
-    (classes : Classes) (flat : FlatCode) (before : List (Option State)) (work also : List ℕ) (edge : Edge) (above : State)
-    → Following classes flat before work also edge above
-    → (links : Links)
-    → AreLinksOf (headers_of classes) links
-    → IsRaised (scope_of classes links flat) edge.to edge.state (reached_in before edge.to) above
-raised_in classes flat before work also edge above f links are =
-    f.is (scope_of classes links flat) refl (f.started.edge links 0 edge are refl).is_at
+      by_old : (old : State) → reached_in before to ≡ Some old → IsLess before (slice_set before to (Some above)) work also false
+      by_old old is =
+          let same = unreached_old before to above old is in
+          let objects = objects_old before to above old is in
+          record {
+            fewer = omega (arith, same);
+            reaches = λ new. absurd (false≢true new);
+            lighter = λ no. elim (same_or_fewer old above (raised.above_old old is)) [
+              | inl equal ↦
+                  absurd (apart (record { target = old; reached = is; below = subst (IsBelow behind) (sym equal) raised.below }))
+              | inr fewer ↦ omega (arith, objects, fewer, more)
+            ];
+          }
+
+-- an edge, and the state that its target is to have
+pub record Following (classes : Classes) (flat : FlatCode) (before : List (Option State)) (work also : List ℕ) (edge : Edge)
+    (above : State) : Type 0 where
+  pub links : Links
+  pub are : AreLinksOf (headers_of classes) links
+  pub started : AreStarted classes flat before (edge ∷ [])
+  pub raised : (links : Links)
+      → AreLinksOf (headers_of classes) links
+      → IsRaised (scope_of classes links flat) edge.to edge.state (reached_in before edge.to) above
+  pub here : IsTrue (has also edge.to)
+  pub others : (other : ℕ) → IsTrue (has work other) → IsTrue (has also other)
 
 target_inside :
     (classes : Classes) (flat : FlatCode) (before : List (Option State)) (work also : List ℕ) (edge : Edge) (above : State)
@@ -231,45 +257,12 @@ target_inside :
     → edge.to < length before
 target_inside classes flat before work also edge above f = started_inside classes flat before edge f.links f.are f.started
 
-followed_less :
-    (classes : Classes) (flat : FlatCode) (before : List (Option State)) (work also : List ℕ) (edge : Edge) (above : State)
-    → Following classes flat before work also edge above
-    → IsLess before (slice_set before edge.to (Some above)) work also (is_none (reached_in before edge.to))
-followed_less classes flat before work also edge above f =
-    elim (some_or_none (reached_in before edge.to)) [
-      | inr none ↦
-          subst (λ (o : Option State). IsLess before (slice_set before edge.to (Some above)) work also (is_none o)) (sym none) (by_new none)
-      | inl found ↦
-          subst (λ (o : Option State). IsLess before (slice_set before edge.to (Some above)) work also (is_none o)) (sym found.1)
-          (by_old found.0 found.1)
-    ] where
-      by_new : reached_in before edge.to ≡ None → IsLess before (slice_set before edge.to (Some above)) work also true
-      by_new none =
-          let less = unreached_new before edge.to above (target_inside classes flat before work also edge above f) none in
-          record { fewer = omega (arith, less); reaches = λ new. less; lighter = λ old. absurd (true≢false old) }
-
-      by_old : (old : State) → reached_in before edge.to ≡ Some old → IsLess before (slice_set before edge.to (Some above)) work also false
-      by_old old is =
-          let raised = raised_in classes flat before work also edge above f f.links f.are in
-          let same = unreached_old before edge.to above old is in
-          let objects = objects_old before edge.to above old is in
-          let more = f.listed.more in
-          record {
-            fewer = omega (arith, same);
-            reaches = λ new. absurd (false≢true new);
-            lighter = λ no. elim (same_or_fewer old above (raised.above_old old is)) [
-              | inl equal ↦
-                  absurd (f.apart (record { target = old; reached = is; below = subst (IsBelow edge.state) (sym equal) raised.below }))
-              | inr fewer ↦ omega (arith, objects, fewer, more)
-            ];
-          }
-
-followed_raised :
+pub followed_raised :
     (classes : Classes) (flat : FlatCode) (before : List (Option State)) (work also : List ℕ) (edge : Edge) (above : State)
     → Following classes flat before work also edge above
     → IsRaisedTo before (slice_set before edge.to (Some above)) work also
 followed_raised classes flat before work also edge above f =
-    let raised = raised_in classes flat before work also edge above f f.links f.are in
+    let raised = f.raised f.links f.are in
     let inside = target_inside classes flat before work also edge above f in
     record {
       len = length-set before edge.to (Some above);
@@ -277,13 +270,13 @@ followed_raised classes flat before work also edge above f =
           subst (IsMore (reached_in before)) (sym (put_is before edge.to above inside))
           (put_more (reached_in before) edge.to above raised.above_old);
       same = λ at none. elim (same_or_not edge.to at) [
-        | inl same ↦ absurd (both_ways (has also at) none (subst (λ (n : ℕ). IsTrue (has also n)) same f.listed.here))
+        | inl same ↦ absurd (both_ways (has also at) none (subst (λ (n : ℕ). IsTrue (has also n)) same f.here))
         | inr differ ↦ ap option_flatten (set_other before edge.to at (Some above) differ)
       ];
-      listed = f.listed.others;
+      listed = f.others;
     }
 
-new_is : (state : Option State) (new : Bool) → is_some state ≡ not new → new ≡ is_none state
+pub new_is : (state : Option State) (new : Bool) → is_some state ≡ not new → new ≡ is_none state
 new_is None true is = refl
 new_is None false is = absurd (false≢true is)
 new_is (Some state) true is = absurd (true≢false is)
@@ -291,44 +284,29 @@ new_is (Some state) false is = refl
 
 -- the target is reached, or its state is raised
 pub followed_one :
-    (classes : Classes) (flat : FlatCode) (before after : List (Option State)) (work also : List ℕ) (edge : Edge) (above : State)
-    (new : Bool) (links : Links)
-    → AreLinksOf (headers_of classes) links
-    → AreStarted classes flat before (edge ∷ [])
-    → (LeadsIn (reached_in before) edge.to edge.state → ⊥)
-    → ((s : PlanScope) → s.flat ≡ flat → IsStateAt s edge.to edge.state → IsRaised s edge.to edge.state (reached_in before edge.to) above)
-    → HasListed work also edge.to
-    → after ≡ slice_set before edge.to (Some above)
-    → is_some (reached_in before edge.to) ≡ not new
-    → AreFollowed classes flat before after work also (edge ∷ []) new
-followed_one classes flat before after work also edge above new links are started apart is listed is_after is_new =
-    let f : Following classes flat before work also edge above = record {
-      links = links;
-      are = are;
-      started = started;
-      apart = apart;
-      is = is;
-      listed = listed;
-    } in
+    (classes : Classes) (flat : FlatCode) (before : List (Option State)) (work also : List ℕ) (edge : Edge) (above : State)
+    → Following classes flat before work also edge above
+    → AreFollowed classes flat before (slice_set before edge.to (Some above)) work also (edge ∷ [])
+followed_one classes flat before work also edge above f =
     let inside = target_inside classes flat before work also edge above f in
     let put_in = put_is before edge.to above inside in
-    let raised = raised_in classes flat before work also edge above f links are in
-    subst (λ (states : List (Option State)). AreFollowed classes flat before states work also (edge ∷ []) new) (sym is_after) (record {
+    record {
       raised = followed_raised classes flat before work also edge above f;
-      less =
-          subst (IsLess before (slice_set before edge.to (Some above)) work also) (sym (new_is (reached_in before edge.to) new is_new))
-          (followed_less classes flat before work also edge above f);
       under = λ link are_link.
           let s = scope_of classes link flat in
-          let high = raised_in classes flat before work also edge above f link are_link in
-          let under = started.under link are_link in
+          let high = f.raised link are_link in
+          let under = f.started.under link are_link in
           subst (IsUnder s) (sym put_in)
-          (put_under s (reached_in before) edge.to edge.state above under (started.edge link 0 edge are_link refl) high
+          (put_under s (reached_in before) edge.to edge.state above under (f.started.edge link 0 edge are_link refl) high
           (keeps_start s (reached_in before) edge.to edge.state above under high));
       lead =
           only_leads (slice_set before edge.to (Some above)) edge
-          (record { target = above; reached = ap option_flatten (set_here before edge.to (Some above) inside); below = raised.below });
-    })
+          (record {
+            target = above;
+            reached = ap option_flatten (set_here before edge.to (Some above) inside);
+            below = (f.raised f.links f.are).below;
+          });
+    }
 
 -- ---- a reference that may be missing
 

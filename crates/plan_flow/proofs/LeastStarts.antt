@@ -1,9 +1,9 @@
 -- Where the iteration starts, and the plan with which it ends.
-use Rattle.std.proofs.Common.{◌≡◌, ℕ, ◌<◌, ◌≤◌, ◌+◌, ◌==◌, zero, suc, false, List, [], ◌∷◌, ◌++◌, length, replicate, slice_get, slice_set, not, Option, Some, None, option_map, take, IsTrue, refl, sym, ap, subst, ◌∙◌, inl, inr, arith}
+use Rattle.std.proofs.Common.{◌≡◌, ℕ, ◌<◌, ◌≤◌, ◌+◌, ◌==◌, Bool, false, List, [], ◌∷◌, ◌++◌, length, replicate, slice_get, slice_set, not, Option, Some, None, option_map, IsTrue, refl, sym, ap, subst, ◌∙◌, inl, inr, arith}
 use Rattle.std.specs.Option.{option_flatten}
 use Rattle.std.proofs.lemmas.Bool.{false≢true, true≢false, or_left, or_cases, eq-eqb, eqb-true}
 use Rattle.std.proofs.lemmas.List.{length-set, length-replicate}
-use Rattle.std.proofs.lemmas.Option.{none-some, same_Some}
+use Rattle.std.proofs.lemmas.Option.{none-some}
 use Rattle.class_model.specs.declared.frame.Frame.{Frame}
 use Rattle.class_model.specs.declared.frame.VType.{VType}
 use Rattle.class_tree.specs.Headers.{Classes, headers_of}
@@ -11,6 +11,7 @@ use Rattle.flow_code.specs.FlatCode.{FlatCode, point_at}
 use Rattle.flow_code.specs.declared.point.Point.{Point}
 use Rattle.member_link.specs.Machine.Links.{AreLinksOf}
 use Rattle.member_link.specs.Machine.Programs.{Links}
+use Rattle.plan_flow.specs.Inner.Blocks.{AreHeads, AreReachingBy, HeadTable, IsKnownTo, marked}
 use Rattle.plan_flow.specs.Inner.Planning.{made_edges, IsPlanOf}
 use Rattle.plan_flow.specs.Inner.Reaching.{Reached, reached_in, IsUnder, IsReaching, AreReaching, HasListed}
 use Rattle.plan_flow.specs.Inner.Sharing.{AreTargets, plans_of, targets_in}
@@ -26,7 +27,7 @@ use Rattle.plan_flow.proofs.Iterating.{put, put_other, Final}
 use Rattle.plan_flow.proofs.LeastPlans.{nothing, nothing_at, start_states, start_states_are, start_under, from_left, some_planned, Planning, is_least_plan, point_there, filter_order, blank_slots, no_names, blank_is_state}
 use Rattle.plan_flow.proofs.MustLaws.{same_sites}
 use Rattle.plan_flow.proofs.Pruning.{state_of_is_one}
-use Rattle.plan_flow.proofs.PointLists.{put_is, none_reached, appended_before, appended_here}
+use Rattle.plan_flow.proofs.PointLists.{put_is, none_reached, set_other, appended_before, appended_here}
 use Rattle.plan_flow.proofs.Settled.{path_from_none}
 use Rattle.plan_flow.proofs.SharedPlans.{all_planned_edges}
 use Rattle.plan_flow.proofs.Visiting.{reaching_more, IsLeftIn, AreSharedIn}
@@ -220,6 +221,22 @@ one_more classes flat states points count plan done inside is = record {
   ];
 }
 
+-- a point that is not reached has no plan
+pub none_planned :
+    (classes : Classes) (flat : FlatCode) (states : List (Option State)) (at : ℕ) (links : Links)
+    → reached_in states at ≡ None
+    → IsPlanOf (scope_of classes links flat) (reached_in states) at None
+none_planned classes flat states at links none = record {
+  from = λ point is. absurd (none-some point is);
+  found = λ state is. absurd (none-some state (sym none ∙ is));
+}
+
+-- the plans of points, and the states that are known meanwhile
+pub record IsPlanning (classes : Classes) (flat : FlatCode) (table : HeadTable) (states : List (Option State)) (points : Plan) (count : ℕ)
+    : Type 0 where
+  pub known : IsKnownTo classes flat table count states
+  pub planned : (all : AreReachingBy classes flat table []) → ArePlanned classes flat all.states points count
+
 pub all_planned :
     (classes : Classes) (flat : FlatCode) (states : List (Option State)) (points : Plan) (count : ℕ) (links : Links)
     → AreLinksOf (headers_of classes) links
@@ -238,16 +255,92 @@ all_planned classes flat states points count links are reaching done past =
     } in
     is_least_plan s points planning
 
--- ---- the first work list
+-- ---- the table with which the iteration starts
+
+pub start_by :
+    (classes : Classes) (flat : FlatCode) (table : HeadTable) (types : Frame) (state : State)
+    → FlowsInside flat
+    → AreHeads flat table.heads
+    → option_map (λ (point : Point). point.typed) (point_at flat 0) ≡ Some types
+    → state ≡ record { slots = blank_slots types.locals types.stack; objects = [] }
+    → table.states ≡ slice_set (replicate (length flat.points) None) 0 (Some state)
+    → AreReachingBy classes flat table (0 ∷ [])
+start_by classes flat table types state flows heads typed is_state is = record {
+  states = table.states;
+  reaching = λ links are. started_with (scope_of classes links flat) flat table.states types state refl flows typed is_state is;
+  spread = record {
+    heads = heads;
+    len = refl;
+    each = λ links are. record {
+      same = λ at mark. refl;
+      inner = λ at one none found.
+          let count = length flat.points in
+          let gone : reached_in table.states (at + 1) ≡ None =
+          ap (λ (states : List (Option State)). reached_in states (at + 1)) is
+          ∙ ap option_flatten (set_other (replicate count None) 0 (at + 1) (Some state) (λ same. omega (arith, same)))
+          ∙ ap (λ (states : Reached). states (at + 1)) (none_reached count) ∙ nothing_at (at + 1) in
+          absurd (none-some one (sym gone ∙ found));
+    };
+  };
+  listed = λ at there. elim (or_cases (0 == at) false there) [
+    | inl here ↦ subst (λ (n : ℕ). IsTrue (marked table.heads n)) (eqb-true 0 at here) heads.start
+    | inr none ↦ absurd (false≢true none)
+  ];
+}
+
+-- the table before point 0 is reached
+pub blank_inside :
+    (flat : FlatCode) (heads : List Bool) (table : HeadTable)
+    → FlowsInside flat
+    → AreHeads flat heads
+    → table ≡ record { heads = heads; states = replicate (length heads) None }
+    → 0 < length table.states
+blank_inside flat heads table flows are is =
+    let len : length table.states ≡ length heads =
+    ap (λ (t : HeadTable). length t.states) is ∙ length-replicate {A = Option State} (length heads) None in
+    let points = are.len in
+    let some = flows.some in
+    omega (arith, len, points, some)
+
+pub blank_head :
+    (flat : FlatCode) (heads : List Bool) (table : HeadTable)
+    → AreHeads flat heads
+    → table ≡ record { heads = heads; states = replicate (length heads) None }
+    → IsTrue (marked table.heads 0)
+blank_head flat heads table are is = subst (λ (t : HeadTable). IsTrue (marked t.heads 0)) (sym is) are.start
+
+-- point 0 is reached in it
+pub start_with :
+    (classes : Classes) (flat : FlatCode) (heads : List Bool) (blank table : HeadTable) (types : Frame) (state : State)
+    → FlowsInside flat
+    → AreHeads flat heads
+    → option_map (λ (point : Point). point.typed) (point_at flat 0) ≡ Some types
+    → state ≡ record { slots = blank_slots types.locals types.stack; objects = [] }
+    → blank ≡ record { heads = heads; states = replicate (length heads) None }
+    → table ≡ record blank { states = slice_set blank.states 0 (Some state) }
+    → AreReachingBy classes flat table (0 ∷ [])
+start_with classes flat heads blank table types state flows are typed is_state is_blank is =
+    let made : HeadTable = record { heads = heads; states = slice_set (replicate (length heads) None) 0 (Some state) } in
+    let same : table ≡ made = is ∙ ap {B = HeadTable} (λ (t : HeadTable). record t { states = slice_set t.states 0 (Some state) }) is_blank in
+    subst (λ (t : HeadTable). AreReachingBy classes flat t (0 ∷ [])) (sym same)
+    (start_by classes flat made types state flows are typed is_state
+    (ap (λ (count : ℕ). slice_set (replicate {A = Option State} count None) 0 (Some state)) are.len))
 
 pub start_listed :
-    (classes : Classes) (flat : FlatCode) (states : List (Option State)) (work also : List ℕ)
-    → ((s : PlanScope) → s.flat ≡ flat → IsReaching s states (0 ∷ []))
+    (classes : Classes) (flat : FlatCode) (table : HeadTable) (work also : List ℕ)
+    → work ≡ []
+    → AreReachingBy classes flat table (0 ∷ [])
     → HasListed work also 0
-    → AreReaching classes flat states also
-start_listed classes flat states work also is listed =
-    reaching_more classes flat states (0 ∷ []) also (λ links are. is (scope_of classes links flat) refl)
-    (λ at there. elim (or_cases (0 == at) false there) [
-      | inl here ↦ subst (λ (n : ℕ). IsTrue (has also n)) (eqb-true 0 at here) listed.here
-      | inr none ↦ absurd (false≢true none)
-    ])
+    → AreReachingBy classes flat table also
+start_listed classes flat table work also is all listed = record {
+  states = all.states;
+  reaching = reaching_more classes flat all.states (0 ∷ []) also all.reaching (λ at there. elim (or_cases (0 == at) false there) [
+    | inl here ↦ subst (λ (n : ℕ). IsTrue (has also n)) (eqb-true 0 at here) listed.here
+    | inr none ↦ absurd (false≢true none)
+  ]);
+  spread = all.spread;
+  listed = λ at there. elim (listed.only at there) [
+    | inl same ↦ subst (λ (n : ℕ). IsTrue (marked table.heads n)) same all.spread.heads.start
+    | inr old ↦ absurd (false≢true (subst (λ (list : List ℕ). IsTrue (has list at)) is old))
+  ];
+}

@@ -18,6 +18,11 @@ pub mod LeastPlans
 pub mod PointLists
 pub mod WorkLists
 pub mod Following
+pub mod HeadMarks
+pub mod Straight
+pub mod Walking
+pub mod HeadSteps
+pub mod AllStates
 pub mod Visiting
 pub mod LeastStarts
 pub mod Fitting

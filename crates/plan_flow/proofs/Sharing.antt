@@ -28,7 +28,7 @@ stands_back : {A : Type 0} (items others : List A) (item : A) → StandsIn other
 stands_back [] others item stands = stands
 stands_back (first ∷ items) others item stands = behind_first first (items ++ others) item (stands_back items others item stands)
 
-stands_either : {A : Type 0} (items others : List A) (item : A) (number : ℕ) → slice_get (items ++ others) number ≡ Some item → StandsIn items item ⊎ StandsIn others item
+pub stands_either : {A : Type 0} (items others : List A) (item : A) (number : ℕ) → slice_get (items ++ others) number ≡ Some item → StandsIn items item ⊎ StandsIn others item
 stands_either [] others item number is = inr (record { number = number; is = is })
 stands_either (first ∷ items) others item zero is = inl (record { number = 0; is = is })
 stands_either (first ∷ items) others item (suc number) is = elim (stands_either items others item number is) [
@@ -49,9 +49,9 @@ stands_filtered test (first ∷ items) item zero is passes =
 stands_filtered test (first ∷ items) item (suc number) is passes =
     filtered_behind first (filter test items) item (test first) (stands_filtered test items item number is passes)
 
-record Passing {A : Type 0} (test : A → Bool) (items : List A) (item : A) : Type 0 where
-  stands : StandsIn items item
-  passes : test item ≡ true
+pub record Passing {A : Type 0} (test : A → Bool) (items : List A) (item : A) : Type 0 where
+  pub stands : StandsIn items item
+  pub passes : test item ≡ true
 
 passing_behind : {A : Type 0} (test : A → Bool) (first : A) (items : List A) (item : A) → Passing test items item → Passing test (first ∷ items) item
 passing_behind test first items item passing = record { stands = behind_first first items item passing.stands; passes = passing.passes }
@@ -69,7 +69,7 @@ passing_first test first items item true zero told rest is = record {
 }
 passing_first test first items item true (suc number) told rest is = passing_behind test first items item (rest number is)
 
-filtered_stands : {A : Type 0} (test : A → Bool) (items : List A) (item : A) (number : ℕ) → slice_get (filter test items) number ≡ Some item → Passing test items item
+pub filtered_stands : {A : Type 0} (test : A → Bool) (items : List A) (item : A) (number : ℕ) → slice_get (filter test items) number ≡ Some item → Passing test items item
 filtered_stands test [] item number is = absurd (none-some item is)
 filtered_stands test (first ∷ items) item number is =
     passing_first test first items item (test first) number refl (filtered_stands test items item) is
@@ -83,7 +83,7 @@ has_stands (first ∷ list) to there = elim (or_cases (first == to) (has list to
   | inr rest ↦ behind_first first list to (has_stands list to rest)
 ]
 
-stands_has : (list : List ℕ) (to number : ℕ) → slice_get list number ≡ Some to → has list to ≡ true
+pub stands_has : (list : List ℕ) (to number : ℕ) → slice_get list number ≡ Some to → has list to ≡ true
 stands_has [] to number is = absurd (none-some to is)
 stands_has (first ∷ list) to zero is = or_left (first == to) (has list to) (eq-eqb first to (same_Some first to is))
 stands_has (first ∷ list) to (suc number) is = or_right (first == to) (has list to) (stands_has list to number is)

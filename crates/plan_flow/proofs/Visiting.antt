@@ -1,5 +1,5 @@
 -- The edges of a point are followed, one point of the work list after another.
-use Rattle.std.proofs.Common.{◌≡◌, ℕ, ◌≤◌, ◌+◌, ◌*◌, Bool, false, cond, List, [], ◌∷◌, slice_get, Option, Some, None, IsTrue, IsFalse, sym, subst, ◌∙◌, inl, inr}
+use Rattle.std.proofs.Common.{◌≡◌, ℕ, List, ◌∷◌, slice_get, Option, Some, None, IsTrue, IsFalse, sym, subst, ◌∙◌, inl, inr}
 use Rattle.std.proofs.lemmas.Option.{none-some, same_Some}
 use Rattle.class_tree.specs.Headers.{Classes, headers_of}
 use Rattle.flow_code.specs.FlatCode.{FlatCode, IsFlat, point_at}
@@ -8,7 +8,7 @@ use Rattle.member_link.specs.Machine.Links.{AreLinksOf}
 use Rattle.member_link.specs.Machine.Programs.{Links}
 use Rattle.plan_flow.specs.Effect.{AreEdges, IsStateBehind}
 use Rattle.plan_flow.specs.Inner.Iteration.{IsLeft}
-use Rattle.plan_flow.specs.Inner.Reaching.{reached_in, IsEdgeTo, LeadsIn, AllLeadAt, AreReaching, AreStarted, AreFollowed, IsVisited, IsRaisedTo, unreached_in}
+use Rattle.plan_flow.specs.Inner.Reaching.{reached_in, IsEdgeTo, LeadsIn, AllLeadAt, AreReaching, AreStarted, AreFollowed, IsRaisedTo}
 use Rattle.plan_flow.specs.Inner.Sharing.{AreTargets, open_by, targets_in}
 use Rattle.plan_flow.specs.Must.{open_edges}
 use Rattle.plan_flow.specs.PlanScope.{PlanScope, scope_of}
@@ -19,7 +19,7 @@ use Rattle.virtual_state.specs.States.{State, IsState}
 use Rattle.virtual_state.specs.Laws.Objects.{same_or_not}
 use Rattle.plan_flow.proofs.Behind.{behind_is_at}
 use Rattle.plan_flow.proofs.EffectGrows.{edge_of_row, row_of_edge}
-use Rattle.plan_flow.proofs.Following.{leads_more, less_itself, not_listed}
+use Rattle.plan_flow.proofs.Following.{leads_more, not_listed}
 use Rattle.plan_flow.proofs.Inside.{edges_inside}
 use Rattle.plan_flow.proofs.Iterating.{Pending, edge_to, behind_is_one}
 use Rattle.plan_flow.proofs.LeastPlans.{point_there}
@@ -126,16 +126,16 @@ visit_starts classes flat table at before work state left edges links are flat_c
 -- the edges of the point itself, where its state is as it was
 lead_here :
     (classes : Classes) (flat : FlatCode) (table : List (List ℕ)) (at : ℕ) (before after : List (Option State)) (work also : List ℕ) (state left : State)
-    (edges : List Edge) (new : Bool) (links : Links)
+    (edges : List Edge) (links : Links)
     → AreLinksOf (headers_of classes) links
     → reached_in before at ≡ Some state
     → IsLeftIn classes flat at state left
     → AreTargets flat table
     → AreSharedIn classes flat at left (targets_in table at) edges
-    → AreFollowed classes flat before after work also edges new
+    → AreFollowed classes flat before after work also edges
     → IsFalse (has also at)
     → AllLeadAt (scope_of classes links flat) (reached_in after) at
-lead_here classes flat table at before after work also state left edges new links are found is_left is_table effect followed none = record {
+lead_here classes flat table at before after work also state left edges links are found is_left is_table effect followed none = record {
   each = λ number point one other behind row is_point is_found is_other is_row is_behind.
       let s = scope_of classes links flat in
       let same_state : one ≡ state = same_Some one state (sym is_found ∙ followed.raised.same at none ∙ found) in
@@ -171,55 +171,49 @@ lead_elsewhere s at one before after work also raised differ lead none = record 
 
 pub visited :
     (classes : Classes) (flat : FlatCode) (table : List (List ℕ)) (at : ℕ) (before after : List (Option State)) (work also : List ℕ) (state left : State)
-    (edges : List Edge) (new : Bool)
+    (edges : List Edge)
     → AreTargets flat table
     → AreReaching classes flat before (at ∷ work)
     → reached_in before at ≡ Some state
     → IsLeftIn classes flat at state left
     → AreSharedIn classes flat at left (targets_in table at) edges
-    → AreFollowed classes flat before after work also edges new
-    → IsVisited classes flat before after work also new
-visited classes flat table at before after work also state left edges new is_table reaching found is_left effect followed = record {
-  less = followed.less;
-  reaching = λ links are.
-      let s = scope_of classes links flat in
-      let old = reaching links are in
-      record {
-        len = followed.raised.len ∙ old.len;
-        under = followed.under links are;
-        lead = λ one none. elim (same_or_not at one) [
-          | inl same ↦ subst (AllLeadAt s (reached_in after)) same
-              (lead_here classes flat table at before after work also state left edges new links are found is_left is_table effect followed
-              (subst (λ (n : ℕ). IsFalse (has also n)) (sym same) none))
-          | inr differ ↦ lead_elsewhere s at one before after work also followed.raised differ old.lead none
-        ];
-      };
-}
+    → AreFollowed classes flat before after work also edges
+    → AreReaching classes flat after also
+visited classes flat table at before after work also state left edges is_table reaching found is_left effect followed = λ links are.
+    let s = scope_of classes links flat in
+    let old = reaching links are in
+    record {
+      len = followed.raised.len ∙ old.len;
+      under = followed.under links are;
+      lead = λ one none. elim (same_or_not at one) [
+        | inl same ↦ subst (AllLeadAt s (reached_in after)) same
+            (lead_here classes flat table at before after work also state left edges links are found is_left is_table effect followed
+            (subst (λ (n : ℕ). IsFalse (has also n)) (sym same) none))
+        | inr differ ↦ lead_elsewhere s at one before after work also followed.raised differ old.lead none
+      ];
+    }
 
 -- a point that is not reached has nothing to follow
 pub visited_none :
     (classes : Classes) (flat : FlatCode) (at : ℕ) (states : List (Option State)) (work : List ℕ)
     → AreReaching classes flat states (at ∷ work)
-    → reached_in states at ≡ None
-    → IsVisited classes flat states states work work false
-visited_none classes flat at states work reaching none = record {
-  less = less_itself states work;
-  reaching = λ links are.
-      let s = scope_of classes links flat in
-      let old = reaching links are in
-      record {
-        len = old.len;
-        under = old.under;
-        lead = λ one out. elim (same_or_not at one) [
-          | inl same ↦ subst (AllLeadAt s (reached_in states)) same
-              (record {
-                each = λ number point state left behind row is_point is_found is_left is_row is_behind.
-                    absurd (none-some state (sym none ∙ is_found));
-              })
-          | inr differ ↦ old.lead one (has_behind at work one differ ∙ out)
-        ];
-      };
-}
+    → ((links : Links) → AreLinksOf (headers_of classes) links → reached_in states at ≡ None)
+    → AreReaching classes flat states work
+visited_none classes flat at states work reaching none = λ links are.
+    let s = scope_of classes links flat in
+    let old = reaching links are in
+    record {
+      len = old.len;
+      under = old.under;
+      lead = λ one out. elim (same_or_not at one) [
+        | inl same ↦ subst (AllLeadAt s (reached_in states)) same
+            (record {
+              each = λ number point state left behind row is_point is_found is_left is_row is_behind.
+                  absurd (none-some state (sym (none links are) ∙ is_found));
+            })
+        | inr differ ↦ old.lead one (has_behind at work one differ ∙ out)
+      ];
+    }
 
 -- ---- another work list that has the same points and more
 
@@ -231,20 +225,3 @@ pub reaching_more :
 reaching_more classes flat states work also reaching listed = λ links are.
     let old = reaching links are in
     record { len = old.len; under = old.under; lead = λ at none. old.lead at (not_listed (has work at) (has also at) (listed at) none) }
-
--- ---- point after point
-
--- points were taken and visited, and none was reached for the first time
-pub record IsAdvancing (classes : Classes) (flat : FlatCode) (before after : List (Option State)) (work : List ℕ) : Type 0 where
-  pub fewer : unreached_in after ≤ unreached_in before
-  pub reaching : AreReaching classes flat after work
-
--- ---- until none is left
-
-pub record IsIterating (classes : Classes) (flat : FlatCode) (states : List (Option State)) (work : List ℕ) (more : Bool) : Type 0 where
-  pub reaching : AreReaching classes flat states work
-  pub done : IsFalse more → work ≡ []
-
--- rounds that are left
-abbrev pub rounds_left : List (Option State) → Bool → ℕ
-rounds_left states more = unreached_in states * 2 + cond more 1 0

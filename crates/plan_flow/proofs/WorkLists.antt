@@ -11,6 +11,12 @@ use Rattle.virtual_state.specs.Sites.{has}
 has_itself : (at : ℕ) (list : List ℕ) → IsTrue (has (at ∷ list) at)
 has_itself at list = or_left (at == at) (has list at) (eq-eqb at at refl)
 
+only_first : (at : ℕ) (list : List ℕ) (other : ℕ) → IsTrue (has (at ∷ list) other) → (at ≡ other) ⊎ IsTrue (has list other)
+only_first at list other there = elim (or_cases (at == other) (has list other) there) [
+  | inl here ↦ inl (eqb-true at other here)
+  | inr behind ↦ inr behind
+]
+
 pub equal_numbers : (one other : ℕ) → nat_cmp one other ≡ Equal → one ≡ other
 equal_numbers one other is = by (nat_lt one other) (one == other) refl is where
   by : (less same : Bool) → (one == other) ≡ same → cond less Less (cond same Equal Greater) ≡ Equal → one ≡ other
@@ -22,6 +28,7 @@ pub inserted : (list : List ℕ) (at : ℕ) → HasListed list (insert_key nat_c
 inserted [] at = record {
   here = has_itself at [];
   others = λ other there. or_right (at == other) false there;
+  only = only_first at [];
   more = omega arith;
 }
 inserted (first ∷ list) at = by (nat_cmp at first) refl (inserted list at) where
@@ -33,11 +40,13 @@ inserted (first ∷ list) at = by (nat_cmp at first) refl (inserted list at) whe
   by Less is rest = record {
     here = has_itself at (first ∷ list);
     others = λ other there. or_right (at == other) (has (first ∷ list) other) there;
+    only = only_first at (first ∷ list);
     more = omega arith;
   }
   by Equal is rest = record {
     here = subst (λ (n : ℕ). IsTrue (has (first ∷ list) n)) (sym (equal_numbers at first is)) (has_itself first list);
     others = λ other there. there;
+    only = λ other there. inr there;
     more = omega arith;
   }
   by Greater is rest = record {
@@ -45,6 +54,13 @@ inserted (first ∷ list) at = by (nat_cmp at first) refl (inserted list at) whe
     others = λ other there. elim (or_cases (first == other) (has list other) there) [
       | inl here ↦ or_left (first == other) (has (insert_key nat_cmp list at) other) here
       | inr behind ↦ or_right (first == other) (has (insert_key nat_cmp list at) other) (rest.others other behind)
+    ];
+    only = λ other there. elim (or_cases (first == other) (has (insert_key nat_cmp list at) other) there) [
+      | inl here ↦ inr (or_left (first == other) (has list other) here)
+      | inr behind ↦ elim (rest.only other behind) [
+        | inl same ↦ inl same
+        | inr old ↦ inr (or_right (first == other) (has list other) old)
+      ]
     ];
     more = let more = rest.more in omega (arith, more);
   }
@@ -83,6 +99,13 @@ listed_front front more back at listed = record {
     | inl in_front ↦ has_front more back other (listed.others other in_front)
     | inr in_back ↦ has_back more back other in_back
   ];
+  only = λ other there. elim (has_either more back other there) [
+    | inr in_back ↦ inr (has_back front back other in_back)
+    | inl in_front ↦ elim (listed.only other in_front) [
+      | inl same ↦ inl same
+      | inr old ↦ inr (has_front front back other old)
+    ]
+  ];
   more = let one = length_both front back in let two = length_both more back in let few = listed.more in omega (arith, one, two, few);
 }
 
@@ -92,6 +115,13 @@ listed_back front back more at listed = record {
   others = λ other there. elim (has_either front back other there) [
     | inl in_front ↦ has_front front more other in_front
     | inr in_back ↦ has_back front more other (listed.others other in_back)
+  ];
+  only = λ other there. elim (has_either front more other there) [
+    | inl in_front ↦ inr (has_front front back other in_front)
+    | inr in_back ↦ elim (listed.only other in_back) [
+      | inl same ↦ inl same
+      | inr old ↦ inr (has_back front back other old)
+    ]
   ];
   more = let one = length_both front back in let two = length_both front more in let few = listed.more in omega (arith, one, two, few);
 }

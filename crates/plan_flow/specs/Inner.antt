@@ -1,4 +1,5 @@
 pub mod Asking
+pub mod Blocks
 pub mod Doing
 pub mod EdgeViews
 pub mod FieldWords

@@ -1,3 +1,4 @@
 pub mod WrittenBlocks
 pub mod WrittenPads
 pub mod RoutedPlans
+pub mod OneRouting

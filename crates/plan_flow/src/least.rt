@@ -1,21 +1,25 @@
 //! The least plan of flat code.
-ghost use Rattle.std.specs.Prelude.{◌≡◌, ◌++◌, ◌∷◌, [], IfOk};
+ghost use Rattle.std.specs.Prelude.{◌≡◌, ◌++◌, ◌+◌, ◌<◌, ◌∷◌, [], IfOk, OnOk, length};
 ghost use Rattle.std.specs.Option.{option_copied};
-ghost use Rattle.class_tree.specs.Headers.{headers_of};
+ghost use Rattle.class_tree.specs.Headers.{Classes, headers_of};
 ghost use Rattle.member_link.specs.Machine.Links.{AreLinksOf};
 ghost use Rattle.member_link.specs.Machine.Programs.{Links};
+ghost use Rattle.plan_flow.specs.Inner.Blocks.{AreHeads, AreReachingBy, IsKnownTo};
 ghost use Rattle.plan_flow.specs.Inner.Planning.{IsPlanOf, made_edge, made_edges, made_on as sites_made_on};
-ghost use Rattle.plan_flow.specs.Inner.Reaching.{AreReaching, IsReaching, reached_in};
+ghost use Rattle.plan_flow.specs.Inner.Reaching.{reached_in};
 ghost use Rattle.plan_flow.specs.Inner.Sharing.{AreTargets, own_part};
 ghost use Rattle.plan_flow.specs.Narrow.{IsNarrow};
-ghost use Rattle.plan_flow.specs.PlanScope.{PlanScope, scope_of};
+ghost use Rattle.plan_flow.specs.PlanScope.{scope_of};
 ghost use Rattle.plan_flow.specs.PlanSlots.{fit_locals, fit_stack};
 ghost use Rattle.plan_flow.specs.Plans.{FlowsInside, IsLeast};
 ghost use Rattle.virtual_state.specs.Sites.{differing as differing_sites};
 
+use crate::blocks::state_inside;
 use crate::edge::Edge;
 use crate::effects::shared_effect;
 use crate::handler_targets::HandlerTargets;
+use crate::head_states::HeadStates;
+use crate::heads::heads_of;
 use crate::iteration::iterate;
 use crate::plan::{EdgePlan, Plan, PointPlan};
 use crate::planned_edges::{own_edge, planned_edges};
@@ -26,13 +30,15 @@ use crate::work_list::WorkList;
 use class_model::{Frame, ListOf, NoMemory};
 use class_tree::Tree;
 use flow_code::Flat;
+use member_link::a_tree_has_links;
 use std::alloc::Global;
 use virtual_state::{SiteSet, VState, differing};
 
 /// The least plan of flat code that control does not leave: each other valid plan makes an object wherever this one does, or
-/// earlier. Takes the points off a work list, pass after pass by increasing number, and raises the states of the targets of
-/// their edges, until each edge leads to its target (the iteration of partial escape analysis, CGO 2014, over a work list in
-/// place of a walk over the control flow).
+/// earlier. Takes the heads of blocks off a work list, pass after pass by increasing number, goes through their blocks and raises
+/// the states of the heads behind them, until each edge leads to its target (the iteration of partial escape analysis, CGO 2014,
+/// over a work list in place of a walk over the control flow). Then goes through each block once more, to give each point its
+/// state.
 ///
 /// # Errors
 /// `NoMemory`, where memory runs out.
@@ -43,22 +49,25 @@ pub fn least_plan(alloc: Global, tree: &Tree, flat: &Flat) -> Result<Plan, NoMem
         → AreLinksOf (headers_of tree.now) links
         → IsLeast (scope_of tree.now links flat.now) plan) }
 {
-    let mut states = start(alloc, flat)?;
+    let targets = HandlerTargets::of(alloc, flat)?;
+    let mut heads = start(alloc, flat, &targets)?;
     let mut work = WorkList::new(alloc);
     work.add(0)?;
-    let targets = HandlerTargets::of(alloc, flat)?;
-    iterate(alloc, tree, flat, &targets, &mut states, &mut work)?;
-    let plan = plan_of(alloc, tree, flat, &targets, &states)?;
+    iterate(alloc, tree, flat, &targets, &mut heads, &mut work)?;
+    let plan = plan_of(alloc, tree, flat, &targets, &heads)?;
     Ok(plan)
 }
 
-// The states where point 0 alone is reached, with no site.
-fn start(alloc: Global, flat: &Flat) -> Result<PointStates, NoMemory>
-    requires { FlowsInside flat.now }
-    ensures { IfOk result
-        (λ states. (s : PlanScope) → s.flat ≡ flat.now → IsReaching s states (0 ∷ [])) }
+// The states of heads where point 0 alone is reached, with no site.
+fn start(alloc: Global, flat: &Flat, targets: &HandlerTargets) -> Result<HeadStates, NoMemory>
+    requires narrow { IsNarrow flat.now }
+    requires flows { FlowsInside flat.now }
+    requires targets { AreTargets flat.now targets.now }
+    ensures { IfOk result (λ table. (classes : Classes)
+        → AreReachingBy classes flat.now table (0 ∷ [])) }
 {
-    let mut states = PointStates::new(alloc, flat.len())?;
+    let heads = heads_of(alloc, flat, targets)?;
+    let mut states = HeadStates::new(alloc, heads)?;
     if let Some(types) = flat.typed(0) {
         let state = blank_state(alloc, types)?;
         states.put(0, state);
@@ -81,54 +90,65 @@ fn blank_state(alloc: Global, types: &Frame) -> Result<VState, NoMemory>
     Ok(state)
 }
 
-// The plan that the states of points give.
+// The plan that the states of heads give. Goes through each block once.
 fn plan_of(
     alloc: Global,
     tree: &Tree,
     flat: &Flat,
     targets: &HandlerTargets,
-    states: &PointStates,
+    heads: &HeadStates,
 ) -> Result<Plan, NoMemory>
     requires narrow { IsNarrow flat.now }
     requires targets { AreTargets flat.now targets.now }
-    requires reaching { AreReaching tree.now flat.now states.now [] }
+    requires reaching { AreReachingBy tree.now flat.now heads.now [] }
     ensures { IfOk result (λ plan. (links : Links)
         → AreLinksOf (headers_of tree.now) links
         → IsLeast (scope_of tree.now links flat.now) plan) }
 {
+    a_tree_has_links(tree);
+    let mut states = heads.all(alloc)?;
     let mut points = Vec::with_capacity(alloc, flat.len())?;
     for at in 0..flat.len() {
-        let plan = point_plan(alloc, tree, flat, targets, at, states)?;
+        let plan = point_plan(alloc, tree, flat, targets, heads, at, &mut states)?;
         points.push(plan)?;
     }
     Ok(Plan::of(points))
 }
 
-// The plan of a point, if it is reached.
+// The plan of a point, if it is reached. The state of the next point is known then.
 fn point_plan(
     alloc: Global,
     tree: &Tree,
     flat: &Flat,
     targets: &HandlerTargets,
+    heads: &HeadStates,
     at: usize,
-    states: &PointStates,
+    states: &mut PointStates,
 ) -> Result<Option<PointPlan>, NoMemory>
     requires narrow { IsNarrow flat.now }
     requires targets { AreTargets flat.now targets.now }
-    requires reaching { AreReaching tree.now flat.now states.now [] }
-    ensures { IfOk result (λ plan. (links : Links)
+    requires inside { at < length flat.now.points }
+    requires heads { AreHeads flat.now heads.now.heads }
+    requires known { IsKnownTo tree.now flat.now heads.now at states.old }
+    ensures known { OnOk result (IsKnownTo tree.now flat.now heads.now (at + 1) states.new) }
+    ensures plan { IfOk result (λ plan. (all : AreReachingBy tree.now flat.now heads.now [])
+        (links : Links)
         → AreLinksOf (headers_of tree.now) links
-        → IsPlanOf (scope_of tree.now links flat.now) (reached_in states.now) at plan) }
+        → IsPlanOf (scope_of tree.now links flat.now) (reached_in all.states) at plan) }
 {
+    let _end = flat.len();
+    a_tree_has_links(tree);
     let Some(state) = states.get(at) else {
         return Ok(None);
     };
     let left = settled(alloc, tree, flat, at, state)?;
     left.is_state();
-    let edges = shared_effect(alloc, tree, flat, targets, at, &left)?;
     let made = made_between(alloc, state, &left)?;
-    let edges = planned_edges(alloc, flat, at, edges.as_slice(), states)?;
     let state = state.copy()?;
+    let edges = shared_effect(alloc, tree, flat, targets, at, &left)?;
+    let inner = state_inside(alloc, flat, heads, at + 1, edges.as_slice())?;
+    states.put(at + 1, inner);
+    let edges = planned_edges(alloc, flat, at, edges.as_slice(), states)?;
     Ok(Some(PointPlan { state, made, edges }))
 }
 

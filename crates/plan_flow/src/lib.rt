@@ -6,6 +6,7 @@
 mod arithmetic;
 mod asked;
 mod beneath;
+mod blocks;
 mod changes;
 mod constants;
 mod edge;
@@ -15,6 +16,8 @@ mod effects;
 mod fields;
 mod fronts;
 mod handler_targets;
+mod head_states;
+mod heads;
 mod iteration;
 mod laws;
 mod least;

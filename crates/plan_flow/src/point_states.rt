@@ -1,14 +1,14 @@
-//! The states of the points that are reached so far.
-ghost use Rattle.std.specs.Prelude.{◌≡◌, ◌<◌, length, replicate, slice_set, None, Some, IfOk};
+//! The states of the points that are reached, as far as they are known.
+ghost use Rattle.std.specs.Prelude.{◌≡◌, ◌<◌, Some, length};
 ghost use Rattle.std.specs.Option.{option_copied};
+ghost use Rattle.plan_flow.specs.Inner.Blocks.{put_state};
 ghost use Rattle.plan_flow.specs.Inner.Reaching.{reached_in};
+ghost use Rattle.virtual_state.specs.States.{State};
 
-use class_model::NoMemory;
-use std::alloc::Global;
 use std::marker::Model;
 use virtual_state::VState;
 
-/// The state before each point that is reached so far.
+/// The state before each point that is reached, as far as it is known.
 #[derive(Drop)]
 pub(crate) struct PointStates {
     states: Vec<Option<VState>>,
@@ -24,15 +24,11 @@ impl Model for PointStates {
 }
 
 impl PointStates {
-    /// So many points, of which none is reached.
-    pub(crate) fn new(alloc: Global, count: usize) -> Result<Self, NoMemory>
-        ensures { IfOk result (λ states. states ≡ replicate count None) }
+    /// These states.
+    pub(crate) fn of(states: Vec<Option<VState>>) -> Self
+        ensures { result ≡ states.items }
     {
-        let mut states = Vec::with_capacity(alloc, count)?;
-        for _at in 0..count {
-            states.push(None)?;
-        }
-        Ok(PointStates { states })
+        PointStates { states }
     }
 
     /// The state of a point, if it is reached.
@@ -42,11 +38,16 @@ impl PointStates {
         self.states.get(at)?.as_ref()
     }
 
-    /// Reaches a point with a state, or raises it to that state.
-    pub(crate) fn put(&mut self, at: usize, state: VState)
-        requires { at < length self.old }
-        ensures { self.new ≡ slice_set self.old at (Some state) }
+    /// Reaches a point with a state, if there is one.
+    pub(crate) fn put(&mut self, at: usize, state: Option<VState>)
+        requires { (one : State) → state ≡ Some one → at < length self.old }
+        ensures { self.new ≡ put_state self.old at state }
     {
-        self.states[at] = Some(state);
+        match state {
+            Some(state) => {
+                self.states[at] = Some(state);
+            }
+            None => {}
+        }
     }
 }

@@ -54,9 +54,17 @@ fn joined(alloc: Global, behind: &VState, old: Option<&VState>) -> Result<VState
     }
 }
 
-// A state, where each object is made that lies at or below a stack entry whose type at a point is
-// Top.
-fn cleaned(alloc: Global, flat: &Flat, at: usize, state: VState) -> Result<VState, NoMemory>
+/// A state, where each object is made that lies at or below a stack entry whose type at a point is
+/// Top.
+///
+/// # Errors
+/// `NoMemory`, where memory runs out.
+pub(crate) fn cleaned(
+    alloc: Global,
+    flat: &Flat,
+    at: usize,
+    state: VState,
+) -> Result<VState, NoMemory>
     ensures { IfOk result (λ clean. IsCleaned flat.now at state clean) }
 {
     state.is_state();

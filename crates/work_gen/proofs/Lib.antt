@@ -3,3 +3,7 @@ pub mod ReadClasses
 pub mod HeldChecks
 pub mod Library
 pub mod Appended
+pub mod Indexed
+pub mod MadeChoices
+pub mod PlainMethodNames
+pub mod FitsWork

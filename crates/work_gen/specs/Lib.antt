@@ -1,2 +1,4 @@
 pub mod BaseLibrary
 pub mod Values
+pub mod Generated
+pub mod Entries

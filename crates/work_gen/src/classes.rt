@@ -9,7 +9,7 @@ ghost use Rattle.class_tree.specs.Names.{object};
 ghost use Rattle.work_gen.specs.BaseLibrary.{no_parameters, takes_object};
 ghost use Rattle.work_gen.specs.Values as values;
 
-use crate::parts::{class_of, code_of, constructor, native, push_class, push_text};
+use crate::parts::{class_of, code_of, method_of, native, push_class, push_text};
 use class_model::opcodes::{ALOAD_0, INVOKESPECIAL, RETURN};
 use class_model::{
     ACC_NATIVE, ACC_PROTECTED, ACC_PUBLIC, ACC_STATIC, ACC_SUPER, ClassFile, CodePart, Const, INIT,
@@ -103,7 +103,7 @@ fn constructors(
     ensures { IfOk result (λ methods. methods
         ≡ values.method 0x0001 name desc (Code attr part ∷ []) ∷ []) }
 {
-    let only = constructor(alloc, name, desc, attr, part)?;
+    let only = method_of(alloc, ACC_PUBLIC, name, desc, attr, part)?;
     let mut methods = ListOf::new(alloc);
     methods.push(only)?;
     Ok(methods)

@@ -1,8 +1,13 @@
-//! Generated work: the smallest library that linking accepts.
+//! Generated work, and the smallest library that linking accepts.
 #![tactic(auto)]
 
 mod base;
+mod choices;
 mod classes;
+mod entries;
+mod generated;
+mod kinds;
 mod parts;
 
 pub use base::base_library;
+pub use generated::{Work, generate};

@@ -6,8 +6,7 @@ ghost use Rattle.class_model.specs.declared.pool.Const.TheVariants as consts;
 ghost use Rattle.work_gen.specs.Values as values;
 
 use class_model::{
-    ACC_PUBLIC, Attr, ByteList, ClassFile, CodePart, Const, ListOf, Method, MethodList, NoMemory,
-    Pool, Text,
+    Attr, ByteList, ClassFile, CodePart, Const, ListOf, Method, MethodList, NoMemory, Pool, Text,
 };
 use std::alloc::Global;
 
@@ -44,21 +43,22 @@ pub(crate) fn native(alloc: Global, flags: u16, name: u16, desc: u16) -> Method
     }
 }
 
-/// A public constructor, of the indices of its name, of its descriptor and of `Code`.
-pub(crate) fn constructor(
+/// A method of these access flags, of the indices of its name, of its descriptor and of `Code`.
+pub(crate) fn method_of(
     alloc: Global,
+    flags: u16,
     name: u16,
     desc: u16,
     attr: u16,
     part: CodePart,
 ) -> Result<Method, NoMemory>
     ensures { IfOk result
-        (λ method. method ≡ values.method 0x0001 name desc (attrs.Code attr part ∷ [])) }
+        (λ method. method ≡ values.method flags name desc (attrs.Code attr part ∷ [])) }
 {
     let mut attrs = ListOf::new(alloc);
     attrs.push(Attr::Code { name: attr, part })?;
     Ok(Method {
-        flags: ACC_PUBLIC,
+        flags,
         name,
         desc,
         attrs,
@@ -78,8 +78,8 @@ pub(crate) fn code_of(alloc: Global, max_stack: u16, code: &[u8]) -> Result<Code
     })
 }
 
-// A list of these bytes.
-fn bytes_of(alloc: Global, bytes: &[u8]) -> Result<ByteList, NoMemory>
+/// A list of these bytes.
+pub(crate) fn bytes_of(alloc: Global, bytes: &[u8]) -> Result<ByteList, NoMemory>
     ensures { IfOk result (λ list. list ≡ bytes.now) }
 {
     let mut items = Vec::with_capacity(alloc, bytes.len())?;

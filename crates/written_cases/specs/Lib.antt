@@ -24,3 +24,4 @@ pub mod Narrowed
 pub mod Decided
 pub mod NopBetweenFrames
 pub mod MadeForAHandlerFrames
+pub mod TopOnStack

@@ -9,6 +9,6 @@ pub use rows::{
     nop_between_blocks_is_written, object_at_a_join_is_written, object_for_a_handler_is_written,
     object_held_by_another_is_written, object_in_a_loop_is_written,
     object_kept_past_joins_is_written, object_on_a_back_edge_is_written,
-    objects_in_order_are_written, plain_receiver_is_written, saved_stack_is_written,
-    sum_of_fields_is_written, virtual_monitor_is_written,
+    object_under_top_is_written, objects_in_order_are_written, plain_receiver_is_written,
+    saved_stack_is_written, sum_of_fields_is_written, virtual_monitor_is_written,
 };

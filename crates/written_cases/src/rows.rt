@@ -21,6 +21,7 @@ ghost use Rattle.written_cases.specs.MadeInOrder as made_in_order;
 ghost use Rattle.written_cases.specs.Narrowed as narrowed;
 ghost use Rattle.written_cases.specs.Decided as decided;
 ghost use Rattle.written_cases.specs.NopBetweenFrames as nop_between_frames;
+ghost use Rattle.written_cases.specs.TopOnStack as top_on_stack;
 ghost use Rattle.written_cases.specs.MadeForAHandlerFrames as made_for_a_handler_frames;
 
 /// The fields of an object that never escapes are read: nothing is made, and the code has neither its `new` nor its calls.
@@ -134,4 +135,10 @@ pub fn narrowed_field_is_written()
 pub fn decided_comparisons_are_written()
     ensures written { IsWritten decided.this decided.wanted }
     ensures bytes { bytes_of decided.items ≡ decided.bytes }
+{}
+
+/// An object that no instruction can take from the stack any more is made on the edge behind its `new`.
+pub fn object_under_top_is_written()
+    ensures written { IsWritten top_on_stack.this top_on_stack.wanted }
+    ensures bytes { bytes_of top_on_stack.items ≡ top_on_stack.bytes }
 {}

@@ -48,6 +48,11 @@ pub mod TypedKept
 pub mod Uncovered
 pub mod UncoveredPlans
 pub mod NewOnTop
+pub mod WideLocals
+pub mod RowsGo
+pub mod WideFlats
+pub mod OneEffect
+pub mod SettleFromSetup
 pub mod UpperSlots
 pub mod WaitingFrames
 pub mod WrittenCodes

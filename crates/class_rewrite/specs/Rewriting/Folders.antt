@@ -149,11 +149,15 @@ AreClassesWritten r written s number (file ∷ files) (also ∷ others) =
     × AreClassesWritten r written s (suc number) files others
 AreClassesWritten r written s number files others = ⊥
 
--- The written folder.
+-- The written folder. Field constructors stand in the classes of chains of what is made, and in no others.
 pub record IsFolderWritten (r : Rewriting) (files : List ClassFile) : Type 0 where
   pub constructors : GivesConstructors r.classes r.constructor
   pub written : WrittenMethods
   pub rewritten : AreRewritten r written
   pub s : Replacement
   pub replaces : ReplacesByWritten r.classes r.links r.constructor written s
+  pub no_more : (number : ℕ) (file : ClassFile)
+      → slice_get r.classes.folder number ≡ Some file
+      → ¬ IsMade r written (header_of file).name
+      → s.added number ≡ []
   pub classes : AreClassesWritten r written s zero r.classes.folder files

@@ -1,21 +1,14 @@
 -- What becomes of a method of a folder: what is written of it by its least plan, in a constant pool as the methods of its class before it leave it. It
 -- is this project's profile.
-use Rattle.std.specs.Prelude.{◌≡◌, ◌≢◌, ◌⊎◌, ◌<◌, ◌++◌, ℕ, suc, nat_le, List, [], ◌∷◌, map, slice_get, Option, Some, None, Ok, if◌then◌else◌}
-use Rattle.std.specs.List.{AllByRecursion, flat_map}
-use Rattle.class_model.specs.Code.{stack_map_table}
+use Rattle.std.specs.Prelude.{◌≡◌, ◌⊎◌, ◌<◌, ℕ, nat_le, List, [], Option, Some, None, Ok, if◌then◌else◌}
 use Rattle.class_model.specs.Pool.{Constants}
 use Rattle.class_model.specs.declared.class_file.CodePart.{CodePart}
-use Rattle.class_model.specs.declared.class_file.InnerAttr.{InnerAttr}
 use Rattle.class_model.specs.declared.class_file.MethodAt.{MethodAt}
 use Rattle.class_model.specs.declared.frame.Frame.{Frame}
-use Rattle.class_model.specs.declared.frame.PlacedFrame.{PlacedFrame}
-use Rattle.class_model.specs.declared.frame.VType.{VType}
-use Rattle.class_model.specs.declared.frame.VType.TheVariants.{Object, Uninit}
 use Rattle.class_rewrite.specs.Reasons.{IsNotExpanded}
 use Rattle.class_tree.specs.Headers.{Name, Classes}
-use Rattle.code_layout.specs.Layout.{IsLaid, end_from, start_in, table_len}
+use Rattle.code_layout.specs.Layout.{end_from, short_spelled, start_in, table_len}
 use Rattle.code_layout.specs.PlainItems.{plain_items}
-use Rattle.code_layout.specs.WideForm.{IsWideLaid, wide_end_from}
 use Rattle.code_layout.specs.declared.emitted.EmitItem.{EmitItem}
 use Rattle.code_layout.specs.declared.laid.Laid.{Laid}
 use Rattle.expanded_code.specs.ExpandAnswers.{AnswersExpanded}
@@ -23,9 +16,7 @@ use Rattle.flow_code.specs.TypedFrames.{FolderFrames}
 use Rattle.flow_code.specs.WrittenUnits.{written_units}
 use Rattle.flow_code.specs.declared.reason.Reason.{Reason}
 use Rattle.flow_code.specs.declared.reason.Reason.TheVariants as reasons
-use Rattle.making_code.specs.Constants.{Need, class_needs, grow, index_in, needs_class, needs_text, text_index}
-use Rattle.map_frames.specs.Writing.{IsTable}
-use Rattle.map_frames.specs.declared.writing.NamedIndex.{NamedIndex}
+use Rattle.making_code.specs.Items.{WItem}
 use Rattle.member_link.specs.Bodies.{Body}
 use Rattle.member_link.specs.Machine.Programs.{Links}
 use Rattle.member_link.specs.Scope.{Scope, scope_at}
@@ -33,9 +24,12 @@ use Rattle.plan_flow.specs.Gain.{Gains}
 use Rattle.plan_flow.specs.Plans.{IsLeast, Plan}
 use Rattle.plan_flow.specs.Written.FramedCode.{IsFramed, body_of_items, greatest_of}
 use Rattle.plan_flow.specs.Written.Routes.{IsRouted}
-use Rattle.plan_flow.specs.Written.WrittenCode.{Form, short, wide}
+use Rattle.plan_flow.specs.Written.WrittenCode.{Form, short, wide, written_items}
 use Rattle.plan_flow.specs.Written.WrittenConstants.{code_pool, indexed_items}
-use Rattle.plan_flow.specs.Written.WrittenPrograms.{WrittenMethod, finished_of, items_of, plan_scope}
+use Rattle.stackmap_emit.specs.FrameConstants.{frames_pool}
+use Rattle.stackmap_emit.specs.FramesAttribute.{IsFramesAttribute}
+use Rattle.stackmap_emit.specs.PlacedFrames.{IsLaidIn, placed_frames, spelled_in, stated_from}
+use Rattle.plan_flow.specs.Written.WrittenPrograms.{WrittenMethod, finished_of, plan_scope}
 
 -- what becoming of methods goes by: the folder with its frames and links, and the descriptors of field constructors
 pub record Rewriting : Type 0 where
@@ -52,37 +46,11 @@ pub record IsPlanned (r : Rewriting) (at : MethodAt) (one : WrittenMethod) (plan
   pub least : IsLeast (plan_scope r.classes r.links one) plan
   pub routed : IsRouted (plan_scope r.classes r.links one) plan one.routes
 
--- ---- constants of frames
-
--- the classes of types, in order
-abbrev pub type_needs : VType → List Need
-type_needs (Object name) = class_needs name
-type_needs type = []
-
--- those of a frame that is stated: of its locals by unit, then of its stack upwards
-abbrev pub frame_needs : Option Frame → List Need
-frame_needs None = []
-frame_needs (Some frame) = flat_map type_needs (frame.locals ++ frame.stack)
-
--- the frames that are stated, in order
-abbrev pub stated_frames : List (Option Frame) → List Frame
-stated_frames [] = []
-stated_frames (None ∷ frames) = stated_frames frames
-stated_frames (Some frame ∷ frames) = frame ∷ stated_frames frames
-
-abbrev pub needs_named : List Need → List Frame → List Need
-needs_named needs [] = []
-needs_named needs (frame ∷ frames) = needs_text stack_map_table ++ needs
-
--- the name StackMapTable, if a frame is stated, and then the classes of the frames, in order
-abbrev pub table_needs : List (Option Frame) → List Need
-table_needs stated = needs_named (flat_map frame_needs stated) (stated_frames stated)
-
--- the pool with the constants of frames; below version 50 no frames are stated
-abbrev pub frames_pool : ℕ → List (Option Frame) → Constants → Option Constants
-frames_pool major stated pool = if nat_le 50 major then grow 64535 pool (table_needs stated) else Some pool
-
 -- ---- the form
+
+-- its items in the short form; those of the wide one need the same constants
+abbrev pub short_items : Rewriting → WrittenMethod → List WItem
+short_items r one = written_items short (finished_of r.classes r.links one)
 
 -- the items of a written method in a pool, in a form, are emitted as these
 abbrev pub AreItems : Rewriting → WrittenMethod → Form → Constants → List EmitItem → Type 0
@@ -95,60 +63,13 @@ AreItems r one form pool items =
 pub record IsChosen (r : Rewriting) (one : WrittenMethod) (pool : Constants) : Type 0 where
   pub items : List EmitItem
   pub are_items : AreItems r one short pool items
-  pub form : one.form ≡ (if nat_le (end_from 0 items) 32767 then short else wide)
-
-abbrev pub end_in : Form → List EmitItem → ℕ
-end_in short items = end_from 0 items
-end_in wide items = wide_end_from 0 items
+  pub form : one.form ≡ (if nat_le (end_from short_spelled 0 items) 32767 then short else wide)
 
 -- the chosen form has more than 65,535 bytes, or the exception table more than 65,535 entries
 abbrev pub IsTooLong : Form → List EmitItem → Type 0
-IsTooLong form items = (65535 < end_in form items) ⊎ (65535 < table_len items)
-
-abbrev pub IsLaidIn : Form → List EmitItem → Laid → Type 0
-IsLaidIn short items laid = IsLaid items laid
-IsLaidIn wide items laid = IsWideLaid items laid
+IsTooLong form items = (65535 < end_from (spelled_in form) 0 items) ⊎ (65535 < table_len items)
 
 -- ---- the written code
-
--- the index of each class that frames name
-abbrev pub NamesClasses : Constants → List NamedIndex → List Need → Type 0
-NamesClasses pool names needs =
-    AllByRecursion (λ named. named.index ≡ index_in pool (needs_class named.class)) names
-    × AllByRecursion (IsNamed names) needs where
-      IsNamed : List NamedIndex → Need → Type 0
-      IsNamed names (needs_class name) =
-          (number : ℕ) × (named : NamedIndex) × (slice_get names number ≡ Some named)
-          × (named.class ≡ name)
-      IsNamed names need = Unit {0}
-
-abbrev pub type_at : (ℕ → ℕ) → VType → VType
-type_at start (Uninit number) = Uninit (start number)
-type_at start type = type
-
-abbrev pub frame_at : (ℕ → ℕ) → Frame → Frame
-frame_at start frame = record {
-  locals = map (type_at start) frame.locals;
-  stack = map (type_at start) frame.stack;
-}
-
--- the frames that are stated, by offsets, from the number of an item on
-abbrev pub placed_frames : (ℕ → ℕ) → ℕ → List (Option Frame) → List PlacedFrame
-placed_frames start number [] = []
-placed_frames start number (None ∷ frames) = placed_frames start (suc number) frames
-placed_frames start number (Some frame ∷ frames) =
-    record { at = start number; frame = frame_at start frame } ∷ placed_frames start (suc number) frames
-
--- a StackMapTable, where frames are stated
-pub data IsFramesAttribute (pool : Constants) (entry : Frame) (frames : List PlacedFrame)
-    : List InnerAttr → Type 0 where
-  no_attribute : frames ≡ [] → IsFramesAttribute pool entry frames []
-  one_attribute : {names : List NamedIndex} {bytes : List ℕ}
-      → frames ≢ []
-      → NamesClasses pool names (flat_map (λ placed. frame_needs (Some placed.frame)) frames)
-      → IsTable names entry frames bytes
-      → IsFramesAttribute pool entry frames
-      (record { name = text_index pool stack_map_table; bytes = bytes } ∷ [])
 
 -- What is written of a method: by its flat code and its least plan, its items and frames, and the pool that it leaves.
 pub record Rewritten : Type 0 where
@@ -163,30 +84,25 @@ pub record Rewritten : Type 0 where
   pub pool : Constants
   pub part : CodePart
 
--- the frame that is stated before each item, of a body
-abbrev pub stated_in : Body → ℕ → List EmitItem → List (Option Frame)
-stated_in body number [] = []
-stated_in body number (item ∷ items) = body.stated number ∷ stated_in body (suc number) items
-
 -- its code, by the constants that the pool has then
 pub record IsCoded (r : Rewriting) (at : MethodAt) (pool : Constants) (w : Rewritten) : Type 0 where
   pub planned : IsPlanned r at w.one w.plan
   pub gains : Gains (plan_scope r.classes r.links w.one) w.plan
   pub grows : code_pool (plan_scope r.classes r.links w.one) r.constructor
-      (items_of r.classes r.links w.one) pool ≡ Some w.code_pool
+      (short_items r w.one) pool ≡ Some w.code_pool
   pub chosen : IsChosen r w.one w.code_pool
   pub items : AreItems r w.one w.one.form w.code_pool w.items
 
--- and laid out, with its frames
+-- and laid out, with its frames, which do not depend on how deep the stack may be
 pub record IsFramedIn (r : Rewriting) (host : Scope) (w : Rewritten) : Type 0 where
   pub fits : ¬ IsTooLong w.one.form w.items
   pub laid : IsLaidIn w.one.form w.items w.laid
   pub state : ℕ → Option Frame
   pub body : w.body
-      ≡ body_of_items host w.one.flat w.code_pool w.part.max_stack (plain_items w.items) state
+      ≡ body_of_items host w.one.flat w.code_pool 0 (plain_items w.items) state
   pub framed : IsFramed w.one.flat w.one.form (finished_of r.classes r.links w.one)
       (plain_items w.items) w.body w.frames
-  pub stated : w.stated ≡ stated_in w.body 0 w.items
+  pub stated : w.stated ≡ stated_from w.body.stated 0 w.items
 
 pub record IsRewritten (r : Rewriting) (at : MethodAt) (pool : Constants) (w : Rewritten) : Type 0 where
   pub coded : IsCoded r at pool w
@@ -218,7 +134,7 @@ pub record CodeIsPast (r : Rewriting) (at : MethodAt) (pool : Constants) : Type 
   pub planned : IsPlanned r at one plan
   pub gains : Gains (plan_scope r.classes r.links one) plan
   pub past : code_pool (plan_scope r.classes r.links one) r.constructor
-      (items_of r.classes r.links one) pool ≡ None
+      (short_items r one) pool ≡ None
 
 -- its code or its exception table is too long
 pub record IsLongCode (r : Rewriting) (at : MethodAt) (pool : Constants) : Type 0 where

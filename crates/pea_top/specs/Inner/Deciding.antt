@@ -18,29 +18,30 @@ use Rattle.pea_top.specs.Folders.{HasClassFiles}
 use Rattle.pea_top.specs.Inner.Reading.{AreGoodFiles}
 use Rattle.pea_top.specs.Lines.{verified_line}
 use Rattle.pea_top.specs.Status.{Ending, completed, refused, failed, out_of_memory, ending}
-use Rattle.pea_top.specs.Words.{Word, Command, Optimise, Verify, Plan, Run, input_of, library_of}
+use Rattle.pea_top.specs.Words.{Word, Task, Optimise, Verify, Plan, Run, Both}
 use Rattle.pea_top.specs.declared.folder.NamedFile.{NamedFile}
 use Rattle.pea_top.specs.declared.status.Status.{Status}
 use Rattle.pea_top.specs.declared.work.Work.{Work}
 use Rattle.pea_top.specs.declared.work.Work.TheVariants as works
 
--- the files of the command's input and the headers of its library
-pub record AreInput (command : Command) (old : Files) (files : List NamedFile)
+-- the files of a folder and the headers of its library
+pub record AreInput (input library : Word) (old : Files) (files : List NamedFile)
     (classes : List ClassFile) (headers : List Header)
     : Type 0 where
-  pub good : AreGoodFiles (old (input_of command)) files classes
-  pub library : HasClassFiles HeaderOf (old (library_of command)) headers
+  pub good : AreGoodFiles (old input) files classes
+  pub headers_read : HasClassFiles HeaderOf (old library) headers
 
--- what is left to do of a command, whose input has these class files
-abbrev pub IsWork : Command → Files → List ClassFile → Work → Type 0
-IsWork (Optimise input output library) old classes (works.Optimise folder names) =
-    folder.now ≡ output
-IsWork (Verify input library) old classes (works.Print line) =
+-- what is left to do of a task, whose folder has these class files
+abbrev pub IsWork : Task → Files → List ClassFile → Work → Type 0
+IsWork (Optimise output) old classes (works.Optimise folder names) = folder.now ≡ output
+IsWork Verify old classes (works.Print line) =
     line.items ≡ verified_line (length classes) (method_count classes)
-IsWork (Plan input library) old classes works.Plan = Unit {0}
-IsWork (Run input script library steps) old classes (works.Run actions most) =
+IsWork Plan old classes works.Plan = Unit {0}
+IsWork (Run script steps) old classes (works.Run actions most) =
     IsScriptThere old script actions × (most ≡ steps)
-IsWork command old classes work = ⊥
+IsWork (Both script steps) old classes (works.Both actions most) =
+    IsScriptThere old script actions × (most ≡ steps)
+IsWork task old classes work = ⊥
 
 -- the work writes files
 abbrev pub WritesFiles : Work → Type 0
@@ -54,30 +55,30 @@ pub record IsShown (tree : Classes) (actions : List Action) (steps : ℕ) (text 
   pub is : text ≡ events_text (shown_after program actions steps)
   pub not_stuck : IsNeverStuck program actions steps
 
--- what was read for a command, and what is left to do
-pub record IsPrepared (command : Command) (old : Files) (files : List NamedFile)
+-- what was read for a task, and what is left to do
+pub record IsPrepared (input library : Word) (task : Task) (old : Files) (files : List NamedFile)
     (classes : List ClassFile) (headers : List Header) (work : Work)
     : Type 0 where
-  pub input : AreInput command old files classes headers
-  pub is_work : IsWork command old classes work
+  pub read : AreInput input library old files classes headers
+  pub is_work : IsWork task old classes work
 
 -- these files with their class files and headers, which are the hierarchy
-pub record AreArranged (command : Command) (old : Files) (files : List NamedFile) (tree : Classes)
-    (work : Work)
+pub record AreArranged (input library : Word) (task : Task) (old : Files) (files : List NamedFile)
+    (tree : Classes) (work : Work)
     : Type 0 where
   pub classes : List ClassFile
   pub headers : List Header
-  pub prepared : IsPrepared command old files classes headers work
+  pub prepared : IsPrepared input library task old files classes headers work
   pub arranged : IsArranged classes headers tree
   pub is_tree : IsTree tree
 
--- all is decided: the command can be done
-pub record AreReady (command : Command) (old : Files) (files : List NamedFile) (tree : Classes)
-    (work : Work)
+-- all is decided: the task can be done
+pub record AreReady (input library : Word) (task : Task) (old : Files) (files : List NamedFile)
+    (tree : Classes) (work : Work)
     : Type 0 where
   pub classes : List ClassFile
   pub headers : List Header
-  pub prepared : IsPrepared command old files classes headers work
+  pub prepared : IsPrepared input library task old files classes headers work
   pub arranged : IsArranged classes headers tree
   pub verified : IsVerified tree
 

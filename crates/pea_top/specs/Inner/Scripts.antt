@@ -5,7 +5,7 @@ use Rattle.host_tree.specs.declared.call.HostCall.TheVariants as calls
 use Rattle.machine_values.specs.declared.action.Action.{Action}
 use Rattle.script_text.specs.Scripts.{IsFirstOutside, lines_of}
 use Rattle.pea_top.specs.Answer.{IsScriptThere}
-use Rattle.pea_top.specs.Words.{Command, Run}
+use Rattle.pea_top.specs.Words.{Task, Run, Both}
 use Rattle.pea_top.specs.declared.script.ScriptStop.{ScriptStop}
 use Rattle.pea_top.specs.declared.script.ScriptStop.TheVariants.{Absent, Fault, Outside, NoMemory}
 use Rattle.pea_top.specs.declared.status.Status.{Status}
@@ -24,11 +24,12 @@ abbrev pub IsScriptOrWhy : Files → Bytes → Result (List Action) ScriptStop �
 IsScriptOrWhy files script (Ok actions) = IsScriptThere files script actions
 IsScriptOrWhy files script (Err stop) = IsScriptStop files script stop
 
--- why what a command is to do is not made: the script of a run is not read, or memory ran out
-abbrev pub IsCommandStop : Command → Files → ScriptStop → Type 0
-IsCommandStop (Run input script library steps) files stop = IsScriptStop files script stop
-IsCommandStop command files NoMemory = Unit {0}
-IsCommandStop command files stop = ⊥
+-- why what is to be done is not made: the script is not read, or memory ran out
+abbrev pub IsTaskStop : Task → Files → ScriptStop → Type 0
+IsTaskStop (Run script steps) files stop = IsScriptStop files script stop
+IsTaskStop (Both script steps) files stop = IsScriptStop files script stop
+IsTaskStop task files NoMemory = Unit {0}
+IsTaskStop task files stop = ⊥
 
 -- the status of a command whose script is not read
 abbrev pub script_status : ScriptStop → Status

@@ -1,5 +1,5 @@
 -- What is reached so far while the least plan is found, and what is left to be done.
-use Rattle.std.specs.Prelude.{◌≡◌, ◌<◌, ◌≤◌, ◌+◌, ◌*◌, ℕ, Bool, List, [], ◌∷◌, length, slice_get, Option, Some, None, IsTrue, IsFalse}
+use Rattle.std.specs.Prelude.{◌≡◌, ◌<◌, ◌≤◌, ◌+◌, ◌*◌, ◌⊎◌, ℕ, Bool, List, [], ◌∷◌, length, slice_get, Option, Some, None, IsTrue, IsFalse}
 use Rattle.std.specs.Option.{option_flatten}
 use Rattle.class_tree.specs.Headers.{Classes, headers_of}
 use Rattle.flow_code.specs.FlatCode.{FlatCode, point_at}
@@ -142,10 +142,9 @@ pub record AreStarted (classes : Classes) (flat : FlatCode) (states : List (Opti
 
 -- Edges were followed: they lead to their targets, and all else is as it should be.
 pub record AreFollowed (classes : Classes) (flat : FlatCode) (before after : List (Option State))
-    (work also : List ℕ) (edges : List Edge) (new : Bool)
+    (work also : List ℕ) (edges : List Edge)
     : Type 0 where
   pub raised : IsRaisedTo before after work also
-  pub less : IsLess before after work also new
   pub under : (links : Links)
       → AreLinksOf (headers_of classes) links
       → IsUnder (scope_of classes links flat) (reached_in after)
@@ -160,26 +159,11 @@ AreReaching classes flat states work =
     → AreLinksOf (headers_of classes) links
     → IsReaching (scope_of classes links flat) states work
 
--- A point's edges were followed.
-pub record IsVisited (classes : Classes) (flat : FlatCode) (before after : List (Option State))
-    (work also : List ℕ) (new : Bool)
-    : Type 0 where
-  pub less : IsLess before after work also new
-  pub reaching : AreReaching classes flat after also
-
--- Points were taken from the work list until one was reached for the first time, or until none was left.
-pub record IsAdvanced (classes : Classes) (flat : FlatCode) (before after : List (Option State))
-    (also : List ℕ) (new : Bool)
-    : Type 0 where
-  pub fewer : unreached_in after ≤ unreached_in before
-  pub reaches : IsTrue new → unreached_in after < unreached_in before
-  pub done : IsFalse new → also ≡ []
-  pub reaching : AreReaching classes flat after also
-
 -- ---- points of a work list
 
 -- A point is listed too.
 pub record HasListed (before after : List ℕ) (at : ℕ) : Type 0 where
   pub here : IsTrue (has after at)
   pub others : (other : ℕ) → IsTrue (has before other) → IsTrue (has after other)
+  pub only : (other : ℕ) → IsTrue (has after other) → (at ≡ other) ⊎ IsTrue (has before other)
   pub more : length after ≤ length before + 1

@@ -8,10 +8,11 @@ use Rattle.class_model.specs.Names.{init}
 use Rattle.class_model.specs.declared.instr.Instr.{Instr}
 use Rattle.class_model.specs.declared.instr.Instr.TheVariants.{Goto, If, If2, IfNull, IfSame, Lookup, Table}
 use Rattle.class_model.specs.declared.instr.Pair.{Pair}
-use Rattle.class_model.specs.declared.opcodes.TheConstants.{IFEQ, IFGE, IFGT, IFLE, IFLT, IFNE, IFNONNULL, IFNULL, IF_ACMPEQ, IF_ACMPNE, IF_ICMPEQ, IF_ICMPGE, IF_ICMPGT, IF_ICMPLE, IF_ICMPLT, IF_ICMPNE, INVOKESPECIAL}
+use Rattle.class_model.specs.declared.opcodes.TheConstants.{INVOKESPECIAL}
 use Rattle.class_tree.specs.Headers.{Name}
 use Rattle.flow_code.specs.WrittenUnits.{written_units}
 use Rattle.making_code.specs.Items.{WCatch, WInstr, WItem, WTarget, ahead, carried, constructs, load, makes, plain, store, to_handler_pad, to_jump_pad, to_point}
+use Rattle.making_code.specs.Opposites.{opposite_instr}
 use Rattle.making_code.specs.Units.{unit_number}
 use Rattle.member_link.specs.Machine.Codes.{call_op, instr_op}
 use Rattle.member_link.specs.Machine.Ops.{Op, load_local, new_object, store_local}
@@ -28,35 +29,6 @@ use Rattle.plan_flow.specs.Written.Finish.{Finished, begins_point, finished_item
 pub data Form : Type 0 where
   short : Form
   wide : Form
-
--- the opcode of the conditional jump that is taken where the other one is not
-abbrev pub opposite : ℕ → ℕ
-opposite opcode =
-    if opcode == IFEQ then IFNE
-    else (if opcode == IFNE then IFEQ
-    else (if opcode == IFLT then IFGE
-    else (if opcode == IFGE then IFLT
-    else (if opcode == IFGT then IFLE
-    else (if opcode == IFLE then IFGT
-    else (if opcode == IF_ICMPEQ then IF_ICMPNE
-    else (if opcode == IF_ICMPNE then IF_ICMPEQ
-    else (if opcode == IF_ICMPLT then IF_ICMPGE
-    else (if opcode == IF_ICMPGE then IF_ICMPLT
-    else (if opcode == IF_ICMPGT then IF_ICMPLE
-    else (if opcode == IF_ICMPLE then IF_ICMPGT
-    else (if opcode == IF_ACMPEQ then IF_ACMPNE
-    else (if opcode == IF_ACMPNE then IF_ACMPEQ
-    else (if opcode == IFNULL then IFNONNULL
-    else (if opcode == IFNONNULL then IFNULL
-    else opcode)))))))))))))))
-
--- the opposite of a conditional jump
-abbrev pub opposite_instr : Instr → Option Instr
-opposite_instr (If opcode to) = Some (If (opposite opcode) to)
-opposite_instr (If2 opcode to) = Some (If2 (opposite opcode) to)
-opposite_instr (IfSame opcode to) = Some (IfSame (opposite opcode) to)
-opposite_instr (IfNull opcode to) = Some (IfNull (opposite opcode) to)
-opposite_instr other = None
 
 abbrev pub over_goto : WItem → ℕ → Option Instr → List WItem
 over_goto one class None = one ∷ []

@@ -6,13 +6,12 @@ use Rattle.std.specs.Prelude.{◌==◌, ℕ, zero, suc, Bool, true, false, List,
 use Rattle.std.specs.List.{flat_map}
 use Rattle.class_model.specs.Pool.{Constants}
 use Rattle.class_model.specs.declared.instr.Instr.{Instr}
-use Rattle.class_model.specs.declared.instr.Instr.TheVariants.{Cast, Dynamic, GetField, GetStatic, InstanceOf, Invoke, Ldc, Ldc2, Load, New, NewMulti, NewRefArray, PutField, PutStatic, Store}
-use Rattle.class_model.specs.declared.opcodes.TheConstants.{INVOKESPECIAL}
+use Rattle.class_model.specs.declared.instr.Instr.TheVariants.{Cast, Dynamic, GetField, GetStatic, InstanceOf, Invoke, Ldc, Ldc2, New, NewMulti, NewRefArray, PutField, PutStatic}
 use Rattle.class_tree.specs.Headers.{Name}
-use Rattle.making_code.specs.Constants.{Need, class_needs, constructor_needs, grow, index_in, last_need, needs_at, needs_class}
+use Rattle.making_code.specs.Constants.{Need, class_needs, grow, index_in, needs_at, needs_class}
 use Rattle.making_code.specs.IndexedItems.{IndexedItem}
-use Rattle.making_code.specs.Items.{WCatch, WInstr, WItem, WTarget, ahead, carried, constructs, load, makes, plain, store, to_handler_pad, to_jump_pad, to_point}
-use Rattle.making_code.specs.Units.{unit_number}
+use Rattle.making_code.specs.IndexedMaking.{index_of_last, made_instr, making_needs}
+use Rattle.making_code.specs.Items.{WCatch, WInstr, WItem, WTarget, ahead, carried, to_handler_pad, to_jump_pad, to_point}
 use Rattle.member_link.specs.Machine.Replaced.{map_numbered}
 use Rattle.plan_flow.specs.PlanScope.{PlanScope, pool_of}
 use Rattle.plan_flow.specs.Written.Finish.{Finished}
@@ -67,11 +66,7 @@ carried_needs s class instr =
 
 abbrev pub instr_needs : PlanScope → (Name → List ℕ) → WInstr → List Need
 instr_needs s constructor (carried class instr) = carried_needs s class instr
-instr_needs s constructor (plain instr) = []
-instr_needs s constructor (load kind unit) = []
-instr_needs s constructor (store kind unit) = []
-instr_needs s constructor (makes class) = class_needs class
-instr_needs s constructor (constructs class) = constructor_needs class (constructor class)
+instr_needs s constructor instr = making_needs constructor instr
 
 abbrev pub catch_needs : Option Name → List Need
 catch_needs None = []
@@ -90,12 +85,6 @@ code_pool s constructor items pool = grow 64535 pool (code_needs s constructor i
 
 -- ---- items by their indices
 
-abbrev pub index_of_last : Constants → List Need → ℕ
-index_of_last pool needs = of_need (last_need needs) where
-  of_need : Option Need → ℕ
-  of_need None = 0
-  of_need (Some need) = index_in pool need
-
 abbrev pub carried_instr : PlanScope → Constants → ℕ → Instr → Instr
 carried_instr s pool class instr =
     if class == s.flat.host.class then instr
@@ -104,13 +93,7 @@ carried_instr s pool class instr =
 -- an instruction as it is written, but for its targets
 abbrev pub indexed_instr : PlanScope → (Name → List ℕ) → Constants → WInstr → Instr
 indexed_instr s constructor pool (carried class instr) = carried_instr s pool class instr
-indexed_instr s constructor pool (plain instr) = instr
-indexed_instr s constructor pool (load kind unit) = Load kind (unit_number s.flat unit)
-indexed_instr s constructor pool (store kind unit) = Store kind (unit_number s.flat unit)
-indexed_instr s constructor pool (makes class) = New (index_in pool (needs_class class))
-indexed_instr s constructor pool (constructs class) =
-    Invoke INVOKESPECIAL
-    (index_of_last pool (constructor_needs class (constructor class))) 0
+indexed_instr s constructor pool instr = made_instr s.flat constructor pool instr
 
 abbrev pub catch_index : Constants → Option Name → ℕ
 catch_index pool None = 0

@@ -14,6 +14,7 @@ pub mod JumpTurns
 pub mod Knowing
 pub mod Landing
 pub mod LoadTurns
+pub mod LocalsStay
 pub mod MoveTurns
 pub mod MovesOn
 pub mod NopTurns
@@ -30,7 +31,11 @@ pub mod Rows
 pub mod SimpleFits
 pub mod Slots
 pub mod Standing
+pub mod StoreOver
+pub mod StoreTurns
 pub mod StuckFits
+pub mod SwitchInstrs
+pub mod SwitchTurns
 pub mod Turns
 pub mod Waiting
 pub mod Whole

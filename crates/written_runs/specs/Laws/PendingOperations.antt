@@ -21,7 +21,8 @@ use Rattle.member_link.specs.RowScope.{RowScope}
 use Rattle.member_link.specs.Scope.{Scope, row_scope}
 use Rattle.plan_flow.specs.PlanScope.{PlanScope, pool_of, scope_of}
 use Rattle.plan_flow.specs.Written.Finish.{Finished, finished_items}
-use Rattle.plan_flow.specs.Written.WrittenCode.{Form, block_items, jumping_to, opposite, opposite_instr, short, wide, widened, written_op}
+use Rattle.making_code.specs.Opposites.{opposite, opposite_instr}
+use Rattle.plan_flow.specs.Written.WrittenCode.{Form, block_items, jumping_to, short, wide, widened, written_op}
 use Rattle.same_runs.specs.Flats.{pool_of as pool_of_flat}
 
 -- ---- nothing waits for a jump

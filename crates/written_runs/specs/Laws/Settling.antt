@@ -18,7 +18,7 @@ use Rattle.making_code.specs.MakeOrder.{IsMakeOrder}
 use Rattle.member_link.specs.Machine.Programs.{Code, code_at}
 use Rattle.member_link.specs.Machine.Runs.{Run}
 use Rattle.member_link.specs.Scope.{Scope, scope_at}
-use Rattle.plan_flow.specs.Laws.RoutedPlans.{EdgeLeads, HasOneEffect, HasRoute, IsRouteOf, leads_of, route_at, route_of}
+use Rattle.plan_flow.specs.Laws.RoutedPlans.{EdgeLeads, HasRoute, IsRouteOf, leads_of, route_at, route_of}
 use Rattle.plan_flow.specs.Laws.WrittenBlocks.{block_finished, first_block, first_item, first_of, next_first, next_starts, own_first, own_number, own_second, starts_at, blocks_left, first_begins, made_next, next_of, StandsNext, goes_on, makes_first}
 use Rattle.plan_flow.specs.Laws.WrittenPads.{StandsFirst, comes_nowhere, none_finished, pad_block}
 use Rattle.plan_flow.specs.MetPlans.{MeetsState, RefersToSite}
@@ -49,6 +49,9 @@ use Rattle.written_runs.specs.Laws.MadeItems.{AreOwn, HasSome, behind_made, leng
 use Rattle.written_runs.specs.Laws.Uncovered.{IsUncovered, can_be_saved}
 use Rattle.written_runs.specs.Laws.NewOnTop.{gives_on_top}
 use Rattle.written_runs.specs.Laws.NextEdges.{next_follows}
+use Rattle.written_runs.specs.Laws.OneEffect.{one_effect}
+use Rattle.written_runs.specs.Laws.WideFlats.{room_reached}
+use Rattle.written_runs.specs.Laws.WideLocals.{HasWideRoom}
 use Rattle.written_runs.specs.Laws.WrittenCodes.{written_code_at}
 use Rattle.written_runs.specs.Laws.UncoveredPlans.{uncovered_along, uncovered_at}
 use Rattle.written_runs.specs.Laws.TypedKept.{HasPlaces, TypesEntries, can_be_kept, entry_there, places_of}
@@ -64,7 +67,6 @@ use Rattle.written_runs.specs.WrittenRuns.{IsReadyMethod}
 pub record SettleLaws (u : Setup) : Type 0 where
   pub is_setup : IsSetup u
   pub making : MakesObjects u
-  pub one_effect : (w : WrittenMethod) → HasOneEffect (scope_in u w)
   -- what typing tells make code of entries, local units and values
   pub types : TypesEntries u
 
@@ -117,6 +119,7 @@ pub record CanBeMade (point : Point) (state : State) (made order : List ℕ) : T
   pub is_made : IsMadeIn state made
   pub is_order : IsMakeOrder state.objects made order
   pub uncovered : IsUncovered point.typed.stack (stack_slots point state) made
+  pub room : HasWideRoom point.typed.locals
 
 -- the target of an edge is the point at which the first frame stands: its route, and the state that is left
 pub record Onwards (w : WrittenMethod) (place : ℕ) (point : Point) (edge : RouteEdge) : Type 0 where
@@ -151,6 +154,7 @@ module _ (u : Setup) (laws : SettleLaws u) where
       uncovered =
           subst (λ (state : State). IsUncovered point.typed.stack (stack_slots point state) there.route.made) (sym there.is.state)
           (uncovered_at (scope_in u w) f.place point lead.target.state there.route.made is_point planned_there.is_planned.beneath);
+      room = room_there;
     };
     can_edge = record {
       places = record {
@@ -165,6 +169,7 @@ module _ (u : Setup) (laws : SettleLaws u) where
           uncovered_along (scope_in u w) of_method.plan at before from.point route number.0 edge point edge.made
           (gives_on_top (scope_in u w) u.classes of_method.scope of_method.code.typed)
           from_state planned_from from.is reached.is_point number.1 (ap (slice_get w.flat.points) to ∙ is_point);
+      room = room_there;
     };
     left = sym lead.left ∙ sym there.is.state;
   } where
@@ -176,7 +181,7 @@ module _ (u : Setup) (laws : SettleLaws u) where
 
     lead : EdgeLeads (scope_in u w) of_method.plan edge
     lead =
-        leads_of (scope_in u w) of_method.plan w.routes at before route number.0 edge (laws.one_effect w) of_method.valid of_method.routed
+        leads_of (scope_in u w) of_method.plan w.routes at before route number.0 edge (one_effect (scope_in u w)) of_method.valid of_method.routed
         reached.is_point reached.is_route number.1
 
     target_at : planned of_method.plan f.place ≡ Some lead.target
@@ -206,6 +211,11 @@ module _ (u : Setup) (laws : SettleLaws u) where
           is = subst (λ (n : ℕ). IsRoute (scope_in u w) n lead.target found_route.route) (omega arith) found_route.is;
         }
 
+    room_there : HasWideRoom point.typed.locals
+    room_there =
+        room_reached (scope_in u w) of_method.plan of_method.valid u.classes of_method.scope of_method.code.typed f.place point lead.target
+        target_at is_point
+
     there_places : HasPlaces point there.route.state
     there_places =
         places_of u w f.place point there.route.state is_point
@@ -230,6 +240,8 @@ module _ (u : Setup) (laws : SettleLaws u) where
     uncovered =
         subst (λ (state : State). IsUncovered point.typed.stack (stack_slots point state) route.made) (sym there.is.state)
         (uncovered_at (scope_in u w) at point there.point.state route.made reached.is_point here.is_planned.beneath);
+    room =
+        room_reached (scope_in u w) ready.plan ready.valid u.classes ready.scope ready.code.typed at point there.point there.reached reached.is_point;
   } where
     ready : IsReadyMethod u.classes u.links f.at w
     ready = laws.is_setup.ready f.at w written
@@ -362,7 +374,7 @@ module _ (u : Setup) (laws : SettleLaws u) where
               can_be_saved w f.place point state made f is_point can.uncovered
               (laws.types.stacks one.world f rest w point h.typed h.stands (ap u.written h.at ∙ h.is_written) is_point)
               (laws.types.kinds one.world f rest w point h.typed h.stands (ap u.written h.at ∙ h.is_written) is_point);
-        }) (can_be_kept laws.is_setup laws.types h is_point can.places)
+        }) (can_be_kept laws.is_setup laws.types h is_point can.places can.room)
 
     -- there is an instruction, where an object is made
     some_code : (r : Run) (state : State) (site : ℕ) (sites order : List ℕ) (place : ℕ)

@@ -27,3 +27,6 @@ pub mod Turns
 pub mod Working
 pub mod Sames
 pub mod Whole
+pub mod Inits
+pub mod Puts
+pub mod Quiets

@@ -1,12 +1,11 @@
 -- What make code asks of typing, from the typing of the first run by the typed points of flat codes.
-use Rattle.std.proofs.Common.{◌≡◌, ◌≢◌, ◌<◌, ℕ, zero, suc, Bool, true, false, List, [], ◌∷◌, ◌++◌, get_or, length, map, reverse, slice_get, Option, Some, None, option_map, IsTrue, refl, sym, ap, subst, ◌∙◌}
+use Rattle.std.proofs.Common.{◌≡◌, ◌≢◌, ℕ, zero, suc, Bool, true, false, List, [], ◌∷◌, ◌++◌, get_or, length, map, reverse, slice_get, Option, Some, None, option_map, IsTrue, refl, sym, ap, subst, ◌∙◌}
 use Rattle.std.specs.List.{flat_map}
 use Rattle.std.proofs.lemmas.Bool.{false≢true}
 use Rattle.std.proofs.lemmas.List.{length-map, length-reverse, map-append}
 use Rattle.std.proofs.lemmas.Option.{none-some, same_Some, slice_get-get_or, slice_get-map}
 use Rattle.class_model.specs.Descriptors.{kind_of, type_of}
 use Rattle.class_model.specs.Frames.{is_wide}
-use Rattle.class_model.specs.declared.class_file.MethodAt.{MethodAt}
 use Rattle.class_model.specs.declared.descriptor.FieldType.{FieldType}
 use Rattle.class_model.specs.declared.descriptor.FieldType.TheVariants as descs
 use Rattle.class_model.specs.declared.descriptor.Kind.{Kind}
@@ -39,7 +38,7 @@ use Rattle.member_link.specs.Machine.Programs.{Program, folder_number, headers_i
 use Rattle.member_link.specs.Machine.Worlds.{World}
 use Rattle.member_link.specs.References.{Reference}
 use Rattle.member_link.specs.RowScope.{RowScope}
-use Rattle.plan_flow.specs.Written.WrittenPrograms.{WrittenMethod, WrittenMethods}
+use Rattle.plan_flow.specs.Written.WrittenPrograms.{WrittenMethod}
 use Rattle.same_runs.specs.Laws.FirstBeginnings.{folder_name}
 use Rattle.same_runs.specs.Laws.Layouts.{same_slots}
 use Rattle.same_runs.specs.Laws.ReplacedPrograms.{replaced_same}
@@ -52,18 +51,7 @@ use Rattle.typed_runs.specs.TypedWorlds.{TypedWorld}
 use Rattle.written_runs.specs.Inner.Setup.{IsSetup, Setup, first}
 use Rattle.written_runs.specs.Laws.AddedConstructors.{AddsToCandidates, first_alike}
 use Rattle.written_runs.specs.Laws.TypedKept.{TypesEntries}
-
--- no long or double is typed in the last local unit of a point
-abbrev pub HasRoomForWide : WrittenMethods → Type 0
-HasRoomForWide written =
-    (at : MethodAt) (w : WrittenMethod)
-    → written at ≡ Some w
-    → (number : ℕ) (point : Point)
-    → slice_get w.flat.points number ≡ Some point
-    → (unit : ℕ) (type : VType)
-    → slice_get point.typed.locals unit ≡ Some type
-    → IsTrue (is_wide type)
-    → suc unit < length point.typed.locals
+use Rattle.written_runs.specs.Laws.WideLocals.{HasWideRoom}
 
 -- ---- a frame at a point
 
@@ -274,7 +262,7 @@ types_through headers (name ∷ names) =
 -- ---- the whole
 
 module _ (u : Setup) (setup : IsSetup u) (hierarchy : IsHierarchy (headers_of u.classes)) (adds : AddsToCandidates u)
-    (has : HasFlatTypings u.flats u.typings) (room : HasRoomForWide u.written) where
+    (has : HasFlatTypings u.flats u.typings) where
   stacks : (one : World) (f : MethodState) (rest : List RunFrame) (w : WrittenMethod) (point : Point)
       → TypedWorld (first u) u.typings one
       → one.frames ≡ Method f ∷ rest
@@ -311,13 +299,14 @@ module _ (u : Setup) (setup : IsSetup u) (hierarchy : IsHierarchy (headers_of u.
       → one.frames ≡ Method f ∷ rest
       → u.written f.at ≡ Some w
       → slice_get w.flat.points f.place ≡ Some point
+      → HasWideRoom point.typed.locals
       → (unit : ℕ) (type : VType) (value : Value)
       → slice_get point.typed.locals unit ≡ Some type
       → type ≢ Top
       → slice_get f.locals unit ≡ Some (Some value)
       → IsTrue (is_wide_value value)
       → slice_get point.typed.locals (suc unit) ≡ Some Top
-  wide one f rest w point typed stands written is_point unit type value is_type differs is_value is_wide_one =
+  wide one f rest w point typed stands written is_point room unit type value is_type differs is_value is_wide_one =
       by (slice_get point.typed.locals (suc unit)) refl where
         t : IsTypedFrame (first u) u.typings one.memory.heap (read_frame w.flat point.typed) f
         t = typed_frame u setup has one f rest w point typed stands written is_point
@@ -339,7 +328,7 @@ module _ (u : Setup) (setup : IsSetup u) (hierarchy : IsHierarchy (headers_of u.
         by None none =
             absurd (none-some (get_or point.typed.locals (suc unit) Top) (sym none
             ∙ slice_get-get_or point.typed.locals (suc unit) Top
-            (room f.at w written f.place point is_point unit type is_type type_is_wide)))
+            (room.each unit type is_type type_is_wide)))
         by (Some next) some =
             let found = unit_at t.locals (suc unit) (read_type w.flat next) (read_at (suc unit) next some) in
             some ∙ ap Some (read_top w.flat next (no_value_top found.2

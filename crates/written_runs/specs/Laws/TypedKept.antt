@@ -42,6 +42,7 @@ use Rattle.written_runs.specs.Inner.Setup.{IsSetup, Setup, first}
 use Rattle.written_runs.specs.Inner.Standing.{apart}
 use Rattle.written_runs.specs.Laws.Halfway.{Halfway}
 use Rattle.written_runs.specs.Laws.LessVirtual.{one_owner}
+use Rattle.written_runs.specs.Laws.WideLocals.{HasWideRoom}
 use Rattle.written_runs.specs.VirtualObjects.{HasVirtual, TellsObject, Virtual, local_slots, stack_slots}
 use Rattle.written_runs.specs.WrittenRuns.{IsReadyMethod}
 
@@ -71,6 +72,7 @@ pub record TypesEntries (u : Setup) : Type 0 where
       → one.frames ≡ Method f ∷ rest
       → u.written f.at ≡ Some w
       → slice_get w.flat.points f.place ≡ Some point
+      → HasWideRoom point.typed.locals
       → (unit : ℕ) (type : VType) (value : Value)
       → slice_get point.typed.locals unit ≡ Some type
       → type ≢ Top
@@ -222,15 +224,16 @@ pub can_be_kept : {u : Setup} {one other : Run} {f : MethodState} {rest : List R
     → (h : Halfway u one other f rest w known point state place)
     → slice_get w.flat.points f.place ≡ Some point
     → HasPlaces point state
+    → HasWideRoom point.typed.locals
     → CanBeKept w h.virtuals (length rest) point state f
-can_be_kept {u = u} {one = one} {f = f} {rest = rest} {w = w} {point = point} {state = state} setup types h is_point places = record {
+can_be_kept {u = u} {one = one} {f = f} {rest = rest} {w = w} {point = point} {state = state} setup types h is_point places room = record {
   entries = types.stacks one.world f rest w point h.typed h.stands written is_point;
   slots = stack_length places;
   usable = stack_usable places;
   wide = λ unit value plain is is_wide.
       let type = local_type places unit plain in
       local_unusable places (suc unit)
-      (types.wide one.world f rest w point h.typed h.stands written is_point unit type.0 value type.1 type.2 is is_wide);
+      (types.wide one.world f rest w point h.typed h.stands written is_point room unit type.0 value type.1 type.2 is is_wide);
   kinds = kinds;
 } where
   written : u.written f.at ≡ Some w

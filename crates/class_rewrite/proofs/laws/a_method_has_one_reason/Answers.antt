@@ -1,4 +1,4 @@
-use Rattle.class_rewrite.proofs.OneReason.{one_reason}
+use Rattle.class_rewrite.specs.Laws.OneReason.{one_reason}
 use Rattle.class_rewrite.proofs.laws.a_method_has_one_reason.Goals as goal
 
 pub returns : goal.returns

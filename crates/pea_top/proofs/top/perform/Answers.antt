@@ -1,24 +1,7 @@
-use Rattle.std.proofs.Common.{◌∙◌}
-use Rattle.host_tree.specs.Host.{Bytes, Files}
-use Rattle.pea_top.specs.CommandView.{command_view}
-use Rattle.pea_top.specs.Inner.Deciding.{AreInput}
-use Rattle.pea_top.proofs.Outcomes.{said_of_same, stop_behind}
 use Rattle.pea_top.proofs.top.perform.Goals as goal
 
--- what was read stands there still
-pub decide-requires-clause-read : goal.decide-requires-clause-read
-decide-requires-clause-read g c = λ tells.
-    let found = rw (c.input.ensures, c.library.ensures) at (c.in-Ok.ensures.found tells) in
-    let same = λ (root : Bytes) (name : Bytes). c.note_input.ensures.files tells root name ∙ c.in-Ok.ensures.files tells root name in
-    said_of_same (λ (files : Files). AreInput (command_view c.args.command) files c.in-Ok.input.files.items c.in-Ok.input.classes c.in-Ok.input.headers) same (record { good = found.0; library = found.1 })
+pub returns-in-OnFolder-clause-stop : goal.returns-in-OnFolder-clause-stop
+returns-in-OnFolder-clause-stop g c = λ words spelled tells. c.read_folder.ensures.stop words (rw c.in-OnFolder.is at spelled) tells
 
-pub returns-in-Ok-clause-stop : goal.returns-in-Ok-clause-stop
-returns-in-Ok-clause-stop g c = λ words spelled tells.
-    let noted = stop_behind words _ _ _ _ _ _ _ (c.note_input.ensures.files tells) (c.note_input.ensures.printed tells) (c.decide.ensures.stop words spelled tells) in
-    stop_behind words _ _ _ _ _ _ _ (c.in-Ok.ensures.files tells) (c.in-Ok.ensures.printed tells) noted
-
-pub returns-in-Ok-clause-write_count : goal.returns-in-Ok-clause-write_count
-returns-in-Ok-clause-write_count g c = λ only_reads. c.decide.ensures.write_count only_reads ∙ (c.note_input.ensures.counts _ ∙ c.in-Ok.ensures.write_count)
-
-pub returns-in-Err-clause-write_count : goal.returns-in-Err-clause-write_count
-returns-in-Err-clause-write_count g c = λ only_reads. c.explain_reading.ensures.counts _ ∙ c.in-Err.ensures.write_count
+pub returns-in-Listing-clause-stop : goal.returns-in-Listing-clause-stop
+returns-in-Listing-clause-stop g c = λ words spelled tells. c.list.ensures.stop words (rw c.in-Listing.is at spelled) tells

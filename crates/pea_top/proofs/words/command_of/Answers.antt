@@ -33,3 +33,15 @@ returns-in-plan-clause-none c =
     let split = ap (λ words. map string_bytes words) c.in_ok-name.ensures.cases.0 in
     let named = sym c.as_str.ensures.value ∙ c.in-plan.is in
     none_then c.plan.result (unspelled _ _ _ _ c.in_ok-arguments.arguments split named c.in_ok-arguments.ensures.some) c.plan.ensures.none
+
+pub returns-in-both-clause-none : goal.returns-in-both-clause-none
+returns-in-both-clause-none c =
+    let split = ap (λ words. map string_bytes words) c.in_ok-name.ensures.cases.0 in
+    let named = sym c.as_str.ensures.value ∙ c.in-both.is in
+    none_then c.both.result (unspelled _ _ _ _ c.in_ok-arguments.arguments split named c.in_ok-arguments.ensures.some) c.both.ensures.none
+
+pub returns-in-list-clause-none : goal.returns-in-list-clause-none
+returns-in-list-clause-none c =
+    let split = ap (λ words. map string_bytes words) c.in_ok-name.ensures.cases.0 in
+    let named = sym c.as_str.ensures.value ∙ c.in-list.is in
+    none_then c.list.result (unspelled _ _ _ _ c.in_ok-arguments.arguments split named c.in_ok-arguments.ensures.some) c.list.ensures.none

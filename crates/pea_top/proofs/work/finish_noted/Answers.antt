@@ -1,5 +1,4 @@
 -- what was shown before left the files, and printed nothing
-use Rattle.std.proofs.Common.{◌≡◌}
 use Rattle.pea_top.proofs.Outcomes.{printed_behind}
 use Rattle.pea_top.proofs.work.finish_noted.Goals as goal
 

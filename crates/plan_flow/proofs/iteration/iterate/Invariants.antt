@@ -1,4 +1,4 @@
-use Rattle.plan_flow.proofs.Visiting.{IsIterating, rounds_left}
+use Rattle.plan_flow.proofs.HeadSteps.{IsIterating, rounds_left}
 use Rattle.plan_flow.proofs.iteration.iterate.Given as goal
 
 abbrev pub invariant-loop-more : goal.invariant-loop-more

@@ -30,7 +30,7 @@ use Rattle.virtual_state.specs.declared.slot.Slot.{Slot}
 use Rattle.virtual_state.specs.declared.slot.Slot.TheVariants.{Plain, Virt, Unusable}
 use Rattle.virtual_state.specs.declared.slot.VObject.{VObject}
 use Rattle.written_runs.specs.Inner.PlannedFrames.{KeepStack, Keeps, KeptIn}
-use Rattle.written_runs.specs.Laws.Carried.Slots.{FitsPlain, LeadsAlong, LeavesLocals, fit_plain, fit_virtual, got_before, got_left, got_right, locals_are, stack_are}
+use Rattle.written_runs.specs.Laws.Carried.Slots.{FitsPlain, LeadsAlong, LeavesStack, edge_slots, fit_plain, fit_virtual, got_before, got_left, got_right, locals_are, stack_are}
 use Rattle.written_runs.specs.Laws.FewerVirtuals.{AreFewer}
 use Rattle.written_runs.specs.Laws.KnownClasses.{slot_names}
 use Rattle.written_runs.specs.Laws.LessVirtual.{still_in, was_in}
@@ -155,11 +155,72 @@ pub record MovesAlong (s : PlanScope) (at : ℕ) (point target : Point) (before 
       → slice_get ones number ≡ Some value
       → (reference : ℕ) × (value ≡ Ref reference)
 
+-- The same of the stack alone.
+pub record MovesStack (s : PlanScope) (at : ℕ) (point : Point) (row : RowEdge) (more : Names) (taken : ℕ) (given : List Source)
+    (f then also : MethodState)
+    : Type 0 where
+  pub long : length (take (length point.typed.stack - taken) (reverse f.stack)) ≡ length point.typed.stack - taken
+  pub ones : List Value
+  pub others : List Value
+  pub lower : List Value
+  pub same : SameValues more ones others
+  pub stack : reverse then.stack ≡ take (length point.typed.stack - taken) (reverse f.stack) ++ ones
+  pub stack_also : reverse also.stack ≡ lower ++ others
+  pub uninit : KeepsAlong s at point row
+  pub uninit_given : (number : ℕ) (type : VType) (source : Source) (value : Value)
+      → slice_get given number ≡ Some source
+      → KeepsType at (place_types point.typed) type source
+      → IsTrue (is_site_object s.flat type)
+      → slice_get ones number ≡ Some value
+      → (reference : ℕ) × (value ≡ Ref reference)
+
+abbrev pub moves_stack : {s : PlanScope} {at : ℕ} {point target : Point} {before : State} {row : RowEdge} {more : Names} {taken : ℕ} {given : List Source}
+    {f g then also : MethodState}
+    → MovesAlong s at point target before row more taken given f g then also
+    → MovesStack s at point row more taken given f then also
+moves_stack moves = record {
+  long = moves.long;
+  ones = moves.ones;
+  others = moves.others;
+  lower = moves.lower;
+  same = moves.same;
+  stack = moves.stack;
+  stack_also = moves.stack_also;
+  uninit = moves.uninit;
+  uninit_given = moves.uninit_given;
+}
+
+-- What is known of the local units behind the edge, by what they come from: virtual objects are there, and the second frame keeps plain values.
+pub record LocalsOver (s : PlanScope) (at : ℕ) (point target : Point) (before : State) (row : RowEdge) (virtuals : Virtuals) (frame : ℕ)
+    (names more : Names) (g then also : MethodState)
+    : Type 0 where
+  pub many : length (edge_slots s at point before row) ≡ length target.typed.locals
+  pub refer : (unit site : ℕ) (type : VType)
+      → slice_get target.typed.locals unit ≡ Some type
+      → is_top type ≡ false
+      → slice_get (edge_slots s at point before row) unit ≡ Some (Virt site)
+      → (value : Value) × (slice_get then.locals unit ≡ Some (Some value)) × RefersTo virtuals frame site value
+  pub keep : (unit : ℕ) (type : VType) (value : Value)
+      → slice_get target.typed.locals unit ≡ Some type
+      → is_top type ≡ false
+      → slice_get (edge_slots s at point before row) unit ≡ Some Plain
+      → slice_get then.locals unit ≡ Some (Some value)
+      → KeptIn more also unit value
+  pub uninit : (unit : ℕ) (type : VType)
+      → slice_get target.typed.locals unit ≡ Some type
+      → IsTrue (is_site_object s.flat type)
+      → (reference : ℕ) × (slice_get then.locals unit ≡ Some (Some (Ref reference)))
+  -- what the units of fields hold stays
+  pub others : (site number : ℕ) (value : Value)
+      → KeptIn names g (unit_number s.flat (field_unit site number)) value
+      → KeptIn more also (unit_number s.flat (field_unit site number)) value
+  pub room : written_units s.flat ≤ length also.locals
+
 module _ {P : Program} {s : PlanScope} {at : ℕ} {point target : Point} {before after : State} {row : RowEdge} {taken : ℕ} {given : List Source}
-    (leaves : LeavesLocals s at point before row taken given) (leads : LeadsAlong s point target before row taken given)
+    (leaves : LeavesStack s at point before row taken given) (leads : LeadsAlong s point target before row taken given)
     (behind : IsStateBehind s point at before row after)
-    {more : Names} {virtuals : Virtuals} {frame : ℕ} {f g then also : MethodState}
-    (moves : MovesAlong s at point target before row more taken given f g then also)
+    {names more : Names} {virtuals : Virtuals} {frame : ℕ} {f g then also : MethodState}
+    (moves : MovesStack s at point row more taken given f then also) (over : LocalsOver s at point target before row virtuals frame names more g then also)
     (tells : Tells P s virtuals frame point before f) where
   abbrev left : Virtuals
   left = kept_of frame after virtuals
@@ -254,11 +315,13 @@ module _ {P : Program} {s : PlanScope} {at : ℕ} {point target : Point} {before
   present_entry : (place site : ℕ) → slice_get (stack_slots target after) place ≡ Some (Virt site) → IsTrue (is_present after.objects site)
   present_entry place site is = behind.is_state.places site (dropped (length target.typed.locals) after.slots place site is)
 
-  local_was : (unit site : ℕ) → slice_get (local_slots target after) unit ≡ Some (Virt site) → slice_get (local_slots point before) unit ≡ Some (Virt site)
-  local_was unit site is =
-      read_virtual (local_slots point before) unit site
-      (fit_virtual target.typed.locals (map as_read (local_slots point before)) unit site
-      (ap (λ (slots : List Slot). slice_get slots unit) (sym (locals_are leaves leads behind)) ∙ is))
+  -- and so is what the unit comes from, where its type is not Top
+  local_fits : (unit site : ℕ) → slice_get (local_slots target after) unit ≡ Some (Virt site)
+      → (type : VType) × (slice_get target.typed.locals unit ≡ Some type) × (is_top type ≡ false)
+      × (slice_get (edge_slots s at point before row) unit ≡ Some (Virt site))
+  local_fits unit site is =
+      fit_virtual target.typed.locals (edge_slots s at point before row) unit site
+      (ap (λ (slots : List Slot). slice_get slots unit) (sym (locals_are leaves leads behind)) ∙ is)
 
   abbrev lowest_slots : List Slot
   lowest_slots = take left_count (stack_slots point before)
@@ -314,19 +377,6 @@ module _ {P : Program} {s : PlanScope} {at : ℕ} {point target : Point} {before
 
   -- ---- uninitialised objects
 
-  local_place : (unit place : ℕ) (type : VType) (source : Source)
-      → unit < local_count
-      → source ≡ from_place unit
-      → KeepsType at (place_types point.typed) type source
-      → slice_get point.typed.locals unit ≡ Some type
-  local_place unit place type source low is (from_its_type one there) =
-      let same : one ≡ unit = ap place_of is in
-      sym (got_left point.typed.locals point.typed.stack unit low) ∙ ap (slice_get (place_types point.typed)) (sym same) ∙ there where
-        place_of : Source → ℕ
-        place_of (from_place place) = place
-        place_of other = 0
-  local_place unit place type source low is (from_its_new new) = absurd (cc is)
-
   entry_place : (entry : ℕ) (type : VType) (source : Source)
       → source ≡ from_place (local_count + entry)
       → KeepsType at (place_types point.typed) type source
@@ -338,24 +388,6 @@ module _ {P : Program} {s : PlanScope} {at : ℕ} {point target : Point} {before
         place_of (from_place place) = place
         place_of other = 0
   entry_place entry type source is (from_its_new new) = absurd (cc is)
-
-  uninit_local : (unit : ℕ) (type : VType)
-      → slice_get target.typed.locals unit ≡ Some type
-      → IsTrue (is_site_object s.flat type)
-      → (reference : ℕ) × (slice_get then.locals unit ≡ Some (Some (Ref reference)))
-  uninit_local unit type is_type is_site =
-      let low = slice_get_within target.typed.locals unit type is_type in
-      let many = leads.as_many_locals in
-      let here : unit < local_count = omega (arith, low, many) in
-      let of_target : slice_get (local_types s.flat row.to) unit ≡ Some type = rw (leads.is_target) is_type in
-      let kept = moves.uninit.locals unit type of_target is_site in
-      let zeroth : 0 + unit ≡ unit = omega arith in
-      let is_source : kept.0 ≡ from_place unit =
-      same_Some kept.0 (from_place unit)
-      (sym kept.1 ∙ ap (λ (sources : List Source). slice_get sources unit) leaves.locals
-      ∙ held_at 0 local_count unit here ∙ ap (λ (n : ℕ). Some (from_place n)) zeroth) in
-      let was = tells.uninit_locals unit type (local_place unit unit type kept.0 here is_source kept.2) is_site in
-      (was.0, ap (λ (units : List (Option Value)). slice_get units unit) moves.locals ∙ was.1)
 
   uninit_entry : (place : ℕ) (type : VType) (value : Value)
       → slice_get target.typed.stack place ≡ Some type
@@ -398,27 +430,23 @@ module _ {P : Program} {s : PlanScope} {at : ℕ} {point target : Point} {before
   pub tells_behind : Tells P s left frame target after then
   tells_behind = record {
     locals = λ unit site is.
-        let was = tells.locals unit site (local_was unit site is) in (
-          was.0,
-          ap (λ (units : List (Option Value)). slice_get units unit) moves.locals ∙ was.1,
-          refers_left site was.0 (present_local unit site is) was.2,
-        );
+        let fits = local_fits unit site is in
+        let there = over.refer unit site fits.0 fits.1 fits.2 fits.3 in
+        (there.0, there.1, refers_left site there.0 (present_local unit site is) there.2);
     stack = λ place site value is here.
         let was = entry_was place site is in
         refers_left site value (present_entry place site is) (tells.stack place site value was.was (value_was place value was.low here));
-    uninit_locals = uninit_local;
+    uninit_locals = over.uninit;
     uninit_stack = uninit_entry;
     objects = object_left;
   }
 
   -- and the second frame keeps what it tells
-  pub keeps_behind : {names : Names}
-      → NamesMore names more
-      → KeepStack more (take left_count (stack_slots point before)) (take left_count (reverse f.stack)) moves.lower
+  pub keeps_behind : KeepStack more (take left_count (stack_slots point before)) (take left_count (reverse f.stack)) moves.lower
       → Keeps s.flat names virtuals frame [] point before f g
       → Keeps s.flat more left frame [] target after then also
-  keeps_behind {names = names} grows lower keeps = record {
-    locals = λ unit value is here. kept_local unit value is (ap (λ (units : List (Option Value)). slice_get units unit) (sym moves.locals) ∙ here);
+  keeps_behind lower keeps = record {
+    locals = λ unit value is here. kept_local unit value is here;
     stack =
         subst (λ (values : List Value). KeepStack more (stack_slots target after) values (reverse also.stack)) (sym moves.stack)
         (subst (KeepStack more (stack_slots target after) (lowest ++ moves.ones)) (sym moves.stack_also)
@@ -426,44 +454,23 @@ module _ {P : Program} {s : PlanScope} {at : ℕ} {point target : Point} {before
         (keep_join more (map as_read lowest_slots) (map (λ source. Plain) given) lowest moves.ones moves.lower moves.others (slots_long ∙ sym values_long)
         (keep_read more lowest_slots lowest moves.lower lower) (keep_plain more given moves.ones moves.others moves.same))));
     fields = λ site number told virtual value is there plain here.
-        in_unit (unit_number s.flat (field_unit site number)) value
+        over.others site number value
         (keeps.fields site number told virtual value (was_object site told is) (was_kept frame frame site after virtuals virtual there) plain here);
     made = λ site done. absurd (false≢true done);
-    room = subst (λ (units : List (Option Value)). written_units s.flat ≤ length units) (sym moves.locals_also) keeps.room;
+    room = over.room;
   } where
-    in_unit : (unit : ℕ) (value : Value) → KeptIn names g unit value → KeptIn more also unit value
-    in_unit unit value kept = record {
-      also = kept.also;
-      is = ap (λ (units : List (Option Value)). slice_get units unit) moves.locals_also ∙ kept.is;
-      same = value_more grows kept.same;
-    }
-
     kept_local : (unit : ℕ) (value : Value)
         → slice_get (local_slots target after) unit ≡ Some Plain
-        → slice_get f.locals unit ≡ Some (Some value)
+        → slice_get then.locals unit ≡ Some (Some value)
         → KeptIn more also unit value
-    kept_local unit value is here = by (slice_get (local_slots point before) unit) refl where
-      fits : FitsPlain target.typed.locals (map as_read (local_slots point before)) unit
+    kept_local unit value is here = over.keep unit fits.type value fits.is_type fits.usable (fits.slot low) here where
+      fits : FitsPlain target.typed.locals (edge_slots s at point before row) unit
       fits =
-          fit_plain target.typed.locals (map as_read (local_slots point before)) unit
+          fit_plain target.typed.locals (edge_slots s at point before row) unit
           (ap (λ (slots : List Slot). slice_get slots unit) (sym (locals_are leaves leads behind)) ∙ is)
 
-      low : unit < length (map as_read (local_slots point before))
+      low : unit < length (edge_slots s at point before row)
       low =
           let within = slice_get_within target.typed.locals unit fits.type fits.is_type in
-          let many = leads.as_many_locals in
-          let all = leads.slots in
-          let cut = length-take-le local_count before.slots (omega (arith, all)) in
-          let mapped = length-map (local_slots point before) as_read in
-          omega (arith, within, many, cut, mapped)
-
-      read : option_map as_read (slice_get (local_slots point before) unit) ≡ Some Plain
-      read = sym (slice_get-map as_read (local_slots point before) unit) ∙ fits.slot low
-
-      by : (slot : Option Slot) → slice_get (local_slots point before) unit ≡ slot → KeptIn more also unit value
-      by None told = absurd (none-some Plain (sym (ap (option_map as_read) told) ∙ read))
-      by (Some Plain) told = in_unit unit value (keeps.locals unit value told here)
-      by (Some (Virt site)) told = absurd (apart (same_Some (Virt site) Plain (sym (ap (option_map as_read) told) ∙ read))) where
-        apart : Virt site ≡ Plain → ⊥
-        apart same = absurd cc
-      by (Some Unusable) told = absurd (moves.usable unit fits.type fits.is_type fits.usable told)
+          let many = over.many in
+          omega (arith, within, many)

@@ -14,7 +14,7 @@ use Rattle.member_link.specs.Machine.Ops.{Op, jump_by_int, jump_by_ints, jump_by
 use Rattle.member_link.specs.Machine.Programs.{Program}
 use Rattle.member_link.specs.Machine.Stepping.{jump_step, op_step}
 use Rattle.member_link.specs.Machine.Worlds.{World}
-use Rattle.plan_flow.specs.Written.WrittenCode.{opposite}
+use Rattle.making_code.specs.Opposites.{opposite}
 use Rattle.same_runs.specs.Laws.Moves.{same_jump_of_int, same_jump_of_ints, same_jump_of_null, same_jump_of_references}
 use Rattle.same_runs.specs.QuietMoves.{jumped, moved_by}
 use Rattle.same_runs.specs.Renamings.{IsRenaming, Names, SameValues}
@@ -146,11 +146,13 @@ int_opposes opcode stack between = by stack where
   by : (all : List Value) → IsBetween IFEQ IFLE (opposite opcode) × (jump_of_int (opposite opcode) all ≡ negated (jump_of_int opcode all))
   by (Int n ∷ rest) =
       let next = (other n).0 in
-      let back : IFEQ + next - IFEQ ≡ next = omega arith in
-      (in_form, ap (λ (o : ℕ). with_rest rest (holds_for (o - IFEQ) n (pos 0))) (is_opposite n)
-      ∙ ap (λ (o : ℕ). with_rest rest (holds_for o n (pos 0))) back
-      ∙ ap (with_rest rest) (other n).4
-      ∙ with_rest_not rest (holds_for (opcode - IFEQ) n (pos 0)))
+      let back : IFEQ + next - IFEQ ≡ next = omega arith in (
+        in_form,
+        ap (λ (o : ℕ). with_rest rest (holds_for (o - IFEQ) n (pos 0))) (is_opposite n)
+            ∙ ap (λ (o : ℕ). with_rest rest (holds_for o n (pos 0))) back
+            ∙ ap (with_rest rest) (other n).4
+            ∙ with_rest_not rest (holds_for (opcode - IFEQ) n (pos 0)),
+      )
   by [] = (in_form, refl)
   by (Long n ∷ rest) = (in_form, refl)
   by (Float n ∷ rest) = (in_form, refl)
@@ -235,11 +237,13 @@ ints_opposes opcode stack between = by stack where
   by : (all : List Value) → IsBetween IF_ICMPEQ IF_ICMPLE (opposite opcode) × (jump_of_ints (opposite opcode) all ≡ negated (jump_of_ints opcode all))
   by (Int also ∷ Int one ∷ rest) =
       let next = (other one also).0 in
-      let back : IF_ICMPEQ + next - IF_ICMPEQ ≡ next = omega arith in
-      (in_form, ap (λ (o : ℕ). with_rest rest (holds_for (o - IF_ICMPEQ) one also)) (is_opposite one also)
-      ∙ ap (λ (o : ℕ). with_rest rest (holds_for o one also)) back
-      ∙ ap (with_rest rest) (other one also).4
-      ∙ with_rest_not rest (holds_for (opcode - IF_ICMPEQ) one also))
+      let back : IF_ICMPEQ + next - IF_ICMPEQ ≡ next = omega arith in (
+        in_form,
+        ap (λ (o : ℕ). with_rest rest (holds_for (o - IF_ICMPEQ) one also)) (is_opposite one also)
+            ∙ ap (λ (o : ℕ). with_rest rest (holds_for o one also)) back
+            ∙ ap (with_rest rest) (other one also).4
+            ∙ with_rest_not rest (holds_for (opcode - IF_ICMPEQ) one also),
+      )
   by [] = (in_form, refl)
   by (Int n ∷ []) = (in_form, refl)
   by (Int also ∷ Long n ∷ rest) = (in_form, refl)

@@ -10,7 +10,8 @@ use Rattle.plan_flow.specs.Laws.WrittenBlocks.{block_finished, first_item, next_
 use Rattle.plan_flow.specs.Written.Blocks.{Block, blocks_of, instruction_block, is_decided, leaves_to}
 use Rattle.plan_flow.specs.Written.Finish.{End, Finished, end_items, end_of, finish, is_empty, no_end}
 use Rattle.plan_flow.specs.Written.Routes.{Route}
-use Rattle.plan_flow.specs.Written.WrittenCode.{Form, block_items, in_form, opposite_instr, over_goto, short, wide, written_code, written_point}
+use Rattle.making_code.specs.Opposites.{opposite_instr}
+use Rattle.plan_flow.specs.Written.WrittenCode.{Form, block_items, in_form, over_goto, short, wide, written_code, written_point}
 use Rattle.plan_flow.specs.Written.WrittenPrograms.{WrittenMethod}
 use Rattle.written_runs.specs.Inner.PlannedFrames.{IsCarried, IsReached, blocks_in, scope_in}
 use Rattle.written_runs.specs.Inner.Setup.{Setup, second}

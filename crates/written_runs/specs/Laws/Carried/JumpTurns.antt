@@ -29,7 +29,8 @@ use Rattle.plan_flow.specs.PlanTable.{operand, targets_at}
 use Rattle.plan_flow.specs.Written.Blocks.{is_decided, state_written}
 use Rattle.plan_flow.specs.Written.Routes.{RouteEdge}
 use Rattle.plan_flow.specs.Written.Templates.{jump_target, jump_targets, to_or_pad}
-use Rattle.plan_flow.specs.Written.WrittenCode.{Form, carried_scope, in_form, jumping_to, opposite, opposite_instr, short, target_number, wide, written_op, written_point}
+use Rattle.making_code.specs.Opposites.{opposite, opposite_instr}
+use Rattle.plan_flow.specs.Written.WrittenCode.{Form, carried_scope, in_form, jumping_to, short, target_number, wide, written_op, written_point}
 use Rattle.plan_flow.specs.Written.WrittenPrograms.{WrittenMethod}
 use Rattle.plan_flow.specs.declared.edge.EdgeKind.TheVariants as edges
 use Rattle.same_runs.specs.Flats.{flat_item, instr_scope}

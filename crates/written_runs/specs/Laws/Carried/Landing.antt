@@ -45,12 +45,13 @@ use Rattle.written_runs.specs.Inner.PlannedFrames.{InPlanned, IsReached, KeepSta
 use Rattle.written_runs.specs.Inner.Setup.{Setup, first, second}
 use Rattle.written_runs.specs.Inner.Standing.{Stands, is_awaited}
 use Rattle.written_runs.specs.Laws.Carried.Arriving.{arrives_planned, goes_planned}
-use Rattle.written_runs.specs.Laws.Carried.Behind.{MovesAlong, kept_of, keeps_behind, tells_behind}
+use Rattle.written_runs.specs.Laws.Carried.Behind.{LocalsOver, MovesAlong, MovesStack, kept_of, keeps_behind, moves_stack, tells_behind}
 use Rattle.written_runs.specs.Laws.Carried.EdgeBlocks.{EdgeBlock, handler_block_at, next_block_at}
 use Rattle.written_runs.specs.Laws.Carried.Knowing.{CarriedLaws}
 use Rattle.written_runs.specs.Laws.Carried.PlannedEdges.{EdgeThere, handler_there, next_there, slots_long, unusable_is_top}
+use Rattle.written_runs.specs.Laws.Carried.LocalsStay.{locals_stay}
 use Rattle.written_runs.specs.Laws.Carried.Points.{IsNoJump, first_point_is, next_place, second_point_is}
-use Rattle.written_runs.specs.Laws.Carried.Slots.{LeadsAlong, LeavesLocals, got_left}
+use Rattle.written_runs.specs.Laws.Carried.Slots.{LeadsAlong, LeavesLocals, LeavesStack, got_left, leaves_stack}
 use Rattle.written_runs.specs.Laws.Carried.Standing.{AtOwn, at_own}
 use Rattle.written_runs.specs.Laws.Carried.Waiting.{AtCarried, AtInstruction, instruction_of}
 use Rattle.written_runs.specs.Laws.FewerVirtuals.{AllOwned, GoesFewer}
@@ -122,11 +123,11 @@ module _ (u : Setup) (laws : CarriedLaws u) {virtuals : Virtuals} {known : Known
   pub own_there : AtOwn u c.w f.place c.point c.route g
   own_there = at_own u settle c.w f g c.point c.route c.block c.is_written c.here c.of_instruction
 
-  -- the target of an edge on which the locals stay
-  pub leads_along : {row : RowEdge} (edge : EdgeThere s f.place c.point c.route row) (taken : ℕ) (given : List Source)
-      → LeavesLocals s f.place c.point before row taken given
+  -- the target of an edge
+  pub leads_stack : {row : RowEdge} (edge : EdgeThere s f.place c.point c.route row) (taken : ℕ) (given : List Source)
+      → LeavesStack s f.place c.point before row taken given
       → LeadsAlong s c.point edge.target before row taken given
-  leads_along {row = row} edge taken given leaves = record {
+  leads_stack {row = row} edge taken given leaves = record {
     is_target = edge.is_target;
     slots = slots_long u settle c.w g.at c.is_written (laws.rows_fit g.at c.w c.is_written) reached;
     as_many_locals = edge.as_many_locals;
@@ -138,6 +139,32 @@ module _ (u : Setup) (laws : CarriedLaws u) {virtuals : Virtuals} {known : Known
         let held_many = held_length local_count (entry_count - taken) in
         omega (arith, of_types, entries, of_row, both, held_many);
   }
+
+  abbrev pub leads_along : {row : RowEdge} (edge : EdgeThere s f.place c.point c.route row) (taken : ℕ) (given : List Source)
+      → LeavesLocals s f.place c.point before row taken given
+      → LeadsAlong s c.point edge.target before row taken given
+  leads_along edge taken given leaves = leads_stack edge taken given (leaves_stack leaves)
+
+  -- behind an edge on which local units change
+  abbrev pub planned_over : {row : RowEdge} (edge : EdgeThere s f.place c.point c.route row) (taken : ℕ) (given : List Source)
+      (leaves : LeavesStack s f.place c.point before row taken given) (then also : MethodState)
+      (moves : MovesStack s f.place c.point row names taken given f then also)
+      → LocalsOver s f.place c.point edge.target before row virtuals (length rest) names names g then also
+      → then.at ≡ f.at
+      → then.held ≡ f.held
+      → also.at ≡ g.at
+      → also.held ≡ g.held
+      → then.place ≡ row.to
+      → (block : EdgeBlock u c.w then.place edge.of_row.edge)
+      → also.place ≡ first_item c.w.form (blocks_in u c.w) block.number
+      → KeepStack names (take (entry_count - taken) (stack_slots c.point before)) (take (entry_count - taken) (reverse f.stack)) moves.lower
+      → InPlanned u (kept_of (length rest) edge.of_row.edge.state virtuals) known names (length rest) then also
+  planned_over {row = row} edge taken given leaves then also moves over at held at_also held_also place block place_also lower =
+      arrives_planned u virtuals known block (ap u.written at_also ∙ c.is_written) (at ∙ c.at ∙ sym at_also)
+      (subst (λ (h : Option ℕ). SameHeld names h also.held) (sym held) (subst (SameHeld names f.held) (sym held_also) c.held))
+      place_also (ap (slice_get c.w.flat.points) place ∙ edge.is_target)
+      (tells_behind leaves (leads_stack edge taken given leaves) edge.of_row.is.state moves over c.tells)
+      (keeps_behind leaves (leads_stack edge taken given leaves) edge.of_row.is.state moves over c.tells lower c.keeps)
 
   -- behind an edge the topmost frames stand as planned frames
   abbrev pub planned_along : {more : Names} {row : RowEdge} (edge : EdgeThere s f.place c.point c.route row) (taken : ℕ) (given : List Source)
@@ -157,8 +184,10 @@ module _ (u : Setup) (laws : CarriedLaws u) {virtuals : Virtuals} {known : Known
       arrives_planned u virtuals known block (ap u.written at_also ∙ c.is_written) (at ∙ c.at ∙ sym at_also)
       (subst (λ (h : Option ℕ). SameHeld more h also.held) (sym held) (subst (SameHeld more f.held) (sym held_also) (held_more grows c.held)))
       place_also (ap (slice_get c.w.flat.points) place ∙ edge.is_target)
-      (tells_behind leaves (leads_along edge taken given leaves) edge.of_row.is.state moves c.tells)
-      (keeps_behind leaves (leads_along edge taken given leaves) edge.of_row.is.state moves c.tells grows lower c.keeps)
+      (tells_behind (leaves_stack leaves) (leads_along edge taken given leaves) edge.of_row.is.state (moves_stack moves)
+      (locals_stay leaves (leads_along edge taken given leaves) moves c.tells grows c.keeps) c.tells)
+      (keeps_behind (leaves_stack leaves) (leads_along edge taken given leaves) edge.of_row.is.state (moves_stack moves)
+      (locals_stay leaves (leads_along edge taken given leaves) moves c.tells grows c.keeps) c.tells lower c.keeps)
 
   -- and all frames go together
   pub goes_along : {more : Names} {row : RowEdge} (edge : EdgeThere s f.place c.point c.route row) (taken : ℕ) (given : List Source)

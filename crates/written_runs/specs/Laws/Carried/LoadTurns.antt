@@ -156,9 +156,11 @@ module _ (u : Setup) (laws : CarriedLaws u) {measure : ℕ} {one other : Run} (a
         of_kept : KeepsType f.place (place_types point.typed) type (from_place local) → (reference : ℕ) × (one ≡ Ref reference)
         of_kept (from_its_type _ at_place) =
             let of_local : slice_get point.typed.locals local ≡ Some type = sym (got_left point.typed.locals point.typed.stack local low) ∙ at_place in
-            let was = h.tells.uninit_locals local type of_local is_site in
-            (was.0, sym (same_Some value one got)
-            ∙ same_Some value (Ref was.0) (same_Some (Some value) (Some (Ref was.0)) (sym there ∙ was.1)))
+            let was = h.tells.uninit_locals local type of_local is_site in (
+              was.0,
+              sym (same_Some value one got)
+                  ∙ same_Some value (Ref was.0) (same_Some (Some value) (Some (Ref was.0)) (sym there ∙ was.1)),
+            )
   uninit value there (suc number) type source one is_source kept is_site got = absurd (none-some source is_source)
 
   pub load_turn : KeepsTurn u measure one other

@@ -129,14 +129,14 @@ found_meaning : (operations : List Operation) (rows : List MeaningRow) (opcode :
 found_meaning operations [] opcode meaning all is = absurd (none-some meaning is)
 found_meaning operations (row ∷ rows) opcode meaning all is =
     by (row.opcode == opcode) refl (found_meaning operations rows opcode meaning all.1) where
-  by : (same : Bool) → (row.opcode == opcode) ≡ same
-      → (meaning_in rows opcode ≡ Some meaning → row_operands (operation_in operations opcode) ≡ operands_of (Some meaning))
-      → row_operands (operation_in operations opcode) ≡ operands_of (Some meaning)
-  by true here rest =
-      let found : Some row.meaning ≡ Some meaning = rw (here) at is in
-      ap (λ (n : ℕ). row_operands (operation_in operations n)) (sym (eqb-true row.opcode opcode here)) ∙ all.0
-      ∙ ap operands_of found
-  by false apart rest = let found : meaning_in rows opcode ≡ Some meaning = rw (apart) at is in rest found
+      by : (same : Bool) → (row.opcode == opcode) ≡ same
+          → (meaning_in rows opcode ≡ Some meaning → row_operands (operation_in operations opcode) ≡ operands_of (Some meaning))
+          → row_operands (operation_in operations opcode) ≡ operands_of (Some meaning)
+      by true here rest =
+          let found : Some row.meaning ≡ Some meaning = rw (here) at is in
+          ap (λ (n : ℕ). row_operands (operation_in operations n)) (sym (eqb-true row.opcode opcode here)) ∙ all.0
+          ∙ ap operands_of found
+      by false apart rest = let found : meaning_in rows opcode ≡ Some meaning = rw (apart) at is in rest found
 
 pure_rows : AllByRecursion (TakesAsMany pure_operations) pure_meanings
 pure_rows = (refl, (refl, (refl, (refl, (refl, (refl, (refl, (refl, (refl, (refl, (refl, (refl, (refl, (refl, (refl, (refl, (refl, (refl, (refl, (refl, (refl, (refl, (refl, (refl, (refl, (refl, tt))))))))))))))))))))))))))
@@ -170,7 +170,7 @@ data TakesNumbers : List Kind → Type 0 where
   takes_two : (kind other : Kind) → IsNumber kind → IsNumber other → TakesNumbers (kind ∷ other ∷ [])
 
 float_rows : AllByRecursion (λ (o : Operation). TakesNumbers o.takes) float_operations
-float_rows = 
+float_rows =
     (takes_two _ _ tt tt, (takes_two _ _ tt tt, (takes_one _ tt, (takes_one _ tt, (takes_one _ tt, (takes_one _ tt, (takes_one _ tt, (takes_one _ tt, (takes_one _ tt, (takes_one _ tt, (takes_one _ tt, (takes_one _ tt, (takes_one _ tt, (takes_one _ tt, (takes_two _ _ tt tt, (takes_two _ _ tt tt, tt))))))))))))))))
 
 found_operation : (operations : List Operation) (opcode : ℕ) (operation : Operation)
@@ -180,12 +180,12 @@ found_operation : (operations : List Operation) (opcode : ℕ) (operation : Oper
 found_operation [] opcode operation all is = absurd (none-some operation is)
 found_operation (first ∷ operations) opcode operation all is =
     by (list_any (λ o. o == opcode) first.opcodes) refl (found_operation operations opcode operation all.1) where
-  by : (here : Bool) → list_any (λ o. o == opcode) first.opcodes ≡ here
-      → (operation_in operations opcode ≡ Some operation → TakesNumbers operation.takes)
-      → TakesNumbers operation.takes
-  by true here rest =
-      let found : Some first ≡ Some operation = rw (here) at is in subst (λ (o : Operation). TakesNumbers o.takes) (same_Some first operation found) all.0
-  by false apart rest = let found : operation_in operations opcode ≡ Some operation = rw (apart) at is in rest found
+      by : (here : Bool) → list_any (λ o. o == opcode) first.opcodes ≡ here
+          → (operation_in operations opcode ≡ Some operation → TakesNumbers operation.takes)
+          → TakesNumbers operation.takes
+      by true here rest =
+          let found : Some first ≡ Some operation = rw (here) at is in subst (λ (o : Operation). TakesNumbers o.takes) (same_Some first operation found) all.0
+      by false apart rest = let found : operation_in operations opcode ≡ Some operation = rw (apart) at is in rest found
 
 no_reference : (kind : Kind) (reference : ℕ) → IsNumber kind → has_kind kind (Ref reference) ≡ false
 no_reference kinds.Int reference is = refl

@@ -34,6 +34,7 @@ use Rattle.written_runs.specs.Inner.PlannedFrames.{IsReached, scope_in}
 use Rattle.written_runs.specs.Inner.Setup.{Setup}
 use Rattle.written_runs.specs.Laws.Carried.OpenEdges.{OpenEdge, handler_open, jump_open, next_open}
 use Rattle.written_runs.specs.Laws.Carried.Slots.{got_left}
+use Rattle.written_runs.specs.Laws.OneEffect.{one_effect}
 use Rattle.written_runs.specs.Laws.Settling.{SettleLaws, found_edge}
 use Rattle.written_runs.specs.VirtualObjects.{local_slots}
 use Rattle.written_runs.specs.WrittenRuns.{IsReadyMethod}
@@ -160,7 +161,7 @@ module _ (u : Setup) (laws : SettleLaws u) (w : WrittenMethod) (host : MethodAt)
 
     lead : EdgeLeads s ready.plan of_row.edge
     lead =
-        leads_of s ready.plan w.routes at point route number.0 of_row.edge (laws.one_effect w) ready.valid ready.routed reached.is_point reached.is_route
+        leads_of s ready.plan w.routes at point route number.0 of_row.edge (one_effect (scope_in u w)) ready.valid ready.routed reached.is_point reached.is_route
         number.1
 
     by : (target : Option Point) → slice_get w.flat.points row.to ≡ target → EdgeThere s at point route row

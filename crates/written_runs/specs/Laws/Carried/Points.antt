@@ -27,7 +27,8 @@ use Rattle.plan_flow.specs.Written.Blocks.{Block, blocks_of, instruction_block, 
 use Rattle.plan_flow.specs.Written.Finish.{End, Finished, end_items, end_of, finish, is_empty, no_end}
 use Rattle.plan_flow.specs.Written.Routes.{Route}
 use Rattle.plan_flow.specs.Written.Templates.{as_it_is, catches_at as written_catches, is_folded, items_at, jump_targets}
-use Rattle.plan_flow.specs.Written.WrittenCode.{Form, block_items, in_form, jumping_to, opposite_instr, short, target_number, wide, widened, written_catch, written_op, written_point}
+use Rattle.making_code.specs.Opposites.{opposite_instr}
+use Rattle.plan_flow.specs.Written.WrittenCode.{Form, block_items, in_form, jumping_to, short, target_number, wide, widened, written_catch, written_op, written_point}
 use Rattle.plan_flow.specs.Written.WrittenPrograms.{WrittenMethod}
 use Rattle.same_runs.specs.Flats.{flat_catch, flat_code, flat_item, flat_point, flat_points, host_scope, instr_scope, pool_of}
 use Rattle.same_runs.specs.Laws.Numbered.{slice_numbered}

@@ -68,23 +68,25 @@ fit_length (type ∷ types) (slot ∷ slots) = ap suc (fit_length types slots)
 
 pub fit_virtual : (types : List VType) (slots : List Slot) (unit site : ℕ)
     → slice_get (fit_locals types slots) unit ≡ Some (Virt site)
-    → slice_get slots unit ≡ Some (Virt site)
+    → (type : VType) × (slice_get types unit ≡ Some type) × (is_top type ≡ false) × (slice_get slots unit ≡ Some (Virt site))
 fit_virtual [] slots unit site is = absurd (none-some (Virt site) is)
 fit_virtual (type ∷ types) [] zero site is = by (is_top type) refl where
-  by : (top : Bool) → is_top type ≡ top → None ≡ Some (Virt site)
+  by : (top : Bool) → is_top type ≡ top
+      → (one : VType) × (slice_get (type ∷ types) 0 ≡ Some one) × (is_top one ≡ false) × (slice_get [] 0 ≡ Some (Virt site))
   by true told = absurd (apart (same_Some Unusable (Virt site) (sym (rw (told) refl) ∙ is))) where
     apart : Unusable ≡ Virt site → ⊥
     apart same = absurd cc
   by false told = absurd (apart (same_Some Plain (Virt site) (sym (rw (told) refl) ∙ is))) where
     apart : Plain ≡ Virt site → ⊥
     apart same = absurd cc
-fit_virtual (type ∷ types) [] (suc unit) site is = absurd (none-some (Virt site) (fit_virtual types [] unit site is))
+fit_virtual (type ∷ types) [] (suc unit) site is = let rest = fit_virtual types [] unit site is in absurd (none-some (Virt site) rest.3)
 fit_virtual (type ∷ types) (slot ∷ slots) zero site is = by (is_top type) refl where
-  by : (top : Bool) → is_top type ≡ top → Some slot ≡ Some (Virt site)
+  by : (top : Bool) → is_top type ≡ top
+      → (one : VType) × (slice_get (type ∷ types) 0 ≡ Some one) × (is_top one ≡ false) × (Some slot ≡ Some (Virt site))
   by true told = absurd (apart (same_Some Unusable (Virt site) (sym (rw (told) refl) ∙ is))) where
     apart : Unusable ≡ Virt site → ⊥
     apart same = absurd cc
-  by false told = sym (rw (told) refl) ∙ is
+  by false told = (type, refl, told, sym (rw (told) refl) ∙ is)
 fit_virtual (type ∷ types) (slot ∷ slots) (suc unit) site is = fit_virtual types slots unit site is
 
 -- a plain unit behind is one whose type is not Top
@@ -135,6 +137,25 @@ pub record LeavesLocals (s : PlanScope) (at : ℕ) (point : Point) (before : Sta
   pub plain : slots_from s before (row_of_point s at point).change given ≡ map (λ source. Plain) given
   pub objects : edge_objects s before (row_of_point s at point) row.by ≡ before.objects
 
+-- The same of the stack and the objects alone.
+pub record LeavesStack (s : PlanScope) (at : ℕ) (point : Point) (before : State) (row : RowEdge) (taken : ℕ) (given : List Source)
+    : Type 0 where
+  pub enough : taken ≤ length point.typed.stack
+  pub stack : edge_stack (row_of_point s at point) row.by
+      ≡ held_from (length point.typed.locals) (length point.typed.stack - taken) ++ given
+  pub plain : slots_from s before (row_of_point s at point).change given ≡ map (λ source. Plain) given
+  pub objects : edge_objects s before (row_of_point s at point) row.by ≡ before.objects
+
+abbrev pub leaves_stack : {s : PlanScope} {at : ℕ} {point : Point} {before : State} {row : RowEdge} {taken : ℕ} {given : List Source}
+    → LeavesLocals s at point before row taken given
+    → LeavesStack s at point before row taken given
+leaves_stack leaves = record { enough = leaves.enough; stack = leaves.stack; plain = leaves.plain; objects = leaves.objects }
+
+-- what the local units behind an edge come from
+abbrev pub edge_slots : PlanScope → ℕ → Point → State → RowEdge → List Slot
+edge_slots s at point before row =
+    slots_from s before (row_of_point s at point).change (edge_locals (row_of_point s at point) (length point.typed.locals) row.by)
+
 -- the point to which it leads has as many local units and stack entries
 pub record LeadsAlong (s : PlanScope) (point target : Point) (before : State) (row : RowEdge) (taken : ℕ) (given : List Source) : Type 0 where
   pub is_target : slice_get s.flat.points row.to ≡ Some target
@@ -143,7 +164,7 @@ pub record LeadsAlong (s : PlanScope) (point target : Point) (before : State) (r
   pub as_many : length target.typed.stack ≡ length point.typed.stack - taken + length given
 
 module _ {s : PlanScope} {at : ℕ} {point target : Point} {before after : State} {row : RowEdge} {taken : ℕ} {given : List Source}
-    (leaves : LeavesLocals s at point before row taken given) (leads : LeadsAlong s point target before row taken given)
+    (leaves : LeavesStack s at point before row taken given) (leads : LeadsAlong s point target before row taken given)
     (behind : IsStateBehind s point at before row after) where
   abbrev r : PlanRow
   r = row_of_point s at point
@@ -155,7 +176,7 @@ module _ {s : PlanScope} {at : ℕ} {point target : Point} {before after : State
   left_count = length point.typed.stack - taken
 
   abbrev locals_behind : List Slot
-  locals_behind = fit_locals target.typed.locals (map as_read (take local_count before.slots))
+  locals_behind = fit_locals target.typed.locals (edge_slots s at point before row)
 
   abbrev stack_behind : List Slot
   stack_behind = map as_read (take left_count (drop local_count before.slots)) ++ map (λ source. Plain) given
@@ -196,11 +217,7 @@ module _ {s : PlanScope} {at : ℕ} {point target : Point} {before after : State
   whole : after.slots ≡ locals_behind ++ stack_behind
   whole =
       behind.is.same_slots
-      ∙ ap (λ (slots : List Slot). fit_locals (local_types s.flat row.to) slots ++ fit_stack (stack_types s.flat row.to)
-      (slots_from s before r.change (edge_stack r row.by)))
-      (ap (slots_from s before r.change) leaves.locals
-      ∙ held_slots s before r.change 0 local_count (let all = leads.slots in omega (arith, all)))
-      ∙ ap (λ (types : List VType). fit_locals types (map as_read (take local_count before.slots)) ++ fit_stack (stack_types s.flat row.to)
+      ∙ ap (λ (types : List VType). fit_locals types (edge_slots s at point before row) ++ fit_stack (stack_types s.flat row.to)
       (slots_from s before r.change (edge_stack r row.by))) local_types_are
       ∙ ap (λ (types : List VType). locals_behind ++ fit_stack types (slots_from s before r.change (edge_stack r row.by))) stack_types_are
       ∙ ap (λ (slots : List Slot). locals_behind ++ fit_stack target.typed.stack slots) given_stack
@@ -209,9 +226,18 @@ module _ {s : PlanScope} {at : ℕ} {point target : Point} {before after : State
   pub locals_are : local_slots target after ≡ locals_behind
   locals_are =
       ap (take (length target.typed.locals)) whole
-      ∙ take_at locals_behind stack_behind (length target.typed.locals) (fit_length target.typed.locals (map as_read (take local_count before.slots)))
+      ∙ take_at locals_behind stack_behind (length target.typed.locals) (fit_length target.typed.locals (edge_slots s at point before row))
 
   pub stack_are : stack_slots target after ≡ stack_behind
   stack_are =
       ap (drop (length target.typed.locals)) whole
-      ∙ drop_at locals_behind stack_behind (length target.typed.locals) (fit_length target.typed.locals (map as_read (take local_count before.slots)))
+      ∙ drop_at locals_behind stack_behind (length target.typed.locals) (fit_length target.typed.locals (edge_slots s at point before row))
+
+-- where the locals stay they are what they were
+pub held_edge : {s : PlanScope} {at : ℕ} {point target : Point} {before : State} {row : RowEdge} {taken : ℕ} {given : List Source}
+    → LeavesLocals s at point before row taken given
+    → LeadsAlong s point target before row taken given
+    → edge_slots s at point before row ≡ map as_read (take (length point.typed.locals) before.slots)
+held_edge {s = s} {at = at} {point = point} {before = before} leaves leads =
+    ap (slots_from s before (row_of_point s at point).change) leaves.locals
+    ∙ held_slots s before (row_of_point s at point).change 0 (length point.typed.locals) (let all = leads.slots in omega (arith, all))

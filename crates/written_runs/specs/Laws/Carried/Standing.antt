@@ -15,6 +15,7 @@ use Rattle.plan_flow.specs.Written.Routes.{Route}
 use Rattle.plan_flow.specs.Written.WrittenCode.{block_items, written_code, written_items, written_point}
 use Rattle.plan_flow.specs.Written.WrittenPrograms.{WrittenMethod}
 use Rattle.same_runs.specs.Laws.Numbered.{slice_numbered}
+use Rattle.written_runs.specs.Laws.WrittenCodes.{written_code_at}
 use Rattle.written_runs.specs.Inner.PlannedFrames.{AtBlock, IsBlock, IsInstructionOf, IsReached, blocks_in, of_first, of_handler, of_jump, of_next, of_own, scope_in}
 use Rattle.written_runs.specs.Inner.Setup.{Setup, second}
 use Rattle.written_runs.specs.Laws.MadeItems.{items_of_block}

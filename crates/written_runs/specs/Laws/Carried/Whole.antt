@@ -56,6 +56,7 @@ use Rattle.written_runs.specs.Laws.Carried.PlannedEdges.{asks_none, slots_long}
 use Rattle.written_runs.specs.Laws.Carried.Points.{IsNoJump, same_pool}
 use Rattle.written_runs.specs.Laws.Carried.Rows.{reverse_get, virtual_operand}
 use Rattle.written_runs.specs.Laws.Carried.SimpleFits.{FitsHere, OpFits, fits_const, fits_dynamic, fits_get_static, fits_invoke, fits_ldc, fits_ldc2, fits_new, fits_put_static, fits_throw, works_to}
+use Rattle.written_runs.specs.Laws.Carried.SwitchInstrs.{lookup_turn, table_turn}
 use Rattle.written_runs.specs.Laws.Carried.Turns.{not_stuck_here, turned_here}
 use Rattle.written_runs.specs.Laws.Carried.Waiting.{AtCarried}
 use Rattle.written_runs.specs.Laws.Carried.Works.{at_first, at_first_is, has_operands, many_stack, op, own, works_turn}
@@ -63,7 +64,7 @@ use Rattle.written_runs.specs.Laws.Carried.CastFits.{fits_cast}
 use Rattle.written_runs.specs.Laws.Carried.FieldFits.{fits_get_field, fits_put_field}
 use Rattle.written_runs.specs.Laws.Carried.NumberFits.{fits_divide, fits_float_ask, fits_pure}
 use Rattle.written_runs.specs.Laws.Carried.StuckFits.{fits_array_load, fits_array_store, fits_new_multi}
-use Rattle.written_runs.specs.Laws.Carried.Worth.{IsOperation, IsSwitch, IsWorth, means_nothing, straight_on, works_so, worth}
+use Rattle.written_runs.specs.Laws.Carried.Worth.{IsOperation, IsWorth, means_nothing, straight_on, works_so, worth}
 use Rattle.written_runs.specs.Laws.Halfway.{Halfway}
 use Rattle.written_runs.specs.Laws.PlannedTurns.{AtPlanned, PlannedParts, written_at}
 use Rattle.written_runs.specs.Laws.Settling.{SettleLaws}
@@ -263,7 +264,7 @@ module _ (u : Setup) (laws : CarriedLaws u) {measure : ℕ} {one other : Run} (a
 
 -- ---- all
 
--- What is left to show of instructions that are written as they are: a constructor's row, stores into locals, and switches.
+-- What is left to show of instructions that are written as they are: a constructor's row, and stores into locals.
 pub record OpenCarried (u : Setup) : Type 0 where
   pub rows : (w : WrittenMethod) → OpenRows (first u) (scope_in u w)
   pub store : (measure : ℕ) (one other : Run) (a : AtPlanned u measure one other) (class : ℕ) (kind : Kind) (local : ℕ)
@@ -272,10 +273,6 @@ pub record OpenCarried (u : Setup) : Type 0 where
       → KeepsTurn u measure one other
   pub increment : (measure : ℕ) (one other : Run) (a : AtPlanned u measure one other) (class local : ℕ) (by : ℤ)
       → a.settled.point.instr ≡ Of class (Iinc local by)
-      → KeepsTurn u measure one other
-  pub switches : (measure : ℕ) (one other : Run) (a : AtPlanned u measure one other) (class : ℕ) (instr : Instr)
-      → a.settled.point.instr ≡ Of class instr
-      → IsSwitch instr
       → KeepsTurn u measure one other
 
 module _ (u : Setup) (laws : CarriedLaws u) (parts : OpenCarried u) where
@@ -294,8 +291,8 @@ module _ (u : Setup) (laws : CarriedLaws u) (parts : OpenCarried u) where
   as_it_is_turn measure one other a class (If2 opcode to) is none = if_two_turn u laws a class opcode to is none
   as_it_is_turn measure one other a class (IfSame opcode to) is none = if_same_turn u laws a class opcode to is none
   as_it_is_turn measure one other a class (IfNull opcode to) is none = if_null_turn u laws a class opcode to is none
-  as_it_is_turn measure one other a class (Table low default to) is none = parts.switches measure one other a class (Table low default to) is tt
-  as_it_is_turn measure one other a class (Lookup default pairs) is none = parts.switches measure one other a class (Lookup default pairs) is tt
+  as_it_is_turn measure one other a class (Table low default to) is none = table_turn u laws a class low default to is
+  as_it_is_turn measure one other a class (Lookup default pairs) is none = lookup_turn u laws a class default pairs is
   as_it_is_turn measure one other a class (Return kind) is none = return_turn u laws a class kind is
   as_it_is_turn measure one other a class (Const imm) is none = operation_turn u laws a class (Const imm) is none tt (parts.rows a.in_planned.one)
   as_it_is_turn measure one other a class (Ldc index) is none = operation_turn u laws a class (Ldc index) is none tt (parts.rows a.in_planned.one)

@@ -63,12 +63,6 @@ IsOperation (Lookup other pairs) = ⊥
 IsOperation (Return kind) = ⊥
 IsOperation instr = Unit {0}
 
--- a jump by a key
-abbrev pub IsSwitch : Instr → Type 0
-IsSwitch (Table low other to) = Unit {0}
-IsSwitch (Lookup other pairs) = Unit {0}
-IsSwitch instr = ⊥
-
 -- its code is an operation on operands, or means nothing
 pub data IsWorth (op : Op) : Type 0 where
   works_so : WorksOnOperands op → IsWorth op

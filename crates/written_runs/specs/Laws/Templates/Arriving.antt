@@ -21,6 +21,7 @@ use Rattle.virtual_state.specs.Without.{without}
 use Rattle.written_runs.specs.Inner.PlannedFrames.{IsBlock, IsReached, IsTold, blocks_in, of_first, of_next, scope_in}
 use Rattle.written_runs.specs.Inner.Setup.{Setup}
 use Rattle.written_runs.specs.Laws.NextEdges.{next_follows}
+use Rattle.written_runs.specs.Laws.OneEffect.{one_effect}
 use Rattle.written_runs.specs.Laws.Settling.{Onwards, SettleLaws, found_edge, onwards}
 use Rattle.written_runs.specs.Laws.Templates.Stacks.{drop_at}
 use Rattle.written_runs.specs.WrittenRuns.{IsReadyMethod}
@@ -85,7 +86,7 @@ module _ (u : Setup) (laws : SettleLaws u) where
 
     lead : EdgeLeads (scope_in u w) ready.plan edge
     lead =
-        leads_of (scope_in u w) ready.plan w.routes at point route number.0 edge (laws.one_effect w) ready.valid ready.routed
+        leads_of (scope_in u w) ready.plan w.routes at point route number.0 edge (one_effect (scope_in u w)) ready.valid ready.routed
         reached.is_point reached.is_route number.1
 
     in_plan : (found : Option (Option PlannedPoint)) → slice_get ready.plan edge.to ≡ found → edge.to < length ready.plan

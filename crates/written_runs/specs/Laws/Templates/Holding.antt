@@ -39,7 +39,7 @@ use Rattle.written_runs.specs.Laws.Making.Places.{AreOther, FieldBounds, FitsUni
 use Rattle.written_runs.specs.Laws.PlannedTurns.{AtPlanned}
 use Rattle.written_runs.specs.Laws.Templates.Fields.{FieldTold, field_told}
 use Rattle.written_runs.specs.Laws.Templates.Items.{all_moved}
-use Rattle.written_runs.specs.Laws.Templates.Known.{TemplateLaws, keeps, ready, reached, stands, state_at, tells, written}
+use Rattle.written_runs.specs.Laws.Templates.Known.{TemplateLaws, keeps, ready, reached, room_here, stands, state_at, tells, written}
 use Rattle.written_runs.specs.Laws.Templates.Operands.{fields_of}
 use Rattle.written_runs.specs.Laws.TypedKept.{HasPlaces, local_type, places_of}
 use Rattle.written_runs.specs.VirtualObjects.{HasVirtual, TellFields, TellsField, Virtual, local_slots, tells_plain}
@@ -74,7 +74,7 @@ module _ (u : Setup) (laws : TemplateLaws u) {measure : ℕ} {one other : Run} (
             let two : width_of kept.also ≡ 2 = rw (same_wide kept.same ∙ is_wide) refl in
             let behind =
             laws.settle.types.wide one.world a.f a.ones a.in_planned.one a.settled.point a.t.along.typed (stands u laws a) (written u laws a)
-            (reached u laws a).is_point unit typed_here.0 value typed_here.1 typed_here.2 there is_wide in
+            (reached u laws a).is_point (room_here u laws a) unit typed_here.0 value typed_here.1 typed_here.2 there is_wide in
             let low = slice_get_within a.settled.point.typed.locals (suc unit) Top behind in
             let many = width_here in
             omega (arith, two, low, many)

@@ -46,6 +46,7 @@ use Rattle.written_runs.specs.Laws.Simulation.{KeepsTurn}
 use Rattle.written_runs.specs.Laws.Templates.Items.{IsStraight, all_moved, op_of}
 use Rattle.written_runs.specs.Laws.Templates.Known.{TemplateLaws, entries, first_op, flat_number, keeps, many_stack, many_both, not_stuck, reached, ready, tells}
 use Rattle.written_runs.specs.Laws.Templates.Moving.{MovesOver, locals_stay}
+use Rattle.written_runs.specs.Laws.Templates.Quiets.{IsQuietly, goes_quietly}
 use Rattle.written_runs.specs.Laws.Templates.Turns.{FirstTurn, goes_next}
 use Rattle.written_runs.specs.VirtualObjects.{HasVirtual, RefersTo, TellsObject, Virtual, local_slots}
 
@@ -88,7 +89,66 @@ module _ (u : Setup) (laws : TemplateLaws u) {measure : ℕ} {one other : Run} (
   here_not_stuck is =
       subst (λ (op : Op). (op_step (first u) (counted one) a.f a.ones op).halt ≡ stuck → ⊥) (first_is is) (not_stuck u laws a)
 
-  -- What it does in both.
+  -- What it does in both, but for how the second comes to where it is then.
+  pub record InstrEdge : Type 0 where
+    pub is : a.settled.point.instr ≡ Of class instr
+    -- its row
+    pub gives : List Source
+    pub row_locals : row_here.locals ≡ held_locals a.settled.point.typed
+    pub takes : ℕ
+    pub row_stack : row_here.stack
+        ≡ held_from (length a.settled.point.typed.locals) (length a.settled.point.typed.stack - takes) ++ gives
+    pub opens : is_open (state_written a.settled.route) row_here.next ≡ true
+    pub falls : falls_through instr ≡ true
+    pub leaves : leaves_to a.settled.point a.settled.route ≡ None
+    -- the first
+    pub t : FirstTurn u laws a
+    pub top : List Value
+    pub below : List Value
+    pub is_stack : a.f.stack ≡ top ++ below
+    pub many_top : length top ≡ takes
+    pub given : List Value
+    pub many_given : length given ≡ length gives
+    pub later_is : t.later ≡ next_with a.f (reverse given ++ below)
+    pub refers : (site : ℕ) (value : Value)
+        → RefersTo a.t.along.virtuals (length a.ones) site value
+        → RefersTo t.virtuals (length a.ones) site value
+    pub given_refers : (place site : ℕ) (value : Value)
+        → slice_get (slots_from (scope_in u a.in_planned.one) (state_written a.settled.route) row_here.change gives) place ≡ Some (Virt site)
+        → slice_get given place ≡ Some value
+        → RefersTo t.virtuals (length a.ones) site value
+    pub given_uninit : (place : ℕ) (source : Source) (type : VType) (value : Value)
+        → slice_get gives place ≡ Some source
+        → slice_get given place ≡ Some value
+        → KeepsType a.f.place (place_types a.settled.point.typed) type source
+        → IsTrue (is_site_object a.in_planned.one.flat type)
+        → (reference : ℕ) × (value ≡ Ref reference)
+    pub objects : (site : ℕ) (told : VObject)
+        → object_of (changed (scope_in u a.in_planned.one) (state_written a.settled.route) row_here.change
+        ++ (state_written a.settled.route).objects) site ≡ Some told
+        → TellsObject (first u) (scope_in u a.in_planned.one) t.virtuals (length a.ones) told
+    -- the second
+    pub middle : MethodState
+    pub below_also : List Value
+    pub given_also : List Value
+    pub then_also : middle.stack ≡ reverse given_also ++ below_also
+    pub keep_below : KeepStack a.t.along.names (take (length below) (entries u laws a)) (reverse below) (reverse below_also)
+    pub keep_given : KeepStack a.t.along.names
+        (slots_from (scope_in u a.in_planned.one) (state_written a.settled.route) row_here.change gives) given given_also
+    pub own_units : (unit : ℕ) (value : Value)
+        → slice_get (local_slots a.settled.point (state_written a.settled.route)) unit ≡ Some Plain
+        → slice_get a.f.locals unit ≡ Some (Some value)
+        → KeptIn a.t.along.names middle unit value
+    pub fields : (site number : ℕ) (told : VObject) (virtual : Virtual) (value : Value)
+        → object_of (changed (scope_in u a.in_planned.one) (state_written a.settled.route) row_here.change
+        ++ (state_written a.settled.route).objects) site ≡ Some told
+        → HasVirtual t.virtuals (length a.ones) site virtual
+        → slice_get told.fields number ≡ Some Plain
+        → slice_get virtual.object.values number ≡ Some value
+        → KeptIn a.t.along.names middle (unit_number a.in_planned.one.flat (field_unit site number)) value
+    pub room : written_units a.in_planned.one.flat ≤ length middle.locals
+
+  -- The same with the moves by which the second comes there.
   pub record InstrNext : Type 0 where
     pub is : a.settled.point.instr ≡ Of class instr
     pub instrs : List WInstr
@@ -154,7 +214,7 @@ module _ (u : Setup) (laws : TemplateLaws u) {measure : ℕ} {one other : Run} (
         → KeptIn a.t.along.names middle (unit_number a.in_planned.one.flat (field_unit site number)) value
     pub room : written_units a.in_planned.one.flat ≤ length middle.locals
 
-  module _ (n : InstrNext) where
+  module _ (n : InstrEdge) where
     row_is_here : row_of_point (scope_in u a.in_planned.one) a.f.place a.settled.point ≡ row_here
     row_is_here = row_is n.is
 
@@ -174,7 +234,7 @@ module _ (u : Setup) (laws : TemplateLaws u) {measure : ℕ} {one other : Run} (
         let top = n.many_top in
         omega (arith, all, top)
 
-    over : (next : Point)
+    pub edge_over : (next : Point)
         → slice_get a.in_planned.one.flat.points (a.f.place + 1) ≡ Some next
         → length n.t.later.stack ≡ length next.typed.stack
         → MovesOver u laws a
@@ -183,7 +243,7 @@ module _ (u : Setup) (laws : TemplateLaws u) {measure : ℕ} {one other : Run} (
           to = a.f.place + 1;
           guard = (row_of_point (scope_in u a.in_planned.one) a.f.place a.settled.point).next;
         }) next n.t.virtuals n.gives n.t.later n.middle
-    over next is_next many = record {
+    edge_over next is_next many = record {
       number = 0;
       is_edge = next_edge_there (scope_in u a.in_planned.one) a.f.place a.settled.point (ap falls_on n.is ∙ n.falls);
       is_next = is_next;
@@ -229,19 +289,89 @@ module _ (u : Setup) (laws : TemplateLaws u) {measure : ℕ} {one other : Run} (
       room = n.room;
     }
 
-    pub instr_goes_next : KeepsTurn u measure one other
-    instr_goes_next =
+    falls_here : falls_on a.settled.point.instr ≡ true
+    falls_here = ap falls_on n.is ∙ n.falls
+
+    opens_here : is_open (state_written a.settled.route) (row_of_point (scope_in u a.in_planned.one) a.f.place a.settled.point).next ≡ true
+    opens_here = ap (λ (r : PlanRow). is_open (state_written a.settled.route) r.next) row_is_here ∙ n.opens
+
+    -- by moves
+    pub edge_goes_next : (instrs : List WInstr) (told : written_at a class instr ≡ Some instrs) (own : AreOwn instrs)
+        → ((there : AtOwn u a.in_planned.one a.f.place a.settled.point a.settled.route a.g)
+        → AllByRecursion IsStraight (map (op_of there (reached u laws a) instrs (items_are instrs n.is told) own) instrs))
+        → ((there : AtOwn u a.in_planned.one a.f.place a.settled.point a.settled.route a.g)
+        → all_moved (map (op_of there (reached u laws a) instrs (items_are instrs n.is told) own) instrs) a.g ≡ Some n.middle)
+        → KeepsTurn u measure one other
+    edge_goes_next instrs told own straight moved =
         goes_next u laws a n.t (record {
-          falls = ap falls_on n.is ∙ n.falls;
-          opens = ap (λ (r : PlanRow). is_open (state_written a.settled.route) r.next) row_is_here ∙ n.opens;
+          falls = falls_here;
+          opens = opens_here;
           place = ap (λ (m : MethodState). m.place) n.later_is;
           leaves = n.leaves;
-          instrs = n.instrs;
-          items = items_are n.instrs n.is n.told;
-          own = n.own;
+          instrs = instrs;
+          items = items_are instrs n.is told;
+          own = own;
           middle = n.middle;
-          straight = n.straight;
-          moved = n.moved;
+          straight = straight;
+          moved = moved;
           gives = n.gives;
-          over = over;
+          over = edge_over;
         })
+
+    -- by quiet turns, and moves behind them
+    pub edge_goes_quietly : (done rest : List WInstr) (told : written_at a class instr ≡ Some (done ++ rest)) (own : AreOwn (done ++ rest))
+        → IsQuietly u laws a (done ++ rest) (items_are (done ++ rest) n.is told) own done rest n.middle
+        → KeepsTurn u measure one other
+    edge_goes_quietly done rest told own quietly =
+        goes_quietly u laws a n.t (record {
+          falls = falls_here;
+          opens = opens_here;
+          place = ap (λ (m : MethodState). m.place) n.later_is;
+          leaves = n.leaves;
+          instrs = done ++ rest;
+          items = items_are (done ++ rest) n.is told;
+          own = own;
+          middle = n.middle;
+          done = done;
+          rest = rest;
+          parts = refl;
+          quietly = quietly;
+          gives = n.gives;
+          over = edge_over;
+        })
+
+  abbrev edge_of : InstrNext → InstrEdge
+  edge_of n = record {
+    is = n.is;
+    gives = n.gives;
+    row_locals = n.row_locals;
+    takes = n.takes;
+    row_stack = n.row_stack;
+    opens = n.opens;
+    falls = n.falls;
+    leaves = n.leaves;
+    t = n.t;
+    top = n.top;
+    below = n.below;
+    is_stack = n.is_stack;
+    many_top = n.many_top;
+    given = n.given;
+    many_given = n.many_given;
+    later_is = n.later_is;
+    refers = n.refers;
+    given_refers = n.given_refers;
+    given_uninit = n.given_uninit;
+    objects = n.objects;
+    middle = n.middle;
+    below_also = n.below_also;
+    given_also = n.given_also;
+    then_also = n.then_also;
+    keep_below = n.keep_below;
+    keep_given = n.keep_given;
+    own_units = n.own_units;
+    fields = n.fields;
+    room = n.room;
+  }
+
+  pub instr_goes_next : InstrNext → KeepsTurn u measure one other
+  instr_goes_next n = edge_goes_next (edge_of n) n.instrs n.told n.own n.straight n.moved

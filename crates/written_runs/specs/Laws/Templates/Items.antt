@@ -1,8 +1,8 @@
 -- The items that are written for an instruction: moves and pushes one after the other, up to the block behind.
 use Rattle.std.proofs.Common.{◌≡◌, ◌+◌, ◌<◌, ◌++◌, ℕ, zero, suc, Bool, true, false, List, [], ◌∷◌, drop, length, map, slice_get, Some, None, Option, option_and_then, option_map, if◌then◌else◌, refl, sym, ap, subst, ◌∙◌, arith}
 use Rattle.std.specs.List.{AllByRecursion}
-use Rattle.std.proofs.lemmas.List.{append-nil, length-append, map-append}
-use Rattle.std.proofs.lemmas.Option.{none-some, same_Some, slice_get-map}
+use Rattle.std.proofs.lemmas.List.{append-nil, append_assoc, length-append, map-append}
+use Rattle.std.proofs.lemmas.Option.{none-some, same_Some, slice_get-map, slice_get_within}
 use Rattle.class_model.specs.declared.descriptor.Kind.{Kind}
 use Rattle.class_model.specs.declared.instr.Instr.TheVariants.{Nop}
 use Rattle.flow_code.specs.FlatCode.{FlatCode}
@@ -28,6 +28,7 @@ use Rattle.same_runs.specs.QuietMoves.{kept, moved_at, moved_by, moves, popped, 
 use Rattle.written_runs.specs.Inner.PlannedFrames.{IsReached, blocks_in, scope_in}
 use Rattle.written_runs.specs.Inner.Setup.{Setup, second}
 use Rattle.written_runs.specs.Laws.Carried.Standing.{AtOwn, item_there, own_finished}
+use Rattle.written_runs.specs.Laws.Templates.Stacks.{get_left, get_right}
 use Rattle.written_runs.specs.Laws.MadeItems.{AreOwn, length_made, made_in_form}
 
 -- ---- operations one after the other
@@ -266,3 +267,103 @@ module _ {u : Setup} {w : WrittenMethod} {at : ℕ} {point : Point} {route : Rou
         (holds_of_both IsStraight (map op_of instrs) (no_operation ∷ []) straight (nop_is_straight, tt)))
         (ap (λ (ops : List Op). all_moved ops g) (map-append op_of instrs (plain Nop ∷ []))
         ∙ all_moved_then (map op_of instrs) (no_operation ∷ []) g middle (next_with middle middle.stack) moved refl) refl refl
+
+  many_items : (list : List WInstr) → length (map item list) ≡ length list
+  many_items [] = refl
+  many_items (first ∷ list) = ap suc (many_items list)
+
+  -- operations that stand behind others among the items
+  ops_at : (done all : List WInstr) (behind : List WItem) (place : ℕ)
+      → map item done ++ (map item all ++ behind) ≡ map item instrs ++ end_items end
+      → place ≡ g.place + length done
+      → OpsThere code place (map op_of all)
+  ops_at done all behind place same here = record {
+    each = λ more op is. by more op (slice_get all more) refl (sym (slice_get-map op_of all more) ∙ is);
+  } where
+    by : (more : ℕ) (op : Op) (instr : Option WInstr)
+        → slice_get all more ≡ instr
+        → option_map op_of (slice_get all more) ≡ Some op
+        → (found : RunPoint) × (slice_get code.points (place + more) ≡ Some found) × (found.op ≡ op)
+    by more op None none is = absurd (none-some op (sym (ap (option_map op_of) none) ∙ is))
+    by more op (Some instr) some is = (
+      written_point (scope_in u w) there.host u.constructor w.form (blocks_in u w) (0 + (g.place + (length done + more))) (item instr),
+      ap (slice_get code.points) at_place
+          ∙ sym (ap (option_and_then (λ (c : Code). slice_get c.points (g.place + (length done + more)))) there.is_code)
+          ∙ item_there there reached (length done + more) (item instr)
+          (ap (λ (found : List WItem). slice_get found (length done + more)) (whole ∙ sym same)
+          ∙ ap (λ (n : ℕ). slice_get (map item done ++ (map item all ++ behind)) (n + more)) (sym (many_items done))
+          ∙ get_right (map item done) (map item all ++ behind) more
+          ∙ get_left (map item all) behind more
+          (let many = many_items all in let low = slice_get_within all more instr some in omega (arith, many, low))
+          ∙ slice_get-map item all more ∙ ap (option_map item) some),
+      same_Some (op_of instr) op (sym (ap (option_map op_of) some) ∙ is),
+    ) where
+      at_place : place + more ≡ g.place + (length done + more)
+      at_place = let h = here in omega (arith, h)
+
+  pub done_there : (done rest : List WInstr) → instrs ≡ done ++ rest → OpsThere code g.place (map op_of done)
+  done_there done rest parts =
+      ops_at [] done (map item rest ++ end_items end) g.place
+      (sym (append_assoc (map item done) (map item rest) (end_items end))
+      ∙ ap (λ (all : List WItem). all ++ end_items end) (sym (map-append item done rest) ∙ ap (map item) (sym parts))) (omega arith)
+
+  -- the same of items behind others, from where those have led
+  pub own_items_behind : leaves_to point route ≡ None
+      → (done rest : List WInstr)
+      → instrs ≡ done ++ rest
+      → (before middle : MethodState)
+      → before.place ≡ g.place + length done
+      → AllByRecursion IsStraight (map op_of rest)
+      → all_moved (map op_of rest) before ≡ Some middle
+      → OwnMoves u w at route code before middle
+  own_items_behind leaves done rest parts before middle begins straight moved = by end refl where
+    behind : (last : MethodState) (all : List WInstr)
+        → map item done ++ (map item all ++ []) ≡ map item instrs ++ end_items end
+        → length done + length all ≡ length instrs + length (end_items end)
+        → AllByRecursion IsStraight (map op_of all)
+        → all_moved (map op_of all) before ≡ Some last
+        → last.locals ≡ middle.locals
+        → last.stack ≡ middle.stack
+        → OwnMoves u w at route code before middle
+    behind last all same many all_straight all_are locals stack =
+        let moves_there = moves_all code (map op_of all) before last (ops_at done all [] before.place same begins) all_straight all_are in
+        let in_method = moves_in_method (second u) code (length (map op_of all)) before last moves_there.0 in
+        let last_place = moves_there.1 in
+        let many_all = many_ops all in
+        let next = next_place in
+        record {
+          count = length (map op_of all);
+          after = last;
+          moved = moves_there.0;
+          place = omega (arith, last_place, many_all, many, begins, next);
+          locals = locals;
+          stack = stack;
+          method = in_method.0;
+          held = in_method.1;
+        }
+
+    parts_are : map item done ++ map item rest ≡ map item instrs
+    parts_are = sym (map-append item done rest) ∙ ap (map item) (sym parts)
+
+    by : (found : End) → end ≡ found → OwnMoves u w at route code before middle
+    by no_end is =
+        behind middle rest
+        (ap (λ (all : List WItem). map item done ++ all) (append-nil (map item rest)) ∙ parts_are
+        ∙ sym (append-nil (map item instrs)) ∙ ap (λ (e : End). map item instrs ++ end_items e) (sym is))
+        (let none = ap (λ (e : End). length (end_items e)) is in let all = ap length parts ∙ length-append done rest in omega (arith, none, all))
+        straight moved refl refl
+    by (goto_end to) is = absurd (never_goto w.flat (instruction_block (scope_in u w) at point route) _ leaves to is)
+    by nop_end is =
+        behind (next_with middle middle.stack) (rest ++ plain Nop ∷ [])
+        (ap (λ (all : List WItem). map item done ++ all) (append-nil (map item (rest ++ plain Nop ∷ [])) ∙ map-append item rest (plain Nop ∷ []))
+        ∙ sym (append_assoc (map item done) (map item rest) (item (plain Nop) ∷ []))
+        ∙ ap (λ (all : List WItem). all ++ item (plain Nop) ∷ []) parts_are
+        ∙ ap (λ (e : End). map item instrs ++ end_items e) (sym is))
+        (let all = ap length parts ∙ length-append done rest in
+        let more = length-append rest (plain Nop ∷ []) in
+        let ends = ap (λ (e : End). length (end_items e)) is in
+        omega (arith, all, more, ends))
+        (subst (AllByRecursion IsStraight) (sym (map-append op_of rest (plain Nop ∷ [])))
+        (holds_of_both IsStraight (map op_of rest) (no_operation ∷ []) straight (nop_is_straight, tt)))
+        (ap (λ (ops : List Op). all_moved ops before) (map-append op_of rest (plain Nop ∷ []))
+        ∙ all_moved_then (map op_of rest) (no_operation ∷ []) before middle (next_with middle middle.stack) moved refl) refl refl

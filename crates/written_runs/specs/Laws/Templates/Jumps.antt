@@ -41,6 +41,7 @@ use Rattle.virtual_state.specs.Laws.Removals.{without_none}
 use Rattle.virtual_state.specs.Sites.{has}
 use Rattle.virtual_state.specs.States.{State}
 use Rattle.virtual_state.specs.Without.{without}
+use Rattle.written_runs.specs.Laws.WrittenCodes.{written_code_at}
 use Rattle.written_runs.specs.Inner.MadeObjects.{CanBeKept, StandAt}
 use Rattle.written_runs.specs.Inner.PlannedFrames.{IsBlock, blocks_in, of_first, scope_in}
 use Rattle.written_runs.specs.Inner.Setup.{Setup, first, second}
@@ -273,7 +274,7 @@ module _ (u : Setup) (laws : TemplateLaws u) {measure : ℕ} {one other : Run} (
               (written_then u laws a t takes) here_point)
               (laws.settle.types.kinds (turn (first u) one).world t.later a.ones w (target u laws a t takes).0 h.typed h.stands
               (written_then u laws a t takes) here_point);
-        }) (can_be_kept laws.settle.is_setup laws.settle.types h here_point on_to.can_edge.places)
+        }) (can_be_kept laws.settle.is_setup laws.settle.types h here_point on_to.can_edge.places on_to.can_edge.room)
 
     -- ---- the end
 

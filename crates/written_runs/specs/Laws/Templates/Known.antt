@@ -21,7 +21,12 @@ use Rattle.machine_values.specs.declared.frame.RunFrame.TheVariants.{Beginning, 
 use Rattle.machine_values.specs.declared.value.Value.{Value}
 use Rattle.class_tree.specs.Headers.{Name, headers_of}
 use Rattle.class_tree.specs.Layouts.{instance_fields}
-use Rattle.class_model.specs.Descriptors.{kind_of}
+use Rattle.class_model.specs.Descriptors.{kind_of, parameters_of, type_of}
+use Rattle.class_model.specs.Members.{FINAL}
+use Rattle.class_model.specs.Pool.{constant_at}
+use Rattle.class_model.specs.declared.instr.Instr.TheVariants.{Invoke, PutField}
+use Rattle.member_link.specs.Machine.CallSteps.{is_object_init}
+use Rattle.member_link.specs.Signatures.{reference_of}
 use Rattle.class_model.specs.declared.descriptor.FieldType.{FieldType}
 use Rattle.flow_code.specs.declared.point.Site.{Site}
 use Rattle.machine_values.specs.Values.{blank_of_kind, blank_values}
@@ -31,7 +36,7 @@ use Rattle.member_link.specs.Machine.Layouts.{slot_number, slot_number_in}
 use Rattle.member_link.specs.References.{Reference}
 use Rattle.member_link.specs.Machine.Codes.{CodePoint, instr_op, item_op, number_at, run_point}
 use Rattle.member_link.specs.Machine.Ops.{Op}
-use Rattle.member_link.specs.Machine.Programs.{Code, Point as RunPoint, Program, code_at, folder_number, headers_in, point_at}
+use Rattle.member_link.specs.Machine.Programs.{Code, Point as RunPoint, Program, code_at, field_of, folder_number, has_flag, headers_in, point_at}
 use Rattle.member_link.specs.Machine.Runs.{Run, turn}
 use Rattle.member_link.specs.Machine.Stepping.{frames_step, is_library_turn, op_step, point_step, step}
 use Rattle.member_link.specs.Machine.Worlds.{World, going, stuck}
@@ -67,6 +72,8 @@ use Rattle.written_runs.specs.Inner.Setup.{Setup, first}
 use Rattle.written_runs.specs.Laws.PlannedTurns.{AtPlanned}
 use Rattle.written_runs.specs.Laws.Settling.{SettleLaws}
 use Rattle.written_runs.specs.Laws.Templates.Stacks.{KeptParts, as_read, drop_all, drop_at, get_dropped, get_in_take, get_left, get_taken, keep_split, length_dropped, length_taken, read_slot, take_all}
+use Rattle.written_runs.specs.Laws.WideFlats.{room_reached}
+use Rattle.written_runs.specs.Laws.WideLocals.{HasWideRoom}
 use Rattle.written_runs.specs.VirtualObjects.{RefersTo, Tells, Virtual, local_slots, stack_slots}
 use Rattle.written_runs.specs.WrittenRuns.{IsReadyMethod}
 
@@ -107,6 +114,29 @@ pub record TemplateLaws (u : Setup) : Type 0 where
       → u.written at ≡ Some w
       → slice_get w.flat.sites number ≡ Some site
       → (class : ℕ) × (folder_number (first u) site.class ≡ Some class) × IsInert (first u) class
+  -- a field of the folder that flat code stores into is not final
+  pub not_final : (at : MethodAt) (w : WrittenMethod) (place : ℕ) (point : Point) (class index : ℕ) (r field : Reference) (number : ℕ)
+      → u.written at ≡ Some w
+      → slice_get w.flat.points place ≡ Some point
+      → point.instr ≡ Of class (PutField index)
+      → reference_of (pool_of u.classes class) (constant_at (pool_of u.classes class) index) ≡ Some r
+      → u.links.field r ≡ Some field
+      → folder_number (first u) field.class ≡ Some number
+      → has_flag (field_of (first u) field) FINAL ≡ false
+  -- a site's fields are of the types of those of its class
+  pub field_types_are : (at : MethodAt) (w : WrittenMethod) (number : ℕ) (site : Site) (field : Reference) (place : ℕ)
+      → u.written at ≡ Some w
+      → slice_get w.flat.sites number ≡ Some site
+      → slot_number_in (headers_of u.classes) site.class field ≡ Some place
+      → slice_get site.fields place ≡ Some (type_of field.desc)
+  -- a linked call of the instance initialiser of java/lang/Object hands over its object alone
+  pub object_inits : (at : MethodAt) (w : WrittenMethod) (place : ℕ) (point : Point) (class opcode index count : ℕ) (r : Reference)
+      → u.written at ≡ Some w
+      → slice_get w.flat.points place ≡ Some point
+      → point.instr ≡ Of class (Invoke opcode index count)
+      → reference_of (pool_of u.classes class) (constant_at (pool_of u.classes class) index) ≡ Some r
+      → is_object_init r ≡ true
+      → parameters_of r.desc ≡ []
   -- an object begins with zero or null in each field of its class
   pub blanks : (class : Name)
       → blank_values (instance_fields (headers_in (first u)) class)
@@ -264,6 +294,11 @@ module _ (u : Setup) (laws : TemplateLaws u) {measure : ℕ} {one other : Run} (
 
   pub state_at : IsStateAt s a.f.place route.state
   state_at = subst (IsStateAt s a.f.place) (sym of_plan.is.state) planned_here.is_planned.state
+
+  -- no long or double is typed in the last local unit
+  pub room_here : HasWideRoom point.typed.locals
+  room_here =
+      room_reached s ready.plan ready.valid u.classes ready.scope ready.code.typed a.f.place point of_plan.point of_plan.reached reached.is_point
 
   pub is_state : IsState before
   is_state = without_is_state route.state (has route.made) state_at.is_state closed where

@@ -154,14 +154,14 @@ module _ (u : Setup) (laws : TemplateLaws u) {measure : ℕ} {one other : Run} (
   unnamed site value refers = (stays_there u laws a refers.has.number refers.virtual refers.has.is_there).unnamed
 
   -- the second's stack where one of both is plain
-  record OnePlain (value : Value) (below : List Value) : Type 0 where
+  pub record OnePlain (value : Value) (below : List Value) : Type 0 where
     pub also : Value
     pub rest : List Value
     pub same : SameValue a.t.along.names value also
     pub stack : a.g.stack ≡ also ∷ rest
     pub keep : KeepStack a.t.along.names (take (length below) (entries u laws a)) (reverse below) (reverse rest)
 
-  one_plain : (value : Value) (below first second : List Value)
+  pub one_plain : (value : Value) (below first second : List Value)
       → reverse a.g.stack ≡ first ++ second
       → KeepStack a.t.along.names (take (length below) (entries u laws a)) (reverse below) first
       → KeepStack a.t.along.names (Plain ∷ []) (value ∷ []) second

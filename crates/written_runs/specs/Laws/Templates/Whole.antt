@@ -12,6 +12,7 @@ use Rattle.written_runs.specs.Laws.Simulation.{KeepsTurn}
 use Rattle.written_runs.specs.Laws.Templates.Classes.{cast_turns, instance_turns}
 use Rattle.written_runs.specs.Laws.Templates.Gets.{get_turns}
 use Rattle.written_runs.specs.Laws.Templates.Gotos.{goto_turns, null_turns}
+use Rattle.written_runs.specs.Laws.Templates.Inits.{init_turns}
 use Rattle.written_runs.specs.Laws.Templates.Known.{TemplateLaws}
 use Rattle.written_runs.specs.Laws.Templates.Loads.{load_turns}
 use Rattle.written_runs.specs.Laws.Templates.Monitors.{enter_turns, leave_turns}
@@ -24,13 +25,10 @@ abbrev pub TurnsAt : (u : Setup) (measure : ℕ) (one other : Run) → AtPlanned
 TurnsAt u measure one other a class instr =
     (instrs : List WInstr) → a.settled.point.instr ≡ Of class instr → written_at a class instr ≡ Some instrs → KeepsTurn u measure one other
 
--- The instructions that are left to show: stores into fields of virtual objects; calls of the constructor of java/lang/Object for a virtual object;
--- pop, dup, swap and the like.
+-- The instructions that are left to show: stores into fields of virtual objects; pop, dup, swap and the like.
 pub record TemplateParts (u : Setup) : Type 0 where
   pub puts : (measure : ℕ) (one other : Run) (a : AtPlanned u measure one other) (class index : ℕ)
       → TurnsAt u measure one other a class (PutField index)
-  pub calls : (measure : ℕ) (one other : Run) (a : AtPlanned u measure one other) (class opcode index count : ℕ)
-      → TurnsAt u measure one other a class (Invoke opcode index count)
   pub shuffles : (measure : ℕ) (one other : Run) (a : AtPlanned u measure one other) (class opcode : ℕ)
       → TurnsAt u measure one other a class (Shuffle opcode)
 
@@ -50,6 +48,6 @@ template_turns u laws parts measure one other a class (InstanceOf index) instrs 
 template_turns u laws parts measure one other a class (Goto to) instrs is told = goto_turns u laws a class to is instrs told
 template_turns u laws parts measure one other a class (PutField index) instrs is told = parts.puts measure one other a class index instrs is told
 template_turns u laws parts measure one other a class (Invoke opcode index count) instrs is told =
-    parts.calls measure one other a class opcode index count instrs is told
+    init_turns u laws a class opcode index count is instrs told
 template_turns u laws parts measure one other a class (Shuffle opcode) instrs is told = parts.shuffles measure one other a class opcode instrs is told
 template_turns u laws parts measure one other a class instr instrs is told = absurd (none-some instrs told)

@@ -1,0 +1,10 @@
+use Rattle.std.proofs.Common.{sym, ◌∙◌}
+use Rattle.pea_top.specs.Words.{steps_option}
+use Rattle.pea_top.proofs.WordGrammar.{makes_none, no_library, no_value}
+use Rattle.pea_top.proofs.words.Arguments.verify.Goals as goal
+
+pub returns-in_err-library-clause-none : goal.returns-in_err-library-clause-none
+returns-in_err-library-clause-none c = rw c.from_residual.ensures (makes_none c.args.self _ (no_library c.args.self _ _ _ c.in_err-library.was))
+
+pub returns-then-is_some-clause-none : goal.returns-then-is_some-clause-none
+returns-then-is_some-clause-none c = makes_none c.args.self _ (λ makes. no_value c.args.self.steps (sym c.is_some.ensures ∙ c.if-is_some.true) (makes.values_are steps_option))

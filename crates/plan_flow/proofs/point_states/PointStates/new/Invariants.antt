@@ -1,5 +1,0 @@
-use Rattle.plan_flow.proofs.PointLists.{AreNone}
-use Rattle.plan_flow.proofs.point_states.PointStates.new.Given as goal
-
-abbrev pub invariant-loop-at : goal.invariant-loop-at
-invariant-loop-at l = AreNone l.states.items l._at l.count

@@ -1,0 +1,4 @@
+pub mod PlacedFrames
+pub mod FrameConstants
+pub mod FramesAttribute
+pub mod Laws

@@ -1,0 +1,17 @@
+use Rattle.std.proofs.Common.{◌≤◌, ap, length, sym, subst, ◌∙◌, arith}
+use Rattle.std.specs.List.{AllByRecursion}
+use Rattle.class_bytes.specs.Counts.{FitsCounts}
+use Rattle.work_gen.proofs.FitsWork.{fits_folder}
+use Rattle.work_gen.proofs.MadeChoices.{choices_length}
+use Rattle.work_gen.proofs.generated.generate.Goals as goal
+
+pub folder_of-requires : goal.folder_of-requires
+folder_of-requires c = omega (arith, c.requires.size, choices_length c.args.number c.args.size, ap length (c.as_slice.ensures.value ∙ c.in_ok-chosen.ensures))
+
+pub script_of-requires : goal.script_of-requires
+script_of-requires c = omega (arith, c.requires.size, choices_length c.args.number c.args.size, ap length (c.as_slice-2.ensures.value ∙ c.in_ok-chosen.ensures))
+
+pub returns-clause-fits : goal.returns-clause-fits
+returns-clause-fits c =
+    let few : length c.as_slice.result.now ≤ 1000 = omega (arith, c.requires.size, choices_length c.args.number c.args.size, ap length (c.as_slice.ensures.value ∙ c.in_ok-chosen.ensures)) in
+    subst (AllByRecursion FitsCounts) (sym c.in_ok-folder_of.ensures) (fits_folder c.as_slice.result.now few)
