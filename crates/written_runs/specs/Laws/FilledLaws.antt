@@ -1,8 +1,6 @@
 -- The records of laws that the parts of the theorem go on, from the setup and from what other crates prove.
 use Rattle.std.proofs.Common.{◌≡◌, ℕ, true, List, ◌∷◌, Some, slice_get}
 use Rattle.class_model.specs.declared.class_file.MethodAt.{MethodAt}
-use Rattle.class_model.specs.declared.frame.VType.{VType}
-use Rattle.class_model.specs.declared.frame.VType.TheVariants.{Top}
 use Rattle.class_tree.specs.Headers.{headers_of}
 use Rattle.class_tree.specs.Hierarchy.{IsHierarchy}
 use Rattle.flow_code.specs.ReadTypes.{read_frame}
@@ -18,11 +16,6 @@ use Rattle.member_link.specs.Machine.SameRuns.{SameRuns}
 use Rattle.member_link.specs.Machine.Stepping.{is_library_turn, step}
 use Rattle.member_link.specs.Machine.Worlds.{World, start}
 use Rattle.member_link.specs.Scope.{Scope, scope_at}
-use Rattle.plan_flow.specs.Laws.RoutedPlans.{HasOneEffect}
-use Rattle.plan_flow.specs.Must.{row_of_point}
-use Rattle.plan_flow.specs.PlanRows.{RowEdge, from_place}
-use Rattle.plan_flow.specs.PlanScope.{PlanScope, local_types}
-use Rattle.plan_flow.specs.PlanTable.{edges_of}
 use Rattle.plan_flow.specs.Written.Routes.{Route}
 use Rattle.plan_flow.specs.Written.WrittenPrograms.{WrittenMethod}
 use Rattle.same_runs.specs.Flats.{flat_item, flat_points, instr_scope}
@@ -43,12 +36,10 @@ use Rattle.written_runs.specs.Laws.BothTurns.{Basis}
 use Rattle.written_runs.specs.Laws.Carried.Knowing.{CarriedLaws}
 use Rattle.written_runs.specs.Laws.Carried.PlannedEdges.{RowsFit}
 use Rattle.written_runs.specs.Laws.ConstructorTexts.{ReadsParameters}
-use Rattle.written_runs.specs.Laws.FirstProgram.{blanks_in_first, of_library, site_class, slots_in_first}
 use Rattle.written_runs.specs.Laws.FreshFrames.{fresh_frames_stand}
 use Rattle.written_runs.specs.Laws.KeptMemories.{TurnsGrow, act_kept, step_kept}
 use Rattle.written_runs.specs.Laws.LibraryFrames.{LibraryLaws}
 use Rattle.written_runs.specs.Laws.LibraryTurns.{library_turn}
-use Rattle.written_runs.specs.Laws.Making.FromSetup.{setup_makes_objects}
 use Rattle.written_runs.specs.Laws.OverTurns.{over_keeps}
 use Rattle.written_runs.specs.Laws.OwnCodes.{own_codes}
 use Rattle.written_runs.specs.Laws.OwnFrames.{FrameLaws, ReturnsToPlanned, UnwindsPlanned}
@@ -56,17 +47,17 @@ use Rattle.written_runs.specs.Laws.OwnOperations.{own_operations}
 use Rattle.written_runs.specs.Laws.OwnTurns.{TurnLaws, own_turn}
 use Rattle.written_runs.specs.Laws.PlannedTurns.{PlannedParts, planned_turn}
 use Rattle.written_runs.specs.Laws.SameBoth.{begin_alike}
+use Rattle.written_runs.specs.Laws.SettleFromSetup.{settle_laws}
 use Rattle.written_runs.specs.Laws.Settling.{SettleLaws}
 use Rattle.written_runs.specs.Laws.Simulation.{Parts, runs_the_same}
-use Rattle.written_runs.specs.Laws.Templates.Known.{TemplateLaws}
-use Rattle.written_runs.specs.Laws.TypedEntries.{typed_frame, types_entries}
+use Rattle.written_runs.specs.Laws.TypedEntries.{typed_frame}
 use Rattle.written_runs.specs.Laws.WaitingFrames.{waits_alike}
 use Rattle.written_runs.specs.Laws.WrittenCodes.{flat_code_at}
 
 -- ---- what the proof goes on
 
--- Laws of other crates, as these prove them: of member_link on fields, of typed_runs on steps, actions and starts, of machine_laws on turns, of plan_flow
--- on edges, and of class_model on descriptors.
+-- Laws of other crates, as these prove them: of member_link on fields, of typed_runs on steps, actions and starts, of machine_laws on turns, and
+-- of class_model on descriptors.
 pub record RunLaws : Type 0 where
   pub fields : FieldLaws
   pub steps : (P : Program) (T : Typings) (w : World) → TypedWorld P T w → StaysTyped P T w (step P w)
@@ -89,16 +80,12 @@ pub record Grounds (u : Setup) : Type 0 where
 module _ {u : Setup} (grounds : Grounds u) (laws : RunLaws) where
   -- ---- the records
 
-  pub settle_laws : SettleLaws u
-  settle_laws = record {
-    is_setup = grounds.setup;
-    making = setup_makes_objects u grounds.setup grounds.hierarchy grounds.adds laws.reads;
-    types = types_entries u grounds.setup grounds.hierarchy grounds.adds grounds.typings;
-  }
+  settle : SettleLaws u
+  settle = settle_laws u grounds.setup grounds.hierarchy grounds.adds laws.reads grounds.typings
 
   pub basis : Basis u
   basis = record {
-    settle = settle_laws;
+    settle = settle;
     same = first_second_same u grounds.setup grounds.hierarchy grounds.adds;
     alike = begin_alike grounds.setup grounds.hierarchy grounds.adds;
     steps_typed = λ w typed. laws.steps (first u) u.typings w typed;
@@ -118,7 +105,7 @@ module _ {u : Setup} (grounds : Grounds u) (laws : RunLaws) where
   pub turn_laws : FrameLaws u → TurnLaws u
   turn_laws frames = record {
     frames = frames;
-    settle = settle_laws;
+    settle = settle;
     alike = begin_alike grounds.setup grounds.hierarchy grounds.adds;
     steps_typed = λ w typed. laws.steps (first u) u.typings w typed;
     keeps = λ w typed goes no_turn. step_kept laws.grows (first u) w goes no_turn;
@@ -163,28 +150,6 @@ module _ {u : Setup} (grounds : Grounds u) (laws : RunLaws) where
     conforms = conforms;
     rows_fit = rows_fit;
     in_both = in_both;
-  }
-
-  -- What is left to show of templates: local units that are Top and stay so.
-  pub template_laws : ((at : MethodAt) (w : WrittenMethod) (place : ℕ) (point : Point) (number : ℕ) (edge : RowEdge) (unit : ℕ) (type : VType)
-      → u.written at ≡ Some w
-      → slice_get w.flat.points place ≡ Some point
-      → slice_get (edges_of place point (row_of_point (scope_in u w) place point)) number ≡ Some edge
-      → slice_get point.typed.locals unit ≡ Some Top
-      → slice_get (row_of_point (scope_in u w) place point).locals unit ≡ Some (from_place unit)
-      → slice_get (local_types w.flat edge.to) unit ≡ Some type
-      → type ≡ Top)
-      → TemplateLaws u
-  template_laws stays_top = record {
-    settle = settle_laws;
-    flat_code = λ at w host written there. flat_code_at u grounds.setup at w host written there;
-    steps_typed = λ w typed. laws.steps (first u) u.typings w typed;
-    conforms = conforms;
-    stays_top = stays_top;
-    slots = slots_in_first grounds.setup;
-    of_library = of_library grounds.setup;
-    site_class = λ at w number site written there. site_class grounds.setup grounds.hierarchy at w number site written there;
-    blanks = blanks_in_first grounds.setup;
   }
 
   -- ---- the theorem
