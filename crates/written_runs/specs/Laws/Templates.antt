@@ -1,5 +1,6 @@
 -- Instructions of which a template is written.
 pub mod Arriving
+pub mod Bits
 pub mod Changed
 pub mod ChangedTurns
 pub mod Classes

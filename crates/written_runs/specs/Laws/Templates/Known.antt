@@ -1,7 +1,6 @@
 -- What is known where a planned frame is on top and its instruction is next in both: what the first run's instruction does, how many local units
 -- and stack entries there are, and what the operands are.
-use Rattle.std.proofs.Common.{◌≡◌, ◌≤◌, ◌<◌, ◌+◌, ◌++◌, ◌%◌, ℕ, zero, suc, ℤ, pos, Bool, true, false, List, [], ◌∷◌, drop, length, map, reverse, slice_get, take, Some, None, Option, option_and_then, option_map, IsTrue, refl, sym, ap, subst, ◌∙◌, arith}
-use Rattle.std.specs.Int.{w32, cast_unsigned, int_bit_and}
+use Rattle.std.proofs.Common.{◌≡◌, ◌≤◌, ◌<◌, ◌+◌, ◌++◌, ℕ, zero, suc, Bool, true, false, List, [], ◌∷◌, drop, length, map, reverse, slice_get, take, Some, None, Option, option_and_then, option_map, IsTrue, refl, sym, ap, subst, ◌∙◌, arith}
 use Rattle.std.proofs.lemmas.Bool.{false≢true}
 use Rattle.std.proofs.lemmas.List.{length-reverse, reverse-append, take-append-drop}
 use Rattle.std.proofs.lemmas.Option.{none-some, same_Some, slice_get-map, slice_get_within}
@@ -27,7 +26,7 @@ use Rattle.member_link.specs.Machine.CallSteps.{is_object_init}
 use Rattle.member_link.specs.Signatures.{reference_of}
 use Rattle.class_model.specs.declared.descriptor.FieldType.{FieldType}
 use Rattle.flow_code.specs.declared.point.Site.{Site}
-use Rattle.machine_values.specs.Values.{blank_of_kind, blank_values, narrowed}
+use Rattle.machine_values.specs.Values.{blank_of_kind, blank_values}
 use Rattle.member_link.specs.FieldConstructors.{field_types}
 use Rattle.same_runs.specs.SameMemories.{IsInert}
 use Rattle.member_link.specs.Machine.Layouts.{slot_number, slot_number_in}
@@ -128,10 +127,6 @@ pub record TemplateLaws (u : Setup) : Type 0 where
       → u.links.field r ≡ Some field
       → folder_number (first u) field.class ≡ Some number
       → has_flag (field_of (first u) field) FINAL ≡ false
-  -- a value that is narrowed is narrow
-  pub narrowed_again : (type : FieldType) (value : Value) → narrowed type (narrowed type value) ≡ narrowed type value
-  -- the lowest bit of a number
-  pub lowest_bit : (number : ℤ) → int_bit_and w32 number (pos 1) ≡ pos (cast_unsigned w32 number % 2)
   -- a site's fields are of the types of those of its class
   pub field_types_are : (at : MethodAt) (w : WrittenMethod) (number : ℕ) (site : Site) (field : Reference) (place : ℕ)
       → u.written at ≡ Some w

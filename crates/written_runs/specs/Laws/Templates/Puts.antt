@@ -66,6 +66,7 @@ use Rattle.written_runs.specs.Laws.MadeItems.{AreOwn}
 use Rattle.written_runs.specs.Laws.Making.Held.{HeldIn, held_now, held_still}
 use Rattle.written_runs.specs.Laws.PlannedTurns.{AtPlanned, written_at}
 use Rattle.written_runs.specs.Laws.Simulation.{KeepsTurn}
+use Rattle.written_runs.specs.Laws.Templates.Bits.{lowest_bit, narrowed_again}
 use Rattle.written_runs.specs.Laws.Templates.Changed.{change_one, changed_here, entered_as, fields_changed, had, has_changed, one_reference, refers_changed, unchanged, with_changed}
 use Rattle.written_runs.specs.Laws.Templates.ChangedTurns.{changed_turn}
 use Rattle.written_runs.specs.Laws.Templates.Fields.{fields_set}
@@ -468,7 +469,7 @@ module _ (u : Setup) (laws : TemplateLaws u) {measure : ℕ} {one other : Run} (
             quietly = λ at_own ops_there.
                 quiet_from at_own (quiet_narrowing other a.others other.world.memory a.t.along.goes_also
                 (written_code (scope_in u a.in_planned.one) at_own.host u.constructor a.in_planned.one.form (blocks_in u a.in_planned.one)) a.g
-                other.world.steps (type_of field.desc) plain_one.also plain_one.rest laws.lowest_bit at_own.is_code
+                other.world.steps (type_of field.desc) plain_one.also plain_one.rest lowest_bit at_own.is_code
                 (subst (OpsThere (written_code (scope_in u a.in_planned.one) at_own.host u.constructor a.in_planned.one.form
                 (blocks_in u a.in_planned.one)) a.g.place) (narrowing_is (scope_in u a.in_planned.one) at_own.host u.constructor (type_of field.desc))
                 ops_there) kind_also);
@@ -530,7 +531,7 @@ module _ (u : Setup) (laws : TemplateLaws u) {measure : ℕ} {one other : Run} (
             kept_of held_it = record { also = held_it.also; is = held_it.is; same = held_it.same }
 
             tells_value : TellsField a.t.along.virtuals (length a.ones) (type_of field.desc) put_value Plain
-            tells_value = tells_plain (kind_narrowed (type_of field.desc) upper fits) (laws.narrowed_again (type_of field.desc) upper)
+            tells_value = tells_plain (kind_narrowed (type_of field.desc) upper fits) (narrowed_again (type_of field.desc) upper)
 
       puts_by : has_kind (kind_of (type_of field.desc)) upper ≡ true
           → (slot : Slot)
