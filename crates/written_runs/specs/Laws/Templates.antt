@@ -6,6 +6,7 @@ pub mod ChangedTurns
 pub mod Classes
 pub mod Dropped
 pub mod Edges
+pub mod FieldTypes
 pub mod Fields
 pub mod Gets
 pub mod Gotos

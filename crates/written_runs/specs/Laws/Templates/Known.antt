@@ -127,12 +127,6 @@ pub record TemplateLaws (u : Setup) : Type 0 where
       → u.links.field r ≡ Some field
       → folder_number (first u) field.class ≡ Some number
       → has_flag (field_of (first u) field) FINAL ≡ false
-  -- a site's fields are of the types of those of its class
-  pub field_types_are : (at : MethodAt) (w : WrittenMethod) (number : ℕ) (site : Site) (field : Reference) (place : ℕ)
-      → u.written at ≡ Some w
-      → slice_get w.flat.sites number ≡ Some site
-      → slot_number_in (headers_of u.classes) site.class field ≡ Some place
-      → slice_get site.fields place ≡ Some (type_of field.desc)
   -- a linked call of the instance initialiser of java/lang/Object hands over its object alone
   pub object_inits : (at : MethodAt) (w : WrittenMethod) (place : ℕ) (point : Point) (class opcode index count : ℕ) (r : Reference)
       → u.written at ≡ Some w

@@ -3,12 +3,14 @@ use Rattle.std.proofs.Common.{◌≡◌, ◌≢◌, ◌⊎◌, ◌≤◌, ◌+�
 use Rattle.std.proofs.lemmas.List.{append-nil}
 use Rattle.std.proofs.lemmas.Option.{none-some, same_Some}
 use Rattle.class_model.specs.Descriptors.{kind_of, type_of}
+use Rattle.class_model.specs.Laws.Lists.{at_index}
 use Rattle.class_model.specs.Members.{FINAL, STATIC}
 use Rattle.class_model.specs.declared.descriptor.FieldType.{FieldType}
 use Rattle.class_model.specs.declared.descriptor.FieldType.TheVariants as types
 use Rattle.class_model.specs.declared.descriptor.Kind.{Kind}
 use Rattle.class_model.specs.declared.instr.Instr.TheVariants.{PutField}
 use Rattle.class_tree.specs.Headers.{Name, headers_of}
+use Rattle.expanded_code.specs.CandidateSites.{IsSite}
 use Rattle.flow_code.specs.WrittenUnits.{written_units}
 use Rattle.flow_code.specs.declared.point.FlatInstr.TheVariants.{Of}
 use Rattle.flow_code.specs.declared.point.Site.{Site}
@@ -70,11 +72,12 @@ use Rattle.written_runs.specs.Laws.Templates.Bits.{lowest_bit, narrowed_again}
 use Rattle.written_runs.specs.Laws.Templates.Changed.{change_one, changed_here, entered_as, fields_changed, had, has_changed, one_reference, refers_changed, unchanged, with_changed}
 use Rattle.written_runs.specs.Laws.Templates.ChangedTurns.{changed_turn}
 use Rattle.written_runs.specs.Laws.Templates.Fields.{fields_set}
+use Rattle.written_runs.specs.Laws.Templates.FieldTypes.{type_of_slot}
 use Rattle.written_runs.specs.Laws.Templates.Gets.{field_is, named_in}
 use Rattle.written_runs.specs.Laws.Templates.Holding.{StoredIn, field_held, field_stored, own_held}
 use Rattle.written_runs.specs.Laws.Templates.Instrs.{InstrEdge, edge_goes_next, edge_goes_quietly, first_is, here_not_stuck, op_here, row_here, row_is, scope_here}
 use Rattle.written_runs.specs.Laws.Templates.Items.{OpsThere, all_moved, store_is_straight}
-use Rattle.written_runs.specs.Laws.Templates.Known.{TemplateLaws, entries, keeps, operand_refers, reached, split_stack, tells, two_slots, written}
+use Rattle.written_runs.specs.Laws.Templates.Known.{TemplateLaws, entries, keeps, operand_refers, reached, ready, split_stack, tells, two_slots, written}
 use Rattle.written_runs.specs.Laws.Templates.Monitors.{found_now, objects_now}
 use Rattle.written_runs.specs.Laws.Templates.Narrowings.{kind_narrowed, narrowing_ops, quiet_narrowing}
 use Rattle.written_runs.specs.Laws.Templates.Operands.{IsObjectOf, asks_none, none_same, object_is}
@@ -201,7 +204,11 @@ module _ (u : Setup) (laws : TemplateLaws u) {measure : ℕ} {one other : Run} (
 
       type_here : slice_get there.one.fields number ≡ Some (type_of field.desc)
       type_here =
-          laws.field_types_are a.f.at a.in_planned.one site there.one field number (written u laws a) there.is_site number_of_plan
+          ap (λ (types : List FieldType). slice_get types number) site_types.fields
+          ∙ type_of_slot (headers_of u.classes) there.one.class field number number_of_plan where
+            site_types : IsSite u.classes a.in_planned.one.flat there.one
+            site_types =
+                at_index (IsSite u.classes a.in_planned.one.flat) a.in_planned.one.flat.sites site there.one (ready u laws a).sites.sites there.is_site
 
       same_site : there.one ≡ tells_it.site
       same_site =
