@@ -18,7 +18,7 @@ use Rattle.machine_values.specs.declared.frame.RunFrame.TheVariants.{Beginning, 
 use Rattle.machine_values.specs.declared.value.Value.{Value}
 use Rattle.class_tree.specs.Headers.{Name, headers_of}
 use Rattle.class_tree.specs.Layouts.{instance_fields}
-use Rattle.class_model.specs.Descriptors.{kind_of, parameters_of, type_of}
+use Rattle.class_model.specs.Descriptors.{kind_of, parameters_of}
 use Rattle.class_model.specs.Members.{FINAL}
 use Rattle.class_model.specs.Pool.{constant_at}
 use Rattle.class_model.specs.declared.instr.Instr.TheVariants.{Invoke, PutField, Shuffle}
