@@ -12,14 +12,17 @@ use Rattle.flow_code.specs.ReadTypes.{read_frame, read_type}
 use Rattle.flow_code.specs.declared.point.FlatInstr.TheVariants.{Of}
 use Rattle.flow_code.specs.declared.point.Point.{Point}
 use Rattle.machine_values.specs.Frames.{MethodState}
-use Rattle.machine_values.specs.Heaps.{Heap}
+use Rattle.machine_values.specs.Heaps.{Heap, object_at}
+use Rattle.machine_values.specs.declared.object.Object.{Object}
+use Rattle.machine_values.specs.declared.object.Shape.TheVariants.{Folder}
+use Rattle.machine_values.specs.declared.value.Value.TheVariants.{Ref}
 use Rattle.machine_values.specs.declared.frame.RunFrame.{RunFrame}
 use Rattle.machine_values.specs.declared.frame.RunFrame.TheVariants.{Beginning, Method}
 use Rattle.machine_values.specs.declared.value.Value.{Value}
 use Rattle.class_tree.specs.Headers.{Name, headers_of}
 use Rattle.class_tree.specs.Layouts.{instance_fields}
 use Rattle.class_model.specs.Descriptors.{kind_of, parameters_of}
-use Rattle.class_model.specs.Members.{FINAL}
+use Rattle.class_model.specs.Members.{FINAL, STATIC}
 use Rattle.class_model.specs.Pool.{constant_at}
 use Rattle.class_model.specs.declared.instr.Instr.TheVariants.{Invoke, PutField, Shuffle}
 use Rattle.member_link.specs.Machine.CallSteps.{is_object_init}
@@ -118,14 +121,23 @@ pub record TemplateLaws (u : Setup) : Type 0 where
       → point.instr ≡ Of class (Shuffle opcode)
       → form_for (forms_of opcode) f.stack ≡ Some form
       → form_in (forms_of opcode) point.typed.stack ≡ Some form
-  -- a field of the folder that flat code stores into is not final
-  pub not_final : (at : MethodAt) (w : WrittenMethod) (place : ℕ) (point : Point) (class index : ℕ) (r field : Reference) (number : ℕ)
-      → u.written at ≡ Some w
-      → slice_get w.flat.points place ≡ Some point
+  -- a field of the folder that flat code stores into is not final, where it stores into an object of one of its sites
+  pub not_final : (world : World) (f : MethodState) (rest : List RunFrame) (w : WrittenMethod) (point : Point) (class index : ℕ)
+      (r field : Reference) (number : ℕ) (value : Value) (reference : ℕ) (below : List Value) (object : Object) (of class_number : ℕ) (site : Site)
+      → TypedWorld (first u) u.typings world
+      → world.frames ≡ Method f ∷ rest
+      → u.written f.at ≡ Some w
+      → slice_get w.flat.points f.place ≡ Some point
       → point.instr ≡ Of class (PutField index)
       → reference_of (pool_of u.classes class) (constant_at (pool_of u.classes class) index) ≡ Some r
       → u.links.field r ≡ Some field
       → folder_number (first u) field.class ≡ Some number
+      → has_flag (field_of (first u) field) STATIC ≡ false
+      → f.stack ≡ value ∷ Ref reference ∷ below
+      → object_at world.memory.heap reference ≡ Some object
+      → object.shape ≡ Folder class_number
+      → folder_number (first u) site.class ≡ Some class_number
+      → slice_get w.flat.sites of ≡ Some site
       → has_flag (field_of (first u) field) FINAL ≡ false
   -- a linked call of the instance initialiser of java/lang/Object hands over its object alone
   pub object_inits : (at : MethodAt) (w : WrittenMethod) (place : ℕ) (point : Point) (class opcode index count : ℕ) (r : Reference)

@@ -77,7 +77,7 @@ use Rattle.written_runs.specs.Laws.Templates.Gets.{field_is, named_in}
 use Rattle.written_runs.specs.Laws.Templates.Holding.{StoredIn, field_held, field_stored, own_held}
 use Rattle.written_runs.specs.Laws.Templates.Instrs.{InstrEdge, edge_goes_next, edge_goes_quietly, first_is, here_not_stuck, op_here, row_here, row_is, scope_here}
 use Rattle.written_runs.specs.Laws.Templates.Items.{OpsThere, all_moved, store_is_straight}
-use Rattle.written_runs.specs.Laws.Templates.Known.{TemplateLaws, entries, keeps, operand_refers, reached, ready, split_stack, tells, two_slots, written}
+use Rattle.written_runs.specs.Laws.Templates.Known.{TemplateLaws, entries, keeps, operand_refers, reached, ready, split_stack, stands, tells, two_slots, written}
 use Rattle.written_runs.specs.Laws.Templates.Monitors.{found_now, objects_now}
 use Rattle.written_runs.specs.Laws.Templates.Narrowings.{kind_narrowed, narrowing_ops, quiet_narrowing}
 use Rattle.written_runs.specs.Laws.Templates.Operands.{IsObjectOf, asks_none, none_same, object_is}
@@ -566,6 +566,15 @@ module _ (u : Setup) (laws : TemplateLaws u) {measure : ℕ} {one other : Run} (
           ≡ put_field_work (first u) one.world.memory r.class (u.links.field r) stores_into (Ref refers.virtual.reference ∷ upper ∷ [])
       on_reference = ap (λ (v : Value). work (first u) one.world.memory (put_field r stores_into) (v ∷ upper ∷ [])) refers.is
 
+      final_gone : (class_number : ℕ)
+          → folder_number (first u) field.class ≡ Some class_number
+          → has_flag (field_of (first u) field) STATIC ≡ false
+          → has_flag (field_of (first u) field) FINAL ≡ false
+      final_gone class_number in_folder no_static =
+          laws.not_final one.world a.f a.ones a.in_planned.one a.settled.point class index r field class_number upper target.reference below
+          target.object site there.class there.one a.t.along.typed (stands u laws a) (written u laws a) (reached u laws a).is_point is named links
+          in_folder no_static (stack ∙ ap (λ (v : Value). upper ∷ v ∷ below) refers.is) there.there there.shape there.of_folder there.is_site
+
       put_on : KeepsTurn u measure one other
       put_on = by_static (has_flag (field_of (first u) field) STATIC) refl where
         by_number : has_flag (field_of (first u) field) STATIC ≡ false
@@ -579,8 +588,7 @@ module _ (u : Setup) (laws : TemplateLaws u) {measure : ℕ} {one other : Run} (
         by_number no_static fits class_number in_folder conforms number is_number = of_number number is_number where
           not_final : has_flag (field_of (first u) field) FINAL ≡ false
           not_final =
-              laws.not_final a.f.at a.in_planned.one a.f.place a.settled.point class index r field class_number (written u laws a)
-              (reached u laws a).is_point is named links in_folder
+              final_gone class_number in_folder no_static
 
           of_number : (found : Option ℕ) → slot_number (first u) (name_of_class (first u) there.class) field ≡ found → KeepsTurn u measure one other
           of_number None no_number =
@@ -607,8 +615,7 @@ module _ (u : Setup) (laws : TemplateLaws u) {measure : ℕ} {one other : Run} (
             absurd (stops (on_reference ∙ rw (links, no_static, fits, not_final, conforms) refl)) where
               not_final : has_flag (field_of (first u) field) FINAL ≡ false
               not_final =
-                  laws.not_final a.f.at a.in_planned.one a.f.place a.settled.point class index r field class_number (written u laws a)
-                  (reached u laws a).is_point is named links in_folder
+                  final_gone class_number in_folder no_static
 
         by_folder : has_flag (field_of (first u) field) STATIC ≡ false
             → has_kind (kind_of (type_of field.desc)) upper ≡ true
