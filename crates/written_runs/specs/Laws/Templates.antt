@@ -1,10 +1,12 @@
 -- Instructions of which a template is written.
 pub mod Arriving
+pub mod Bits
 pub mod Changed
 pub mod ChangedTurns
 pub mod Classes
 pub mod Dropped
 pub mod Edges
+pub mod FieldTypes
 pub mod Fields
 pub mod Gets
 pub mod Gotos

@@ -1,7 +1,6 @@
 -- What is known where a planned frame is on top and its instruction is next in both: what the first run's instruction does, how many local units
 -- and stack entries there are, and what the operands are.
-use Rattle.std.proofs.Common.{◌≡◌, ◌≤◌, ◌<◌, ◌+◌, ◌++◌, ◌%◌, ℕ, zero, suc, ℤ, pos, Bool, true, false, List, [], ◌∷◌, drop, length, map, reverse, slice_get, take, Some, None, Option, option_and_then, option_map, IsTrue, refl, sym, ap, subst, ◌∙◌, arith}
-use Rattle.std.specs.Int.{w32, cast_unsigned, int_bit_and}
+use Rattle.std.proofs.Common.{◌≡◌, ◌≤◌, ◌<◌, ◌+◌, ◌++◌, ℕ, zero, suc, Bool, true, false, List, [], ◌∷◌, drop, length, map, reverse, slice_get, take, Some, None, Option, option_and_then, option_map, IsTrue, refl, sym, ap, subst, ◌∙◌, arith}
 use Rattle.std.proofs.lemmas.Bool.{false≢true}
 use Rattle.std.proofs.lemmas.List.{length-reverse, reverse-append, take-append-drop}
 use Rattle.std.proofs.lemmas.Option.{none-some, same_Some, slice_get-map, slice_get_within}
@@ -13,21 +12,24 @@ use Rattle.flow_code.specs.ReadTypes.{read_frame, read_type}
 use Rattle.flow_code.specs.declared.point.FlatInstr.TheVariants.{Of}
 use Rattle.flow_code.specs.declared.point.Point.{Point}
 use Rattle.machine_values.specs.Frames.{MethodState}
-use Rattle.machine_values.specs.Heaps.{Heap}
+use Rattle.machine_values.specs.Heaps.{Heap, object_at}
+use Rattle.machine_values.specs.declared.object.Object.{Object}
+use Rattle.machine_values.specs.declared.object.Shape.TheVariants.{Folder}
+use Rattle.machine_values.specs.declared.value.Value.TheVariants.{Ref}
 use Rattle.machine_values.specs.declared.frame.RunFrame.{RunFrame}
 use Rattle.machine_values.specs.declared.frame.RunFrame.TheVariants.{Beginning, Method}
 use Rattle.machine_values.specs.declared.value.Value.{Value}
 use Rattle.class_tree.specs.Headers.{Name, headers_of}
 use Rattle.class_tree.specs.Layouts.{instance_fields}
-use Rattle.class_model.specs.Descriptors.{kind_of, parameters_of, type_of}
-use Rattle.class_model.specs.Members.{FINAL}
+use Rattle.class_model.specs.Descriptors.{kind_of, parameters_of}
+use Rattle.class_model.specs.Members.{FINAL, STATIC}
 use Rattle.class_model.specs.Pool.{constant_at}
 use Rattle.class_model.specs.declared.instr.Instr.TheVariants.{Invoke, PutField, Shuffle}
 use Rattle.member_link.specs.Machine.CallSteps.{is_object_init}
 use Rattle.member_link.specs.Signatures.{reference_of}
 use Rattle.class_model.specs.declared.descriptor.FieldType.{FieldType}
 use Rattle.flow_code.specs.declared.point.Site.{Site}
-use Rattle.machine_values.specs.Values.{blank_of_kind, blank_values, narrowed}
+use Rattle.machine_values.specs.Values.{blank_of_kind, blank_values}
 use Rattle.member_link.specs.FieldConstructors.{field_types}
 use Rattle.same_runs.specs.SameMemories.{IsInert}
 use Rattle.member_link.specs.Machine.Layouts.{slot_number, slot_number_in}
@@ -122,25 +124,24 @@ pub record TemplateLaws (u : Setup) : Type 0 where
       → point.instr ≡ Of class (Shuffle opcode)
       → form_for (forms_of opcode) f.stack ≡ Some form
       → form_in (forms_of opcode) point.typed.stack ≡ Some form
-  -- a field of the folder that flat code stores into is not final
-  pub not_final : (at : MethodAt) (w : WrittenMethod) (place : ℕ) (point : Point) (class index : ℕ) (r field : Reference) (number : ℕ)
-      → u.written at ≡ Some w
-      → slice_get w.flat.points place ≡ Some point
+  -- a field of the folder that flat code stores into is not final, where it stores into an object of one of its sites
+  pub not_final : (world : World) (f : MethodState) (rest : List RunFrame) (w : WrittenMethod) (point : Point) (class index : ℕ)
+      (r field : Reference) (number : ℕ) (value : Value) (reference : ℕ) (below : List Value) (object : Object) (of class_number : ℕ) (site : Site)
+      → TypedWorld (first u) u.typings world
+      → world.frames ≡ Method f ∷ rest
+      → u.written f.at ≡ Some w
+      → slice_get w.flat.points f.place ≡ Some point
       → point.instr ≡ Of class (PutField index)
       → reference_of (pool_of u.classes class) (constant_at (pool_of u.classes class) index) ≡ Some r
       → u.links.field r ≡ Some field
       → folder_number (first u) field.class ≡ Some number
+      → has_flag (field_of (first u) field) STATIC ≡ false
+      → f.stack ≡ value ∷ Ref reference ∷ below
+      → object_at world.memory.heap reference ≡ Some object
+      → object.shape ≡ Folder class_number
+      → folder_number (first u) site.class ≡ Some class_number
+      → slice_get w.flat.sites of ≡ Some site
       → has_flag (field_of (first u) field) FINAL ≡ false
-  -- a value that is narrowed is narrow
-  pub narrowed_again : (type : FieldType) (value : Value) → narrowed type (narrowed type value) ≡ narrowed type value
-  -- the lowest bit of a number
-  pub lowest_bit : (number : ℤ) → int_bit_and w32 number (pos 1) ≡ pos (cast_unsigned w32 number % 2)
-  -- a site's fields are of the types of those of its class
-  pub field_types_are : (at : MethodAt) (w : WrittenMethod) (number : ℕ) (site : Site) (field : Reference) (place : ℕ)
-      → u.written at ≡ Some w
-      → slice_get w.flat.sites number ≡ Some site
-      → slot_number_in (headers_of u.classes) site.class field ≡ Some place
-      → slice_get site.fields place ≡ Some (type_of field.desc)
   -- a linked call of the instance initialiser of java/lang/Object hands over its object alone
   pub object_inits : (at : MethodAt) (w : WrittenMethod) (place : ℕ) (point : Point) (class opcode index count : ℕ) (r : Reference)
       → u.written at ≡ Some w

@@ -3,12 +3,14 @@ use Rattle.std.proofs.Common.{◌≡◌, ◌≢◌, ◌⊎◌, ◌≤◌, ◌+�
 use Rattle.std.proofs.lemmas.List.{append-nil}
 use Rattle.std.proofs.lemmas.Option.{none-some, same_Some}
 use Rattle.class_model.specs.Descriptors.{kind_of, type_of}
+use Rattle.class_model.specs.Laws.Lists.{at_index}
 use Rattle.class_model.specs.Members.{FINAL, STATIC}
 use Rattle.class_model.specs.declared.descriptor.FieldType.{FieldType}
 use Rattle.class_model.specs.declared.descriptor.FieldType.TheVariants as types
 use Rattle.class_model.specs.declared.descriptor.Kind.{Kind}
 use Rattle.class_model.specs.declared.instr.Instr.TheVariants.{PutField}
 use Rattle.class_tree.specs.Headers.{Name, headers_of}
+use Rattle.expanded_code.specs.CandidateSites.{IsSite}
 use Rattle.flow_code.specs.WrittenUnits.{written_units}
 use Rattle.flow_code.specs.declared.point.FlatInstr.TheVariants.{Of}
 use Rattle.flow_code.specs.declared.point.Site.{Site}
@@ -66,14 +68,16 @@ use Rattle.written_runs.specs.Laws.MadeItems.{AreOwn}
 use Rattle.written_runs.specs.Laws.Making.Held.{HeldIn, held_now, held_still}
 use Rattle.written_runs.specs.Laws.PlannedTurns.{AtPlanned, written_at}
 use Rattle.written_runs.specs.Laws.Simulation.{KeepsTurn}
+use Rattle.written_runs.specs.Laws.Templates.Bits.{lowest_bit, narrowed_again}
 use Rattle.written_runs.specs.Laws.Templates.Changed.{change_one, changed_here, entered_as, fields_changed, had, has_changed, one_reference, refers_changed, unchanged, with_changed}
 use Rattle.written_runs.specs.Laws.Templates.ChangedTurns.{changed_turn}
 use Rattle.written_runs.specs.Laws.Templates.Fields.{fields_set}
+use Rattle.written_runs.specs.Laws.Templates.FieldTypes.{type_of_slot}
 use Rattle.written_runs.specs.Laws.Templates.Gets.{field_is, named_in}
 use Rattle.written_runs.specs.Laws.Templates.Holding.{StoredIn, field_held, field_stored, own_held}
 use Rattle.written_runs.specs.Laws.Templates.Instrs.{InstrEdge, edge_goes_next, edge_goes_quietly, first_is, here_not_stuck, op_here, row_here, row_is, scope_here}
 use Rattle.written_runs.specs.Laws.Templates.Items.{OpsThere, all_moved, store_is_straight}
-use Rattle.written_runs.specs.Laws.Templates.Known.{TemplateLaws, entries, keeps, operand_refers, reached, split_stack, tells, two_slots, written}
+use Rattle.written_runs.specs.Laws.Templates.Known.{TemplateLaws, entries, keeps, operand_refers, reached, ready, split_stack, stands, tells, two_slots, written}
 use Rattle.written_runs.specs.Laws.Templates.Monitors.{found_now, objects_now}
 use Rattle.written_runs.specs.Laws.Templates.Narrowings.{kind_narrowed, narrowing_ops, quiet_narrowing}
 use Rattle.written_runs.specs.Laws.Templates.Operands.{IsObjectOf, asks_none, none_same, object_is}
@@ -200,7 +204,11 @@ module _ (u : Setup) (laws : TemplateLaws u) {measure : ℕ} {one other : Run} (
 
       type_here : slice_get there.one.fields number ≡ Some (type_of field.desc)
       type_here =
-          laws.field_types_are a.f.at a.in_planned.one site there.one field number (written u laws a) there.is_site number_of_plan
+          ap (λ (types : List FieldType). slice_get types number) site_types.fields
+          ∙ type_of_slot (headers_of u.classes) there.one.class field number number_of_plan where
+            site_types : IsSite u.classes a.in_planned.one.flat there.one
+            site_types =
+                at_index (IsSite u.classes a.in_planned.one.flat) a.in_planned.one.flat.sites site there.one (ready u laws a).sites.sites there.is_site
 
       same_site : there.one ≡ tells_it.site
       same_site =
@@ -468,7 +476,7 @@ module _ (u : Setup) (laws : TemplateLaws u) {measure : ℕ} {one other : Run} (
             quietly = λ at_own ops_there.
                 quiet_from at_own (quiet_narrowing other a.others other.world.memory a.t.along.goes_also
                 (written_code (scope_in u a.in_planned.one) at_own.host u.constructor a.in_planned.one.form (blocks_in u a.in_planned.one)) a.g
-                other.world.steps (type_of field.desc) plain_one.also plain_one.rest laws.lowest_bit at_own.is_code
+                other.world.steps (type_of field.desc) plain_one.also plain_one.rest lowest_bit at_own.is_code
                 (subst (OpsThere (written_code (scope_in u a.in_planned.one) at_own.host u.constructor a.in_planned.one.form
                 (blocks_in u a.in_planned.one)) a.g.place) (narrowing_is (scope_in u a.in_planned.one) at_own.host u.constructor (type_of field.desc))
                 ops_there) kind_also);
@@ -530,7 +538,7 @@ module _ (u : Setup) (laws : TemplateLaws u) {measure : ℕ} {one other : Run} (
             kept_of held_it = record { also = held_it.also; is = held_it.is; same = held_it.same }
 
             tells_value : TellsField a.t.along.virtuals (length a.ones) (type_of field.desc) put_value Plain
-            tells_value = tells_plain (kind_narrowed (type_of field.desc) upper fits) (laws.narrowed_again (type_of field.desc) upper)
+            tells_value = tells_plain (kind_narrowed (type_of field.desc) upper fits) (narrowed_again (type_of field.desc) upper)
 
       puts_by : has_kind (kind_of (type_of field.desc)) upper ≡ true
           → (slot : Slot)
@@ -558,6 +566,15 @@ module _ (u : Setup) (laws : TemplateLaws u) {measure : ℕ} {one other : Run} (
           ≡ put_field_work (first u) one.world.memory r.class (u.links.field r) stores_into (Ref refers.virtual.reference ∷ upper ∷ [])
       on_reference = ap (λ (v : Value). work (first u) one.world.memory (put_field r stores_into) (v ∷ upper ∷ [])) refers.is
 
+      final_gone : (class_number : ℕ)
+          → folder_number (first u) field.class ≡ Some class_number
+          → has_flag (field_of (first u) field) STATIC ≡ false
+          → has_flag (field_of (first u) field) FINAL ≡ false
+      final_gone class_number in_folder no_static =
+          laws.not_final one.world a.f a.ones a.in_planned.one a.settled.point class index r field class_number upper target.reference below
+          target.object site there.class there.one a.t.along.typed (stands u laws a) (written u laws a) (reached u laws a).is_point is named links
+          in_folder no_static (stack ∙ ap (λ (v : Value). upper ∷ v ∷ below) refers.is) there.there there.shape there.of_folder there.is_site
+
       put_on : KeepsTurn u measure one other
       put_on = by_static (has_flag (field_of (first u) field) STATIC) refl where
         by_number : has_flag (field_of (first u) field) STATIC ≡ false
@@ -571,8 +588,7 @@ module _ (u : Setup) (laws : TemplateLaws u) {measure : ℕ} {one other : Run} (
         by_number no_static fits class_number in_folder conforms number is_number = of_number number is_number where
           not_final : has_flag (field_of (first u) field) FINAL ≡ false
           not_final =
-              laws.not_final a.f.at a.in_planned.one a.f.place a.settled.point class index r field class_number (written u laws a)
-              (reached u laws a).is_point is named links in_folder
+              final_gone class_number in_folder no_static
 
           of_number : (found : Option ℕ) → slot_number (first u) (name_of_class (first u) there.class) field ≡ found → KeepsTurn u measure one other
           of_number None no_number =
@@ -599,8 +615,7 @@ module _ (u : Setup) (laws : TemplateLaws u) {measure : ℕ} {one other : Run} (
             absurd (stops (on_reference ∙ rw (links, no_static, fits, not_final, conforms) refl)) where
               not_final : has_flag (field_of (first u) field) FINAL ≡ false
               not_final =
-                  laws.not_final a.f.at a.in_planned.one a.f.place a.settled.point class index r field class_number (written u laws a)
-                  (reached u laws a).is_point is named links in_folder
+                  final_gone class_number in_folder no_static
 
         by_folder : has_flag (field_of (first u) field) STATIC ≡ false
             → has_kind (kind_of (type_of field.desc)) upper ≡ true
