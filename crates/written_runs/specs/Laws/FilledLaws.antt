@@ -1,24 +1,49 @@
 -- The records of laws that the parts of the theorem go on, from the setup and from what other crates prove.
-use Rattle.std.proofs.Common.{◌≡◌, ℕ, true, List, ◌∷◌, Some, slice_get}
+use Rattle.std.proofs.Common.{List, Some, [], false, slice_get, true, ℕ, ◌∷◌, ◌≡◌}
+use Rattle.class_model.specs.Descriptors.{parameters_of}
+use Rattle.class_model.specs.Members.{FINAL, STATIC}
+use Rattle.class_model.specs.Pool.{constant_at}
 use Rattle.class_model.specs.declared.class_file.MethodAt.{MethodAt}
+use Rattle.class_model.specs.declared.frame.VType.TheVariants.{Top}
+use Rattle.class_model.specs.declared.frame.VType.{VType}
+use Rattle.class_model.specs.declared.instr.Instr.TheVariants.{Invoke, PutField, Shuffle}
+use Rattle.class_model.specs.declared.opcodes.TheConstants.{INVOKESPECIAL}
 use Rattle.class_tree.specs.Headers.{headers_of}
 use Rattle.class_tree.specs.Hierarchy.{IsHierarchy}
 use Rattle.flow_code.specs.ReadTypes.{read_frame}
+use Rattle.flow_code.specs.declared.point.FlatInstr.TheVariants.{Of}
 use Rattle.flow_code.specs.declared.point.Point.{Point}
+use Rattle.flow_code.specs.declared.point.Site.{Site}
 use Rattle.machine_values.specs.Frames.{MethodState}
+use Rattle.machine_values.specs.Heaps.{object_at}
 use Rattle.machine_values.specs.declared.action.Action.{Action}
-use Rattle.machine_values.specs.declared.frame.RunFrame.{RunFrame}
 use Rattle.machine_values.specs.declared.frame.RunFrame.TheVariants.{Method}
+use Rattle.machine_values.specs.declared.frame.RunFrame.{RunFrame}
+use Rattle.machine_values.specs.declared.object.Object.{Object}
+use Rattle.machine_values.specs.declared.object.Shape.TheVariants.{Folder}
+use Rattle.machine_values.specs.declared.value.Value.TheVariants.{Ref}
+use Rattle.machine_values.specs.declared.value.Value.{Value}
 use Rattle.member_link.specs.Machine.Acting.{act}
+use Rattle.member_link.specs.Machine.CallSteps.{is_object_init}
 use Rattle.member_link.specs.Machine.Codes.{item_op, number_at}
-use Rattle.member_link.specs.Machine.Programs.{Program}
+use Rattle.member_link.specs.Machine.Locals.{form_for}
+use Rattle.member_link.specs.Machine.Programs.{Program, field_of, folder_number, has_flag}
+use Rattle.member_link.specs.Machine.Runs.{turn}
 use Rattle.member_link.specs.Machine.SameRuns.{SameRuns}
 use Rattle.member_link.specs.Machine.Stepping.{is_library_turn, step}
 use Rattle.member_link.specs.Machine.Worlds.{World, start}
+use Rattle.member_link.specs.References.{Reference}
+use Rattle.member_link.specs.Rows.ShuffleRows.{Form, form_in, forms_of}
 use Rattle.member_link.specs.Scope.{Scope, scope_at}
+use Rattle.member_link.specs.Signatures.{reference_of}
+use Rattle.plan_flow.specs.Must.{row_of_point}
+use Rattle.plan_flow.specs.PlanRows.{RowEdge, from_place}
+use Rattle.plan_flow.specs.PlanScope.{local_types, member_of}
+use Rattle.plan_flow.specs.PlanSlots.{held}
+use Rattle.plan_flow.specs.PlanTable.{edges_of}
 use Rattle.plan_flow.specs.Written.Routes.{Route}
 use Rattle.plan_flow.specs.Written.WrittenPrograms.{WrittenMethod}
-use Rattle.same_runs.specs.Flats.{flat_item, flat_points, instr_scope}
+use Rattle.same_runs.specs.Flats.{flat_code, flat_item, flat_points, instr_scope, pool_of}
 use Rattle.same_runs.specs.Laws.ClassInitialisers.{initialiser_named}
 use Rattle.same_runs.specs.Laws.FoundMembers.{FieldLaws}
 use Rattle.same_runs.specs.Laws.Operations.{WorksOnOperands}
@@ -33,9 +58,12 @@ use Rattle.written_runs.specs.Laws.AddedConstructors.{AddsToCandidates, first_se
 use Rattle.written_runs.specs.Laws.AloneTurns.{alone_turn}
 use Rattle.written_runs.specs.Laws.BeginningTurns.{beginning_turn}
 use Rattle.written_runs.specs.Laws.BothTurns.{Basis}
-use Rattle.written_runs.specs.Laws.Carried.Knowing.{CarriedLaws}
+use Rattle.written_runs.specs.Laws.Carried.Knowing.{CarriedFacts, CarriedLaws}
 use Rattle.written_runs.specs.Laws.Carried.PlannedEdges.{RowsFit}
+use Rattle.written_runs.specs.Laws.Carried.WaitingPlanned.{returns_planned, unwinds_planned}
+use Rattle.written_runs.specs.Laws.Carried.Whole.{planned_parts}
 use Rattle.written_runs.specs.Laws.ConstructorTexts.{ReadsParameters}
+use Rattle.written_runs.specs.Laws.FirstProgram.{blanks_in_first, of_library, site_class, slots_in_first}
 use Rattle.written_runs.specs.Laws.FreshFrames.{fresh_frames_stand}
 use Rattle.written_runs.specs.Laws.KeptMemories.{TurnsGrow, act_kept, step_kept}
 use Rattle.written_runs.specs.Laws.LibraryFrames.{LibraryLaws}
@@ -50,6 +78,8 @@ use Rattle.written_runs.specs.Laws.SameBoth.{begin_alike}
 use Rattle.written_runs.specs.Laws.SettleFromSetup.{settle_laws}
 use Rattle.written_runs.specs.Laws.Settling.{SettleLaws}
 use Rattle.written_runs.specs.Laws.Simulation.{Parts, runs_the_same}
+use Rattle.written_runs.specs.Laws.Templates.Known.{TemplateLaws}
+use Rattle.written_runs.specs.Laws.Templates.Whole.{TemplateParts, template_turns}
 use Rattle.written_runs.specs.Laws.TypedEntries.{typed_frame}
 use Rattle.written_runs.specs.Laws.WaitingFrames.{waits_alike}
 use Rattle.written_runs.specs.Laws.WrittenCodes.{flat_code_at}
@@ -76,6 +106,70 @@ pub record Grounds (u : Setup) : Type 0 where
   pub adds : AddsToCandidates u
   -- the frames of flat codes are those of their typed points
   pub typings : HasFlatTypings u.flats u.typings
+
+-- ---- what is left to show
+
+-- What the theorem still asks of flat codes, of their types, and of operations in both programs; and the turns at instructions that move stack entries,
+-- but for pop and dup.
+pub record LeftToShow (u : Setup) : Type 0 where
+  -- rows fit the types of the flat code
+  pub rows_fit : (at : MethodAt) (w : WrittenMethod) → u.written at ≡ Some w → RowsFit (scope_in u w)
+  -- an operation on operands does the same in both
+  pub in_both : (at : MethodAt) (w : WrittenMethod) (host : Scope) (place : ℕ) (point : Point) (route : Route)
+      → u.written at ≡ Some w
+      → scope_at u.classes at ≡ Some host
+      → IsReached w place point route
+      → IsCarried u w place point route
+      → WorksOnOperands (item_op u.links (number_at (flat_points u.classes host w.flat)) (instr_scope u.classes host w.flat point.instr)
+      (flat_item point.instr))
+      → IsInBoth (first u) (second u)
+      (item_op u.links (number_at (flat_points u.classes host w.flat)) (instr_scope u.classes host w.flat point.instr) (flat_item point.instr))
+  -- java/lang/Object's constructor is called by invokespecial, without arguments
+  pub object_inits : (at : MethodAt) (w : WrittenMethod) (place : ℕ) (point : Point) (class opcode index count : ℕ) (r : Reference)
+      → u.written at ≡ Some w
+      → slice_get w.flat.points place ≡ Some point
+      → point.instr ≡ Of class (Invoke opcode index count)
+      → member_of (scope_in u w) class index ≡ Some r
+      → is_object_init r ≡ true
+      → (opcode ≡ INVOKESPECIAL) × (parameters_of r.desc ≡ [])
+  -- a local unit that is Top, and that an instruction does not store into, is Top behind it
+  pub stays_top : (at : MethodAt) (w : WrittenMethod) (place : ℕ) (point : Point) (number : ℕ) (edge : RowEdge) (unit : ℕ) (type : VType)
+      → u.written at ≡ Some w
+      → slice_get w.flat.points place ≡ Some point
+      → slice_get (edges_of place point (row_of_point (scope_in u w) place point)) number ≡ Some edge
+      → slice_get point.typed.locals unit ≡ Some Top
+      → slice_get (row_of_point (scope_in u w) place point).locals unit ≡ Some (from_place unit)
+      → slice_get (local_types w.flat edge.to) unit ≡ Some type
+      → type ≡ Top
+  -- the form by which the topmost values are moved is that of their types
+  pub same_forms : (world : World) (f : MethodState) (rest : List RunFrame) (w : WrittenMethod) (point : Point) (class opcode : ℕ) (form : Form)
+      → TypedWorld (first u) u.typings world
+      → world.frames ≡ Method f ∷ rest
+      → u.written f.at ≡ Some w
+      → slice_get w.flat.points f.place ≡ Some point
+      → point.instr ≡ Of class (Shuffle opcode)
+      → form_for (forms_of opcode) f.stack ≡ Some form
+      → form_in (forms_of opcode) point.typed.stack ≡ Some form
+  -- a field of the folder that flat code stores into is not final, where it stores into an object of one of its sites
+  pub not_final : (world : World) (f : MethodState) (rest : List RunFrame) (w : WrittenMethod) (point : Point) (class index : ℕ)
+      (r field : Reference) (number : ℕ) (value : Value) (reference : ℕ) (below : List Value) (object : Object) (of class_number : ℕ) (site : Site)
+      → TypedWorld (first u) u.typings world
+      → world.frames ≡ Method f ∷ rest
+      → u.written f.at ≡ Some w
+      → slice_get w.flat.points f.place ≡ Some point
+      → point.instr ≡ Of class (PutField index)
+      → reference_of (pool_of u.classes class) (constant_at (pool_of u.classes class) index) ≡ Some r
+      → u.links.field r ≡ Some field
+      → folder_number (first u) field.class ≡ Some number
+      → has_flag (field_of (first u) field) STATIC ≡ false
+      → f.stack ≡ value ∷ Ref reference ∷ below
+      → object_at world.memory.heap reference ≡ Some object
+      → object.shape ≡ Folder class_number
+      → folder_number (first u) site.class ≡ Some class_number
+      → slice_get w.flat.sites of ≡ Some site
+      → has_flag (field_of (first u) field) FINAL ≡ false
+  -- dup_x1, swap and the like
+  pub shuffles : TemplateParts u
 
 module _ {u : Setup} (grounds : Grounds u) (laws : RunLaws) where
   -- ---- the records
@@ -132,32 +226,52 @@ module _ {u : Setup} (grounds : Grounds u) (laws : RunLaws) where
       let found = typed_frame u grounds.setup grounds.typings world f rest w point typed stands written there in
       record { locals = found.locals; stack = found.stack }
 
-  -- What is left to show of instructions that are written as they are: rows fit the types, and operations are in both programs.
-  pub carried_laws : TurnLaws u
-      → ((at : MethodAt) (w : WrittenMethod) → u.written at ≡ Some w → RowsFit (scope_in u w))
-      → ((at : MethodAt) (w : WrittenMethod) (host : Scope) (place : ℕ) (point : Point) (route : Route)
-      → u.written at ≡ Some w
-      → scope_at u.classes at ≡ Some host
-      → IsReached w place point route
-      → IsCarried u w place point route
-      → WorksOnOperands (item_op u.links (number_at (flat_points u.classes host w.flat)) (instr_scope u.classes host w.flat point.instr) (flat_item point.instr))
-      → IsInBoth (first u) (second u)
-      (item_op u.links (number_at (flat_points u.classes host w.flat)) (instr_scope u.classes host w.flat point.instr) (flat_item point.instr)))
-      → CarriedLaws u
-  carried_laws turns rows_fit in_both = record {
-    turns = turns;
-    flat_code = λ at w host written there. flat_code_at u grounds.setup at w host written there;
-    conforms = conforms;
-    rows_fit = rows_fit;
-    in_both = in_both;
-  }
+  -- ---- planned frames, from what is left to show
 
-  -- ---- the theorem
+  module _ (left : LeftToShow u) where
+    carried_facts : CarriedFacts u
+    carried_facts = record {
+      settle = settle;
+      flat_code = λ at w host written there. flat_code_at u grounds.setup at w host written there;
+      rows_fit = left.rows_fit;
+    }
 
-  -- What is left to show, of planned frames: how they unwind and go on behind results, and what their turns do.
-  module _ (unwinds : UnwindsPlanned u) (returns : ReturnsToPlanned u) (planned : PlannedParts u) where
     turns : TurnLaws u
-    turns = turn_laws (frame_laws unwinds returns)
+    turns = turn_laws (frame_laws (unwinds_planned u carried_facts) (returns_planned u carried_facts))
+
+    carried_laws : CarriedLaws u
+    carried_laws = record {
+      turns = turns;
+      flat_code = λ at w host written there. flat_code_at u grounds.setup at w host written there;
+      conforms = conforms;
+      rows_fit = left.rows_fit;
+      in_both = left.in_both;
+      object_inits = left.object_inits;
+    }
+
+    template_laws : TemplateLaws u
+    template_laws = record {
+      settle = settle;
+      flat_code = λ at w host written there. flat_code_at u grounds.setup at w host written there;
+      steps_typed = λ w typed. laws.steps (first u) u.typings w typed;
+      conforms = conforms;
+      stays_top = left.stays_top;
+      slots = slots_in_first grounds.setup;
+      of_library = of_library grounds.setup;
+      site_class = λ at w number site written there. site_class grounds.setup grounds.hierarchy at w number site written there;
+      same_forms = left.same_forms;
+      not_final = left.not_final;
+      object_inits = λ at w place point class opcode index count r written there is names init.
+          (left.object_inits at w place point class opcode index count r written there is names init).1;
+      blanks = blanks_in_first grounds.setup;
+    }
+
+    planned : PlannedParts u
+    planned =
+        planned_parts u carried_laws (λ measure one other a class instr instrs is told.
+        template_turns u template_laws left.shuffles measure one other a class instr instrs is told)
+
+    -- ---- the theorem
 
     parts : Parts u
     parts = record {

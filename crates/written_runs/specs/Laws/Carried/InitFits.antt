@@ -159,10 +159,12 @@ module _ (P : Program) (s : PlanScope) (at : ℕ) (point : Point) (route : Route
                   × (works_to P memory stack (call_special found from) ≡ call_special_work P memory found from (Ref reference ∷ []))
               on_object enough =
                   let top = one_on_top here enough in
-                  let refers = inits.refers top.0 (ap (λ (all : List Value). slice_get all 0) top.2) unwritten.1 in
-                  (refers.0, ap (call_special_work P memory found from)
-                  (ap (λ (n : ℕ). reverse (take n stack)) one ∙ ap (λ (all : List Value). reverse (take 1 all)) top.2
-                  ∙ ap (λ (v : Value). v ∷ []) refers.1))
+                  let refers = inits.refers top.0 (ap (λ (all : List Value). slice_get all 0) top.2) unwritten.1 in (
+                    refers.0,
+                    ap (call_special_work P memory found from)
+                        (ap (λ (n : ℕ). reverse (take n stack)) one ∙ ap (λ (all : List Value). reverse (take 1 all)) top.2
+                        ∙ ap (λ (v : Value). v ∷ []) refers.1),
+                  )
 
               never : 1 ≤ length stack → MayThrow (call_special found from) (works_to P memory stack (call_special found from)) → ⊥
               never enough (inl throwing) =
