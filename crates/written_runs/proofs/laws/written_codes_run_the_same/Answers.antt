@@ -1,0 +1,14 @@
+use Rattle.written_runs.proofs.laws.written_codes_run_the_same.Goals as goal
+use Rattle.written_runs.specs.Laws.FilledLaws as filled
+
+pub returns : goal.returns
+returns c = λ u setup hierarchy adds typings left.
+    filled.written_codes_run_the_same (record { setup = setup; hierarchy = hierarchy; adds = adds; typings = typings })
+    (record {
+      fields = record { above = c.a_found_field_is_above.ensures; one = c.a_look_up_finds_one_field.ensures };
+      steps = c.a_step_stays_typed.ensures;
+      acts = c.an_action_stays_typed.ensures;
+      starts = c.a_run_starts_typed.ensures;
+      grows = c.a_turn_keeps_what_was_shown.ensures;
+      reads = record { parameters = c.parameters_of_bytes_are_spelled.ensures };
+    }) left
