@@ -15,6 +15,7 @@ pub mod FewerVirtuals
 pub mod FieldConstructors
 pub mod FilledLaws
 pub mod FirstProgram
+pub mod FlatOperations
 pub mod FolderFacts
 pub mod FreshFrames
 pub mod GivenValues

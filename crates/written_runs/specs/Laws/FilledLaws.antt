@@ -25,34 +25,27 @@ use Rattle.machine_values.specs.declared.value.Value.TheVariants.{Ref}
 use Rattle.machine_values.specs.declared.value.Value.{Value}
 use Rattle.member_link.specs.Machine.Acting.{act}
 use Rattle.member_link.specs.Machine.CallSteps.{is_object_init}
-use Rattle.member_link.specs.Machine.Codes.{item_op, number_at}
 use Rattle.member_link.specs.Machine.Locals.{form_for}
 use Rattle.member_link.specs.Machine.Programs.{Program, field_of, folder_number, has_flag}
-use Rattle.member_link.specs.Machine.Runs.{turn}
 use Rattle.member_link.specs.Machine.SameRuns.{SameRuns}
 use Rattle.member_link.specs.Machine.Stepping.{is_library_turn, step}
 use Rattle.member_link.specs.Machine.Worlds.{World, start}
 use Rattle.member_link.specs.References.{Reference}
 use Rattle.member_link.specs.Rows.ShuffleRows.{Form, form_in, forms_of}
-use Rattle.member_link.specs.Scope.{Scope, scope_at}
 use Rattle.member_link.specs.Signatures.{reference_of}
 use Rattle.plan_flow.specs.Must.{row_of_point}
 use Rattle.plan_flow.specs.PlanRows.{RowEdge, from_place}
 use Rattle.plan_flow.specs.PlanScope.{local_types, member_of}
-use Rattle.plan_flow.specs.PlanSlots.{held}
 use Rattle.plan_flow.specs.PlanTable.{edges_of}
-use Rattle.plan_flow.specs.Written.Routes.{Route}
 use Rattle.plan_flow.specs.Written.WrittenPrograms.{WrittenMethod}
-use Rattle.same_runs.specs.Flats.{flat_code, flat_item, flat_points, instr_scope, pool_of}
+use Rattle.same_runs.specs.Flats.{pool_of}
 use Rattle.same_runs.specs.Laws.ClassInitialisers.{initialiser_named}
 use Rattle.same_runs.specs.Laws.FoundMembers.{FieldLaws}
-use Rattle.same_runs.specs.Laws.Operations.{WorksOnOperands}
-use Rattle.same_runs.specs.SamePrograms.{IsInBoth}
 use Rattle.typed_runs.specs.FolderTypings.{HasFlatTypings}
 use Rattle.typed_runs.specs.TypedFrames.{ConformsTo}
 use Rattle.typed_runs.specs.TypedPrograms.{IsTypedProgram, Typings}
 use Rattle.typed_runs.specs.TypedWorlds.{StaysTyped, TypedWorld}
-use Rattle.written_runs.specs.Inner.PlannedFrames.{IsCarried, IsReached, scope_in}
+use Rattle.written_runs.specs.Inner.PlannedFrames.{scope_in}
 use Rattle.written_runs.specs.Inner.Setup.{IsSetup, Setup, first, second}
 use Rattle.written_runs.specs.Laws.AddedConstructors.{AddsToCandidates, first_second_same}
 use Rattle.written_runs.specs.Laws.AloneTurns.{alone_turn}
@@ -64,6 +57,7 @@ use Rattle.written_runs.specs.Laws.Carried.WaitingPlanned.{returns_planned, unwi
 use Rattle.written_runs.specs.Laws.Carried.Whole.{planned_parts}
 use Rattle.written_runs.specs.Laws.ConstructorTexts.{ReadsParameters}
 use Rattle.written_runs.specs.Laws.FirstProgram.{blanks_in_first, of_library, site_class, slots_in_first}
+use Rattle.written_runs.specs.Laws.FlatOperations.{flat_in_both}
 use Rattle.written_runs.specs.Laws.FreshFrames.{fresh_frames_stand}
 use Rattle.written_runs.specs.Laws.KeptMemories.{TurnsGrow, act_kept, step_kept}
 use Rattle.written_runs.specs.Laws.LibraryFrames.{LibraryLaws}
@@ -109,21 +103,10 @@ pub record Grounds (u : Setup) : Type 0 where
 
 -- ---- what is left to show
 
--- What the theorem still asks of flat codes, of their types, and of operations in both programs; and the turns at instructions that move stack entries,
--- but for pop and dup.
+-- What the theorem still asks of flat codes and of their types; and the turns at instructions that move stack entries, but for pop and dup.
 pub record LeftToShow (u : Setup) : Type 0 where
   -- rows fit the types of the flat code
   pub rows_fit : (at : MethodAt) (w : WrittenMethod) → u.written at ≡ Some w → RowsFit (scope_in u w)
-  -- an operation on operands does the same in both
-  pub in_both : (at : MethodAt) (w : WrittenMethod) (host : Scope) (place : ℕ) (point : Point) (route : Route)
-      → u.written at ≡ Some w
-      → scope_at u.classes at ≡ Some host
-      → IsReached w place point route
-      → IsCarried u w place point route
-      → WorksOnOperands (item_op u.links (number_at (flat_points u.classes host w.flat)) (instr_scope u.classes host w.flat point.instr)
-      (flat_item point.instr))
-      → IsInBoth (first u) (second u)
-      (item_op u.links (number_at (flat_points u.classes host w.flat)) (instr_scope u.classes host w.flat point.instr) (flat_item point.instr))
   -- java/lang/Object's constructor is called by invokespecial, without arguments
   pub object_inits : (at : MethodAt) (w : WrittenMethod) (place : ℕ) (point : Point) (class opcode index count : ℕ) (r : Reference)
       → u.written at ≡ Some w
@@ -245,7 +228,8 @@ module _ {u : Setup} (grounds : Grounds u) (laws : RunLaws) where
       flat_code = λ at w host written there. flat_code_at u grounds.setup at w host written there;
       conforms = conforms;
       rows_fit = left.rows_fit;
-      in_both = left.in_both;
+      in_both = λ at w host place point route written is_host reached carried_so work.
+          flat_in_both grounds.setup laws.fields grounds.hierarchy at w host place point route written is_host reached carried_so;
       object_inits = left.object_inits;
     }
 

@@ -68,21 +68,23 @@ module _ {u : Setup} (is : IsSetup u) where
   site_is_candidate at one of site written there =
       (at_index (IsSite u.classes one.flat) one.flat.sites of site (is.ready at one written).sites.sites there).candidate
 
-  clears_kept : ClearsKept u.classes u.r
+  -- a flat code is that of a method that is rewritten
+  pub of_flat : (at : MethodAt) (flat : FlatCode) → u.flats at ≡ Some flat → (one : WrittenMethod) × (u.written at ≡ Some one) × (one.flat ≡ flat)
+  of_flat at flat there = by (u.written at) refl where
+    by : (written : Option WrittenMethod) → u.written at ≡ written → (one : WrittenMethod) × (u.written at ≡ Some one) × (one.flat ≡ flat)
+    by None e = absurd (none-some flat (sym (is.flats.each at ∙ rw (e) refl) ∙ there))
+    by (Some one) e = (one, e, same_Some one.flat flat (sym (is.flats.each at ∙ rw (e) refl) ∙ there))
+
+  pub clears_kept : ClearsKept u.classes u.r
   clears_kept = record {
     each = λ class number cleared.
         let c = (is.replaces.finals class number).0 cleared in
         let one = of_flat c.at c.flat c.is_flat in
         let candidate = site_is_candidate c.at one.0 c.of c.site one.1 (ap (λ (flat : FlatCode). slice_get flat.sites c.of) one.2 ∙ c.is_site) in
         record { field = c.field; is_field = c.is_field; keeps = kept_by_candidate u.classes c.site.class c.field candidate c.of_chain c.final };
-  } where
-    of_flat : (at : MethodAt) (flat : FlatCode) → u.flats at ≡ Some flat → (one : WrittenMethod) × (u.written at ≡ Some one) × (one.flat ≡ flat)
-    of_flat at flat there = by (u.written at) refl where
-      by : (written : Option WrittenMethod) → u.written at ≡ written → (one : WrittenMethod) × (u.written at ≡ Some one) × (one.flat ≡ flat)
-      by None e = absurd (none-some flat (sym (is.flats.each at ∙ rw (e) refl) ∙ there))
-      by (Some one) e = (one, e, same_Some one.flat flat (sym (is.flats.each at ∙ rw (e) refl) ∙ there))
+  }
 
-  clears_kept_also : ClearsKept u.classes u.s
+  pub clears_kept_also : ClearsKept u.classes u.s
   clears_kept_also = record {
     each = λ class number cleared.
         let c = (is.replaces_also.finals class number).0 cleared in
