@@ -30,6 +30,7 @@ pub mod Making
 pub mod MethodsBegin
 pub mod NewOnTop
 pub mod NextEdges
+pub mod ObjectInits
 pub mod OneEffect
 pub mod OverTurns
 pub mod OwnCodes

@@ -1,13 +1,11 @@
 -- The records of laws that the parts of the theorem go on, from the setup and from what other crates prove.
-use Rattle.std.proofs.Common.{List, Some, [], false, slice_get, true, ℕ, ◌∷◌, ◌≡◌}
-use Rattle.class_model.specs.Descriptors.{parameters_of}
+use Rattle.std.proofs.Common.{List, Some, false, slice_get, true, ℕ, ◌∷◌, ◌≡◌}
 use Rattle.class_model.specs.Members.{FINAL, STATIC}
 use Rattle.class_model.specs.Pool.{constant_at}
 use Rattle.class_model.specs.declared.class_file.MethodAt.{MethodAt}
 use Rattle.class_model.specs.declared.frame.VType.TheVariants.{Top}
 use Rattle.class_model.specs.declared.frame.VType.{VType}
-use Rattle.class_model.specs.declared.instr.Instr.TheVariants.{Invoke, PutField, Shuffle}
-use Rattle.class_model.specs.declared.opcodes.TheConstants.{INVOKESPECIAL}
+use Rattle.class_model.specs.declared.instr.Instr.TheVariants.{PutField, Shuffle}
 use Rattle.class_tree.specs.Headers.{headers_of}
 use Rattle.class_tree.specs.Hierarchy.{IsHierarchy}
 use Rattle.flow_code.specs.ReadTypes.{read_frame}
@@ -24,7 +22,6 @@ use Rattle.machine_values.specs.declared.object.Shape.TheVariants.{Folder}
 use Rattle.machine_values.specs.declared.value.Value.TheVariants.{Ref}
 use Rattle.machine_values.specs.declared.value.Value.{Value}
 use Rattle.member_link.specs.Machine.Acting.{act}
-use Rattle.member_link.specs.Machine.CallSteps.{is_object_init}
 use Rattle.member_link.specs.Machine.Codes.{item_op, number_at}
 use Rattle.member_link.specs.Machine.Locals.{form_for}
 use Rattle.member_link.specs.Machine.Programs.{Program, field_of, folder_number, has_flag}
@@ -38,7 +35,7 @@ use Rattle.member_link.specs.Scope.{Scope, scope_at}
 use Rattle.member_link.specs.Signatures.{reference_of}
 use Rattle.plan_flow.specs.Must.{row_of_point}
 use Rattle.plan_flow.specs.PlanRows.{RowEdge, from_place}
-use Rattle.plan_flow.specs.PlanScope.{local_types, member_of}
+use Rattle.plan_flow.specs.PlanScope.{local_types}
 use Rattle.plan_flow.specs.PlanSlots.{held}
 use Rattle.plan_flow.specs.PlanTable.{edges_of}
 use Rattle.plan_flow.specs.Written.Routes.{Route}
@@ -68,6 +65,7 @@ use Rattle.written_runs.specs.Laws.FreshFrames.{fresh_frames_stand}
 use Rattle.written_runs.specs.Laws.KeptMemories.{TurnsGrow, act_kept, step_kept}
 use Rattle.written_runs.specs.Laws.LibraryFrames.{LibraryLaws}
 use Rattle.written_runs.specs.Laws.LibraryTurns.{library_turn}
+use Rattle.written_runs.specs.Laws.ObjectInits.{object_inits}
 use Rattle.written_runs.specs.Laws.OverTurns.{over_keeps}
 use Rattle.written_runs.specs.Laws.OwnCodes.{own_codes}
 use Rattle.written_runs.specs.Laws.OwnFrames.{FrameLaws, ReturnsToPlanned, UnwindsPlanned}
@@ -124,14 +122,6 @@ pub record LeftToShow (u : Setup) : Type 0 where
       (flat_item point.instr))
       → IsInBoth (first u) (second u)
       (item_op u.links (number_at (flat_points u.classes host w.flat)) (instr_scope u.classes host w.flat point.instr) (flat_item point.instr))
-  -- java/lang/Object's constructor is called by invokespecial, without arguments
-  pub object_inits : (at : MethodAt) (w : WrittenMethod) (place : ℕ) (point : Point) (class opcode index count : ℕ) (r : Reference)
-      → u.written at ≡ Some w
-      → slice_get w.flat.points place ≡ Some point
-      → point.instr ≡ Of class (Invoke opcode index count)
-      → member_of (scope_in u w) class index ≡ Some r
-      → is_object_init r ≡ true
-      → (opcode ≡ INVOKESPECIAL) × (parameters_of r.desc ≡ [])
   -- a local unit that is Top, and that an instruction does not store into, is Top behind it
   pub stays_top : (at : MethodAt) (w : WrittenMethod) (place : ℕ) (point : Point) (number : ℕ) (edge : RowEdge) (unit : ℕ) (type : VType)
       → u.written at ≡ Some w
@@ -246,7 +236,7 @@ module _ {u : Setup} (grounds : Grounds u) (laws : RunLaws) where
       conforms = conforms;
       rows_fit = left.rows_fit;
       in_both = left.in_both;
-      object_inits = left.object_inits;
+      object_inits = object_inits u grounds.setup;
     }
 
     template_laws : TemplateLaws u
@@ -262,7 +252,7 @@ module _ {u : Setup} (grounds : Grounds u) (laws : RunLaws) where
       same_forms = left.same_forms;
       not_final = left.not_final;
       object_inits = λ at w place point class opcode index count r written there is names init.
-          (left.object_inits at w place point class opcode index count r written there is names init).1;
+          (object_inits u grounds.setup at w place point class opcode index count r written there is names init).1;
       blanks = blanks_in_first grounds.setup;
     }
 
