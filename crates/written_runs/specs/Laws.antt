@@ -41,6 +41,7 @@ pub mod PendingOperations
 pub mod PlannedTurns
 pub mod RowsGo
 pub mod SameBoth
+pub mod SameForms
 pub mod SettleFromSetup
 pub mod Settling
 pub mod Simulation

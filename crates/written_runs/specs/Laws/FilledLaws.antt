@@ -5,7 +5,7 @@ use Rattle.class_model.specs.Pool.{constant_at}
 use Rattle.class_model.specs.declared.class_file.MethodAt.{MethodAt}
 use Rattle.class_model.specs.declared.frame.VType.TheVariants.{Top}
 use Rattle.class_model.specs.declared.frame.VType.{VType}
-use Rattle.class_model.specs.declared.instr.Instr.TheVariants.{PutField, Shuffle}
+use Rattle.class_model.specs.declared.instr.Instr.TheVariants.{PutField}
 use Rattle.class_tree.specs.Headers.{headers_of}
 use Rattle.class_tree.specs.Hierarchy.{IsHierarchy}
 use Rattle.flow_code.specs.ReadTypes.{read_frame}
@@ -23,14 +23,12 @@ use Rattle.machine_values.specs.declared.value.Value.TheVariants.{Ref}
 use Rattle.machine_values.specs.declared.value.Value.{Value}
 use Rattle.member_link.specs.Machine.Acting.{act}
 use Rattle.member_link.specs.Machine.Codes.{item_op, number_at}
-use Rattle.member_link.specs.Machine.Locals.{form_for}
 use Rattle.member_link.specs.Machine.Programs.{Program, field_of, folder_number, has_flag}
 use Rattle.member_link.specs.Machine.Runs.{turn}
 use Rattle.member_link.specs.Machine.SameRuns.{SameRuns}
 use Rattle.member_link.specs.Machine.Stepping.{is_library_turn, step}
 use Rattle.member_link.specs.Machine.Worlds.{World, start}
 use Rattle.member_link.specs.References.{Reference}
-use Rattle.member_link.specs.Rows.ShuffleRows.{Form, form_in, forms_of}
 use Rattle.member_link.specs.Scope.{Scope, scope_at}
 use Rattle.member_link.specs.Signatures.{reference_of}
 use Rattle.plan_flow.specs.Must.{row_of_point}
@@ -73,6 +71,7 @@ use Rattle.written_runs.specs.Laws.OwnOperations.{own_operations}
 use Rattle.written_runs.specs.Laws.OwnTurns.{TurnLaws, own_turn}
 use Rattle.written_runs.specs.Laws.PlannedTurns.{PlannedParts, planned_turn}
 use Rattle.written_runs.specs.Laws.SameBoth.{begin_alike}
+use Rattle.written_runs.specs.Laws.SameForms.{same_forms}
 use Rattle.written_runs.specs.Laws.SettleFromSetup.{settle_laws}
 use Rattle.written_runs.specs.Laws.Settling.{SettleLaws}
 use Rattle.written_runs.specs.Laws.Simulation.{Parts, runs_the_same}
@@ -131,15 +130,6 @@ pub record LeftToShow (u : Setup) : Type 0 where
       → slice_get (row_of_point (scope_in u w) place point).locals unit ≡ Some (from_place unit)
       → slice_get (local_types w.flat edge.to) unit ≡ Some type
       → type ≡ Top
-  -- the form by which the topmost values are moved is that of their types
-  pub same_forms : (world : World) (f : MethodState) (rest : List RunFrame) (w : WrittenMethod) (point : Point) (class opcode : ℕ) (form : Form)
-      → TypedWorld (first u) u.typings world
-      → world.frames ≡ Method f ∷ rest
-      → u.written f.at ≡ Some w
-      → slice_get w.flat.points f.place ≡ Some point
-      → point.instr ≡ Of class (Shuffle opcode)
-      → form_for (forms_of opcode) f.stack ≡ Some form
-      → form_in (forms_of opcode) point.typed.stack ≡ Some form
   -- a field of the folder that flat code stores into is not final, where it stores into an object of one of its sites
   pub not_final : (world : World) (f : MethodState) (rest : List RunFrame) (w : WrittenMethod) (point : Point) (class index : ℕ)
       (r field : Reference) (number : ℕ) (value : Value) (reference : ℕ) (below : List Value) (object : Object) (of class_number : ℕ) (site : Site)
@@ -249,7 +239,7 @@ module _ {u : Setup} (grounds : Grounds u) (laws : RunLaws) where
       slots = slots_in_first grounds.setup;
       of_library = of_library grounds.setup;
       site_class = λ at w number site written there. site_class grounds.setup grounds.hierarchy at w number site written there;
-      same_forms = left.same_forms;
+      same_forms = same_forms u grounds.setup grounds.typings;
       not_final = left.not_final;
       object_inits = λ at w place point class opcode index count r written there is names init.
           (object_inits u grounds.setup at w place point class opcode index count r written there is names init).1;
