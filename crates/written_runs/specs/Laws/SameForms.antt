@@ -65,7 +65,8 @@ top_is n xs =
     ap (drop (length xs - n)) (reversed n xs)
     ∙ drop_at (reverse (drop n xs)) (reverse (take n xs)) (length xs - n) (length-reverse (drop n xs) ∙ length-drop n xs)
 
-conform_drop : {P : Program} {s : RowScope} {h : Heap} {ts : List VType} {vs : List Value} (n : ℕ) → AllConform P s h ts vs → AllConform P s h (drop n ts) (drop n vs)
+conform_drop : {P : Program} {s : RowScope} {h : Heap} {ts : List VType} {vs : List Value} (n : ℕ) → AllConform P s h ts vs
+    → AllConform P s h (drop n ts) (drop n vs)
 conform_drop zero all = all
 conform_drop (suc n) no_values = no_values
 conform_drop (suc n) (and_value conforms others) = conform_drop n others
@@ -94,10 +95,12 @@ width_conforms w is c = cc
 both_true : (a b : Bool) → a ≡ true → b ≡ true → (a && b) ≡ true
 both_true a b e d = rw e d
 
-widths_conform : {P : Program} {s : RowScope} {h : Heap} (ws : List Width) (ts : List VType) {vs : List Value} → have_widths ws ts ≡ true → AllConform P s h ts vs → fit_widths ws vs ≡ true
+widths_conform : {P : Program} {s : RowScope} {h : Heap} (ws : List Width) (ts : List VType) {vs : List Value} → have_widths ws ts ≡ true
+    → AllConform P s h ts vs → fit_widths ws vs ≡ true
 widths_conform [] [] is no_values = refl
 widths_conform (w ∷ ws) (t ∷ ts) is (and_value {value = v} c others) =
-    both_true (fits_width w v) _ (width_conforms w (and_first (has_width w t) (have_widths ws ts) is) c) (widths_conform ws ts (and_second (has_width w t) (have_widths ws ts) is) others)
+    both_true (fits_width w v) _ (width_conforms w (and_first (has_width w t) (have_widths ws ts) is) c)
+    (widths_conform ws ts (and_second (has_width w t) (have_widths ws ts) is) others)
 widths_conform [] (t ∷ ts) is all = cc
 widths_conform (w ∷ ws) [] is all = cc
 
@@ -128,7 +131,8 @@ fit_drop (suc n) (w ∷ ws) (v ∷ vs) is = fit_drop n ws vs (and_second (fits_w
 fit_drop (suc n) [] (v ∷ vs) is = cc
 fit_drop (suc n) (w ∷ ws) [] is = cc
 
-same_width : (w x : Width) (v : Value) → fits_width w v ≡ true → fits_width x v ≡ true → (ws xs : List Width) → same_widths ws xs ≡ true → same_widths (w ∷ ws) (x ∷ xs) ≡ true
+same_width : (w x : Width) (v : Value) → fits_width w v ≡ true → fits_width x v ≡ true → (ws xs : List Width) → same_widths ws xs ≡ true
+    → same_widths (w ∷ ws) (x ∷ xs) ≡ true
 same_width one one v e d ws xs is = is
 same_width two two v e d ws xs is = is
 same_width one two v e d ws xs is = by (is_wide_value v) refl where
@@ -168,7 +172,8 @@ drop_topmost a b stack enough =
     (ap (λ n. drop n (reverse stack)) (let e : length stack - a + k ≡ length stack - (a - k) = omega (arith, enough) in e) ∙ top_is (a - k) stack))
 
 -- both fit the topmost values: then they agree
-fits_agree : (ws xs : List Width) (stack : List Value) → fit_widths ws (machine.topmost (length ws) stack) ≡ true → fit_widths xs (machine.topmost (length xs) stack) ≡ true
+fits_agree : (ws xs : List Width) (stack : List Value) → fit_widths ws (machine.topmost (length ws) stack) ≡ true
+    → fit_widths xs (machine.topmost (length xs) stack) ≡ true
     → agree ws xs ≡ true
 fits_agree ws xs stack e d =
     let a : ℕ = length ws in
@@ -180,8 +185,10 @@ fits_agree ws xs stack e d =
     let top : machine.topmost (length ws - (length ws - length xs)) stack ≡ machine.topmost (length xs - (length xs - length ws)) stack =
     ap (λ n. machine.topmost n stack) (let m : length ws - (length ws - length xs) ≡ length xs - (length xs - length ws) = omega arith in m) in
     same_of_fit (drop (length ws - length xs) ws) (drop (length xs - length ws) xs) (machine.topmost (length ws - (length ws - length xs)) stack)
-    (subst (λ vs. fit_widths (drop (length ws - length xs) ws) vs ≡ true) (drop_topmost (length ws) (length xs) stack enough) (fit_drop (length ws - length xs) ws _ e))
-    (subst (λ vs. fit_widths (drop (length xs - length ws) xs) vs ≡ true) (drop_topmost (length xs) (length ws) stack enough_other ∙ sym top) (fit_drop (length xs - length ws) xs _ d))
+    (subst (λ vs. fit_widths (drop (length ws - length xs) ws) vs ≡ true) (drop_topmost (length ws) (length xs) stack enough)
+    (fit_drop (length ws - length xs) ws _ e))
+    (subst (λ vs. fit_widths (drop (length xs - length ws) xs) vs ≡ true) (drop_topmost (length xs) (length ws) stack enough_other ∙ sym top)
+    (fit_drop (length xs - length ws) xs _ d))
 
 -- ---- the form that is chosen
 
@@ -189,15 +196,18 @@ not_true : (b : Bool) → not b ≡ true → b ≡ false
 not_true true is = cc
 not_true false is = refl
 
-others_differ : (first : Form) (forms : List Form) (form : Form) (types : List VType) → form_in forms types ≡ Some form → no_other_agrees first forms ≡ true → agree first.takes form.takes ≡ false
+others_differ : (first : Form) (forms : List Form) (form : Form) (types : List VType) → form_in forms types ≡ Some form → no_other_agrees first forms ≡ true
+    → agree first.takes form.takes ≡ false
 others_differ first [] form types is apart = cc
 others_differ first (other ∷ others) form types is apart =
     by (have_widths other.takes (topmost (length other.takes) types)) refl
     (λ e. others_differ first others form types e (and_second (not (agree first.takes other.takes)) (no_other_agrees first others) apart)) where
-      by : (b : Bool) → have_widths other.takes (topmost (length other.takes) types) ≡ b → (form_in others types ≡ Some form → agree first.takes form.takes ≡ false) → agree first.takes form.takes ≡ false
+      by : (b : Bool) → have_widths other.takes (topmost (length other.takes) types) ≡ b
+          → (form_in others types ≡ Some form → agree first.takes form.takes ≡ false) → agree first.takes form.takes ≡ false
       by true e next =
           let same : other ≡ form = some_of (rw e at is) in
-          subst (λ (f : Form). agree first.takes f.takes ≡ false) same (not_true (agree first.takes other.takes) (and_first (not (agree first.takes other.takes)) (no_other_agrees first others) apart))
+          subst (λ (f : Form). agree first.takes f.takes ≡ false) same
+          (not_true (agree first.takes other.takes) (and_first (not (agree first.takes other.takes)) (no_other_agrees first others) apart))
       by false e next = next (rw e at is)
 
 form_found : (forms : List Form) (form : Form) (types : List VType) (stack : List Value) → none_agree forms ≡ true → form_in forms types ≡ Some form
@@ -206,28 +216,35 @@ form_found [] form types stack apart is fits = cc
 form_found (first ∷ others) form types stack apart is fits =
     by (have_widths first.takes (topmost (length first.takes) types)) refl
     (λ e. form_found others form types stack (and_second (no_other_agrees first others) (none_agree others) apart) e fits) where
-      by_fit : (b : Bool) → fit_widths first.takes (machine.topmost (length first.takes) stack) ≡ b → form_in others types ≡ Some form → form_for others stack ≡ Some form → form_for (first ∷ others) stack ≡ Some form
+      by_fit : (b : Bool) → fit_widths first.takes (machine.topmost (length first.takes) stack) ≡ b → form_in others types ≡ Some form
+          → form_for others stack ≡ Some form → form_for (first ∷ others) stack ≡ Some form
       by_fit true e found next =
           let yes : agree first.takes form.takes ≡ true = fits_agree first.takes form.takes stack e fits in
-          let other : agree first.takes form.takes ≡ false = others_differ first others form types found (and_first (no_other_agrees first others) (none_agree others) apart) in
+          let other : agree first.takes form.takes ≡ false = others_differ first others form types found
+          (and_first (no_other_agrees first others) (none_agree others) apart) in
           cc
       by_fit false e found next = rw e next
 
-      by : (b : Bool) → have_widths first.takes (topmost (length first.takes) types) ≡ b → (form_in others types ≡ Some form → form_for others stack ≡ Some form) → form_for (first ∷ others) stack ≡ Some form
+      by : (b : Bool) → have_widths first.takes (topmost (length first.takes) types) ≡ b
+          → (form_in others types ≡ Some form → form_for others stack ≡ Some form) → form_for (first ∷ others) stack ≡ Some form
       by true e next =
           let same : first ≡ form = some_of (rw e at is) in
-          let fit : fit_widths first.takes (machine.topmost (length first.takes) stack) ≡ true = subst (λ (f : Form). fit_widths f.takes (machine.topmost (length f.takes) stack) ≡ true) (sym same) fits in
+          let fit : fit_widths first.takes (machine.topmost (length first.takes) stack) ≡ true = subst
+          (λ (f : Form). fit_widths f.takes (machine.topmost (length f.takes) stack) ≡ true) (sym same) fits in
           rw fit (ap Some same)
       by false e next = by_fit (fit_widths first.takes (machine.topmost (length first.takes) stack)) refl (rw e at is) (next (rw e at is))
 
 -- the widths of the operands are those of the form
-chosen_widths : (forms : List Form) (form : Form) (types : List VType) → form_in forms types ≡ Some form → have_widths form.takes (topmost (length form.takes) types) ≡ true
+chosen_widths : (forms : List Form) (form : Form) (types : List VType) → form_in forms types ≡ Some form
+    → have_widths form.takes (topmost (length form.takes) types) ≡ true
 chosen_widths [] form types is = cc
-chosen_widths (first ∷ others) form types is = by (have_widths first.takes (topmost (length first.takes) types)) refl (λ e. chosen_widths others form types e) where
-  by : (b : Bool) → have_widths first.takes (topmost (length first.takes) types) ≡ b → (form_in others types ≡ Some form → have_widths form.takes (topmost (length form.takes) types) ≡ true)
-      → have_widths form.takes (topmost (length form.takes) types) ≡ true
-  by true e next = let same : first ≡ form = some_of (rw e at is) in subst (λ (f : Form). have_widths f.takes (topmost (length f.takes) types) ≡ true) same e
-  by false e next = next (rw e at is)
+chosen_widths (first ∷ others) form types is = by (have_widths first.takes (topmost (length first.takes) types)) refl
+    (λ e. chosen_widths others form types e) where
+      by : (b : Bool) → have_widths first.takes (topmost (length first.takes) types) ≡ b
+          → (form_in others types ≡ Some form → have_widths form.takes (topmost (length form.takes) types) ≡ true)
+          → have_widths form.takes (topmost (length form.takes) types) ≡ true
+      by true e next = let same : first ≡ form = some_of (rw e at is) in subst (λ (f : Form). have_widths f.takes (topmost (length f.takes) types) ≡ true) same e
+      by false e next = next (rw e at is)
 
 forms_apart : (opcode : ℕ) → none_agree (forms_of opcode) ≡ true
 forms_apart opcode = grind arith
