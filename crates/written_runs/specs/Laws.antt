@@ -31,6 +31,7 @@ pub mod Making
 pub mod MethodsBegin
 pub mod NewOnTop
 pub mod NextEdges
+pub mod ObjectInits
 pub mod OneEffect
 pub mod OverTurns
 pub mod OwnCodes
@@ -41,6 +42,7 @@ pub mod PendingOperations
 pub mod PlannedTurns
 pub mod RowsGo
 pub mod SameBoth
+pub mod SameForms
 pub mod SettleFromSetup
 pub mod Settling
 pub mod Simulation

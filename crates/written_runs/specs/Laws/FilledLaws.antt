@@ -1,13 +1,11 @@
 -- The records of laws that the parts of the theorem go on, from the setup and from what other crates prove.
-use Rattle.std.proofs.Common.{List, Some, [], false, slice_get, true, ℕ, ◌∷◌, ◌≡◌}
-use Rattle.class_model.specs.Descriptors.{parameters_of}
+use Rattle.std.proofs.Common.{List, Some, false, slice_get, true, ℕ, ◌∷◌, ◌≡◌}
 use Rattle.class_model.specs.Members.{FINAL, STATIC}
 use Rattle.class_model.specs.Pool.{constant_at}
 use Rattle.class_model.specs.declared.class_file.MethodAt.{MethodAt}
 use Rattle.class_model.specs.declared.frame.VType.TheVariants.{Top}
 use Rattle.class_model.specs.declared.frame.VType.{VType}
-use Rattle.class_model.specs.declared.instr.Instr.TheVariants.{Invoke, PutField, Shuffle}
-use Rattle.class_model.specs.declared.opcodes.TheConstants.{INVOKESPECIAL}
+use Rattle.class_model.specs.declared.instr.Instr.TheVariants.{PutField}
 use Rattle.class_tree.specs.Headers.{headers_of}
 use Rattle.class_tree.specs.Hierarchy.{IsHierarchy}
 use Rattle.flow_code.specs.ReadTypes.{read_frame}
@@ -24,18 +22,16 @@ use Rattle.machine_values.specs.declared.object.Shape.TheVariants.{Folder}
 use Rattle.machine_values.specs.declared.value.Value.TheVariants.{Ref}
 use Rattle.machine_values.specs.declared.value.Value.{Value}
 use Rattle.member_link.specs.Machine.Acting.{act}
-use Rattle.member_link.specs.Machine.CallSteps.{is_object_init}
-use Rattle.member_link.specs.Machine.Locals.{form_for}
 use Rattle.member_link.specs.Machine.Programs.{Program, field_of, folder_number, has_flag}
 use Rattle.member_link.specs.Machine.SameRuns.{SameRuns}
 use Rattle.member_link.specs.Machine.Stepping.{is_library_turn, step}
 use Rattle.member_link.specs.Machine.Worlds.{World, start}
 use Rattle.member_link.specs.References.{Reference}
-use Rattle.member_link.specs.Rows.ShuffleRows.{Form, form_in, forms_of}
 use Rattle.member_link.specs.Signatures.{reference_of}
 use Rattle.plan_flow.specs.Must.{row_of_point}
 use Rattle.plan_flow.specs.PlanRows.{RowEdge, from_place}
-use Rattle.plan_flow.specs.PlanScope.{local_types, member_of}
+use Rattle.plan_flow.specs.PlanScope.{local_types}
+use Rattle.plan_flow.specs.PlanSlots.{held}
 use Rattle.plan_flow.specs.PlanTable.{edges_of}
 use Rattle.plan_flow.specs.Written.WrittenPrograms.{WrittenMethod}
 use Rattle.same_runs.specs.Flats.{pool_of}
@@ -62,6 +58,7 @@ use Rattle.written_runs.specs.Laws.FreshFrames.{fresh_frames_stand}
 use Rattle.written_runs.specs.Laws.KeptMemories.{TurnsGrow, act_kept, step_kept}
 use Rattle.written_runs.specs.Laws.LibraryFrames.{LibraryLaws}
 use Rattle.written_runs.specs.Laws.LibraryTurns.{library_turn}
+use Rattle.written_runs.specs.Laws.ObjectInits.{object_inits}
 use Rattle.written_runs.specs.Laws.OverTurns.{over_keeps}
 use Rattle.written_runs.specs.Laws.OwnCodes.{own_codes}
 use Rattle.written_runs.specs.Laws.OwnFrames.{FrameLaws, ReturnsToPlanned, UnwindsPlanned}
@@ -69,6 +66,7 @@ use Rattle.written_runs.specs.Laws.OwnOperations.{own_operations}
 use Rattle.written_runs.specs.Laws.OwnTurns.{TurnLaws, own_turn}
 use Rattle.written_runs.specs.Laws.PlannedTurns.{PlannedParts, planned_turn}
 use Rattle.written_runs.specs.Laws.SameBoth.{begin_alike}
+use Rattle.written_runs.specs.Laws.SameForms.{same_forms}
 use Rattle.written_runs.specs.Laws.SettleFromSetup.{settle_laws}
 use Rattle.written_runs.specs.Laws.Settling.{SettleLaws}
 use Rattle.written_runs.specs.Laws.Simulation.{Parts, runs_the_same}
@@ -107,14 +105,6 @@ pub record Grounds (u : Setup) : Type 0 where
 pub record LeftToShow (u : Setup) : Type 0 where
   -- rows fit the types of the flat code
   pub rows_fit : (at : MethodAt) (w : WrittenMethod) → u.written at ≡ Some w → RowsFit (scope_in u w)
-  -- java/lang/Object's constructor is called by invokespecial, without arguments
-  pub object_inits : (at : MethodAt) (w : WrittenMethod) (place : ℕ) (point : Point) (class opcode index count : ℕ) (r : Reference)
-      → u.written at ≡ Some w
-      → slice_get w.flat.points place ≡ Some point
-      → point.instr ≡ Of class (Invoke opcode index count)
-      → member_of (scope_in u w) class index ≡ Some r
-      → is_object_init r ≡ true
-      → (opcode ≡ INVOKESPECIAL) × (parameters_of r.desc ≡ [])
   -- a local unit that is Top, and that an instruction does not store into, is Top behind it
   pub stays_top : (at : MethodAt) (w : WrittenMethod) (place : ℕ) (point : Point) (number : ℕ) (edge : RowEdge) (unit : ℕ) (type : VType)
       → u.written at ≡ Some w
@@ -124,15 +114,6 @@ pub record LeftToShow (u : Setup) : Type 0 where
       → slice_get (row_of_point (scope_in u w) place point).locals unit ≡ Some (from_place unit)
       → slice_get (local_types w.flat edge.to) unit ≡ Some type
       → type ≡ Top
-  -- the form by which the topmost values are moved is that of their types
-  pub same_forms : (world : World) (f : MethodState) (rest : List RunFrame) (w : WrittenMethod) (point : Point) (class opcode : ℕ) (form : Form)
-      → TypedWorld (first u) u.typings world
-      → world.frames ≡ Method f ∷ rest
-      → u.written f.at ≡ Some w
-      → slice_get w.flat.points f.place ≡ Some point
-      → point.instr ≡ Of class (Shuffle opcode)
-      → form_for (forms_of opcode) f.stack ≡ Some form
-      → form_in (forms_of opcode) point.typed.stack ≡ Some form
   -- a field of the folder that flat code stores into is not final, where it stores into an object of one of its sites
   pub not_final : (world : World) (f : MethodState) (rest : List RunFrame) (w : WrittenMethod) (point : Point) (class index : ℕ)
       (r field : Reference) (number : ℕ) (value : Value) (reference : ℕ) (below : List Value) (object : Object) (of class_number : ℕ) (site : Site)
@@ -230,7 +211,7 @@ module _ {u : Setup} (grounds : Grounds u) (laws : RunLaws) where
       rows_fit = left.rows_fit;
       in_both = λ at w host place point route written is_host reached carried_so work.
           flat_in_both grounds.setup laws.fields grounds.hierarchy at w host place point route written is_host reached carried_so;
-      object_inits = left.object_inits;
+      object_inits = object_inits u grounds.setup;
     }
 
     template_laws : TemplateLaws u
@@ -243,10 +224,10 @@ module _ {u : Setup} (grounds : Grounds u) (laws : RunLaws) where
       slots = slots_in_first grounds.setup;
       of_library = of_library grounds.setup;
       site_class = λ at w number site written there. site_class grounds.setup grounds.hierarchy at w number site written there;
-      same_forms = left.same_forms;
+      same_forms = same_forms u grounds.setup grounds.typings;
       not_final = left.not_final;
       object_inits = λ at w place point class opcode index count r written there is names init.
-          (left.object_inits at w place point class opcode index count r written there is names init).1;
+          (object_inits u grounds.setup at w place point class opcode index count r written there is names init).1;
       blanks = blanks_in_first grounds.setup;
     }
 
