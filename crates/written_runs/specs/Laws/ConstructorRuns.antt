@@ -1,7 +1,7 @@
 -- A field constructor gives its object the values that it is given, quietly, class by class from the highest one on.
-use Rattle.std.proofs.Common.{◌≡◌, ◌⊎◌, inl, inr, ◌+◌, ◌-◌, nat_le, ℕ, suc, List, [], ◌∷◌, ◌++◌, bytes_eq, drop, false, true, length, map, replicate, reverse, slice_get, take, Option, Some, None, option_and_then, refl, sym, ap, subst, ◌∙◌, arith}
+use Rattle.std.proofs.Common.{◌≡◌, ◌+◌, ◌-◌, nat_le, ℕ, suc, List, [], ◌∷◌, ◌++◌, bytes_eq, drop, false, true, length, map, replicate, reverse, take, Option, Some, None, option_and_then, refl, sym, ap, subst, ◌∙◌, arith}
 use Rattle.std.proofs.lemmas.List.{append_assoc, drop-drop, length-append, length-map}
-use Rattle.class_model.specs.Descriptors.{parameters_of, type_of}
+use Rattle.class_model.specs.Descriptors.{type_of}
 use Rattle.class_model.specs.Header.{header_of}
 use Rattle.class_model.specs.declared.class_file.ClassFile.{ClassFile}
 use Rattle.class_model.specs.declared.descriptor.FieldType.{FieldType}
@@ -22,10 +22,9 @@ use Rattle.machine_values.specs.declared.value.Value.TheVariants.{Null, Ref}
 use Rattle.making_code.specs.FieldConstructor.{CInstr, call_above, calls_constructor, calls_object, constructor_items, fields_above, loads_from, puts_from, simple, units_of_fields}
 use Rattle.member_link.specs.Machine.Beginnings.{frame_with}
 use Rattle.member_link.specs.Machine.Codes.{special_start}
-use Rattle.member_link.specs.Machine.Completions.{calls}
-use Rattle.member_link.specs.Machine.Ops.{Op, call_special}
-use Rattle.member_link.specs.Machine.Performing.{locking_of, resumed}
-use Rattle.member_link.specs.Machine.Programs.{Code, Links, Program, RunMethod, code_at, code_run, run_method}
+use Rattle.member_link.specs.Machine.Ops.{Op}
+use Rattle.member_link.specs.Machine.Performing.{locking_of}
+use Rattle.member_link.specs.Machine.Programs.{Code, Links, Program, code_at, code_run, run_method}
 use Rattle.member_link.specs.Machine.Runs.{Run}
 use Rattle.member_link.specs.Machine.Work.{arity, work}
 use Rattle.member_link.specs.Machine.Worlds.{Memory}

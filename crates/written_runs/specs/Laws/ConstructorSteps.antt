@@ -1,5 +1,5 @@
 -- The instructions of a field constructor: it loads what it passes on, and stores the fields of its own class.
-use Rattle.std.proofs.Common.{◌≡◌, ◌+◌, nat_le, ℕ, zero, suc, true, List, [], ◌∷◌, ◌++◌, bytes_eq, drop, length, map, reverse, slice_get, slice_set, take, Option, Some, None, option_and_then, option_map, IsTrue, refl, sym, ap, subst, ◌∙◌, arith}
+use Rattle.std.proofs.Common.{◌≡◌, ◌+◌, nat_le, ℕ, true, List, [], ◌∷◌, ◌++◌, drop, length, map, reverse, slice_get, slice_set, take, Option, Some, None, option_and_then, option_map, IsTrue, refl, sym, ap, subst, ◌∙◌, arith}
 use Rattle.std.proofs.lemmas.List.{append_assoc, drop-drop, length-append}
 use Rattle.class_model.specs.Descriptors.{kind_of, type_of, types_before, units_of}
 use Rattle.class_model.specs.Header.{header_of}
@@ -10,7 +10,7 @@ use Rattle.class_model.specs.declared.descriptor.Kind.TheVariants as kinds
 use Rattle.class_model.specs.declared.header.Member.{Member}
 use Rattle.class_model.specs.declared.instr.Imm.TheVariants as imms
 use Rattle.class_model.specs.declared.instr.Instr.TheVariants.{Const, Load}
-use Rattle.class_tree.specs.Headers.{Name, Classes, headers_of}
+use Rattle.class_tree.specs.Headers.{Name, Classes}
 use Rattle.class_tree.specs.Names.{object}
 use Rattle.machine_values.specs.Frames.{MethodState}
 use Rattle.machine_values.specs.Heaps.{object_at}
@@ -21,7 +21,7 @@ use Rattle.machine_values.specs.declared.object.Object.{Object}
 use Rattle.machine_values.specs.declared.object.Shape.TheVariants.{Folder}
 use Rattle.machine_values.specs.declared.value.Value.{Value}
 use Rattle.machine_values.specs.declared.value.Value.TheVariants.{Null, Ref}
-use Rattle.making_code.specs.FieldConstructor.{CInstr, calls_constructor, calls_object, loads_from, puts_field, puts_from, simple}
+use Rattle.making_code.specs.FieldConstructor.{CInstr, calls_object, loads_from, puts_field, puts_from, simple}
 use Rattle.member_link.specs.Machine.Codes.{special_start}
 use Rattle.member_link.specs.Machine.Completions.{gives}
 use Rattle.member_link.specs.Machine.Locals.{local_value}
@@ -38,8 +38,8 @@ use Rattle.same_runs.specs.Laws.QuietCalls.{quiet_gives}
 use Rattle.same_runs.specs.Laws.QuietMoves.{moves_quietly}
 use Rattle.same_runs.specs.QuietMoves.{moved_at, moved_by, moves, pushed}
 use Rattle.same_runs.specs.Simulations.{Quietly, at_once}
-use Rattle.written_runs.specs.Laws.FieldConstructors.{FillsObjects, HasSlot, HasSlots, IsBelowObject, behind_call, calls_highest, filled, filled_there, filled_twice, puts_value, reference_of_constructor}
-use Rattle.written_runs.specs.Laws.GivenValues.{FitTypes, HasUnits, get_behind, get_here, has_units, local_is, push_one, pushed_all, set_middle, types_of}
+use Rattle.written_runs.specs.Laws.FieldConstructors.{HasSlot, HasSlots, IsBelowObject, calls_highest, filled, filled_there, filled_twice, puts_value}
+use Rattle.written_runs.specs.Laws.GivenValues.{FitTypes, HasUnits, get_behind, get_here, has_units, local_is, push_one, set_middle, types_of}
 
 -- ---- where a constructor stands
 

@@ -1,6 +1,6 @@
 -- What goes together behind a turn where some virtual objects are left behind: those of frames that stand no longer, and those that a frame's next state
 -- has not.
-use Rattle.std.proofs.Common.{◌≡◌, ◌≤◌, ◌<◌, ◌+◌, ◌++◌, nat_le, ℕ, suc, Bool, true, false, List, [], ◌∷◌, filter, length, reverse, slice_get, Some, refl, sym, ap, subst, ◌∙◌, arith}
+use Rattle.std.proofs.Common.{◌≡◌, ◌≤◌, ◌<◌, ◌++◌, nat_le, ℕ, suc, Bool, true, false, List, [], ◌∷◌, filter, length, reverse, slice_get, Some, refl, sym, ap, subst, ◌∙◌, arith}
 use Rattle.std.specs.List.{AllByRecursion}
 use Rattle.std.proofs.lemmas.Bool.{le-leb, leb-true}
 use Rattle.std.proofs.lemmas.List.{length-reverse, reverse-append}

@@ -1,7 +1,5 @@
 -- Field constructors: what is asked of a program for them, what they do, and what their calls and stores come to.
-use Rattle.std.proofs.Common.{◌≡◌, ◌+◌, ◌-◌, ◌&&◌, ◌||◌, nat_le, ℕ, zero, suc, Bool, true, false, List, [], ◌∷◌, ◌++◌, bytes_eq, codes, drop, length, map, replicate, reverse, slice_get, slice_set, take, Option, Some, None, option_and_then, IsTrue, refl, sym, ap, subst, ◌∙◌, arith}
-use Rattle.std.proofs.lemmas.Bool.{false≢true}
-use Rattle.std.proofs.lemmas.List.{append-nil, append_assoc, length-append}
+use Rattle.std.proofs.Common.{◌≡◌, ◌+◌, ◌&&◌, ◌||◌, ℕ, Bool, true, false, List, [], ◌∷◌, ◌++◌, bytes_eq, codes, length, reverse, slice_set, Option, Some, IsTrue, refl, ap, ◌∙◌}
 use Rattle.std.proofs.lemmas.Slice.Eq.{bytes_eq-Decides}
 use Rattle.class_model.specs.Descriptors.{kind_of, parameters_of, type_of, types_before}
 use Rattle.class_model.specs.Header.{header_of}
@@ -10,11 +8,8 @@ use Rattle.class_model.specs.Names.{init}
 use Rattle.class_model.specs.declared.class_file.ClassFile.{ClassFile}
 use Rattle.class_model.specs.declared.class_file.MethodAt.{MethodAt}
 use Rattle.class_model.specs.declared.descriptor.FieldType.{FieldType}
-use Rattle.class_model.specs.declared.descriptor.Kind.{Kind}
 use Rattle.class_model.specs.declared.descriptor.Kind.TheVariants as kinds
 use Rattle.class_model.specs.declared.header.Member.{Member}
-use Rattle.class_model.specs.declared.instr.Imm.TheVariants as imms
-use Rattle.class_model.specs.declared.instr.Instr.TheVariants.{Const, Load, Return}
 use Rattle.class_tree.specs.Headers.{Name, Classes, headers_of}
 use Rattle.class_tree.specs.Layouts.{instance_fields, own_fields}
 use Rattle.class_tree.specs.Names.{object, method_handle}
@@ -28,27 +23,21 @@ use Rattle.machine_values.specs.declared.object.Shape.{Shape}
 use Rattle.machine_values.specs.declared.object.Shape.TheVariants.{Folder}
 use Rattle.machine_values.specs.declared.value.Value.{Value}
 use Rattle.machine_values.specs.declared.value.Value.TheVariants.{Null, Ref}
-use Rattle.making_code.specs.FieldConstructor.{CInstr, calls_constructor, calls_object, constructor_items, loads_from, puts_field, puts_from, simple, superclass_of, units_of_fields}
+use Rattle.making_code.specs.FieldConstructor.{superclass_of}
 use Rattle.member_link.specs.Machine.Completions.{calls, gives}
-use Rattle.member_link.specs.Machine.FieldSteps.{put_field_work}
 use Rattle.member_link.specs.Machine.CallSteps.{call_found_special, found_special}
 use Rattle.member_link.specs.Machine.Layouts.{slot_number}
-use Rattle.member_link.specs.Machine.Ops.{Op, call_special, put_field}
-use Rattle.member_link.specs.Machine.Programs.{Code, Links, Point, Program, code_at, field_of, folder_number, has_flag, method_of, name_of_class, place_of_method, point_at, run_method}
+use Rattle.member_link.specs.Machine.Ops.{call_special, put_field}
+use Rattle.member_link.specs.Machine.Programs.{Links, Point, Program, field_of, folder_number, has_flag, method_of, name_of_class, place_of_method, point_at, run_method}
 use Rattle.member_link.specs.Machine.Runs.{Run}
-use Rattle.member_link.specs.Machine.Work.{arity, work}
+use Rattle.member_link.specs.Machine.Work.{work}
 use Rattle.member_link.specs.Machine.Worlds.{Memory, going, with_heap}
 use Rattle.member_link.specs.References.{Reference}
-use Rattle.member_link.specs.RowScope.{RowScope}
-use Rattle.plan_flow.specs.Written.WrittenPrograms.{constructor_code, constructor_method, constructor_point, constructor_scope}
+use Rattle.plan_flow.specs.Written.WrittenPrograms.{constructor_method}
 use Rattle.same_runs.specs.Laws.Objects.{set_here}
-use Rattle.same_runs.specs.Laws.Operations.{WorksOnOperands}
-use Rattle.same_runs.specs.Laws.QuietBeginnings.{quietly_then, standing}
-use Rattle.same_runs.specs.Laws.QuietCalls.{quiet_call, quiet_gives, quiet_return}
-use Rattle.same_runs.specs.Laws.QuietMoves.{moves_quietly}
-use Rattle.same_runs.specs.QuietMoves.{moved_by, moves, pushed}
-use Rattle.same_runs.specs.Simulations.{Quietly, at_once}
-use Rattle.written_runs.specs.Laws.GivenValues.{FitTypes, fit_both, fit_kinds, fit_length, get_behind, get_here, has_units, local_is, operands_back, operands_enough, operands_gone, push_one, pushed_all, set_itself, set_middle, set_twice, types_of, units_append, units_behind}
+use Rattle.same_runs.specs.Laws.QuietBeginnings.{standing}
+use Rattle.same_runs.specs.Simulations.{Quietly}
+use Rattle.written_runs.specs.Laws.GivenValues.{FitTypes, set_itself, set_twice, types_of}
 
 -- ---- what is asked of a program
 

@@ -31,7 +31,6 @@ use Rattle.member_link.specs.Signatures.{reference_of}
 use Rattle.plan_flow.specs.Must.{row_of_point}
 use Rattle.plan_flow.specs.PlanRows.{RowEdge, from_place}
 use Rattle.plan_flow.specs.PlanScope.{local_types}
-use Rattle.plan_flow.specs.PlanSlots.{held}
 use Rattle.plan_flow.specs.PlanTable.{edges_of}
 use Rattle.plan_flow.specs.Written.WrittenPrograms.{WrittenMethod}
 use Rattle.same_runs.specs.Flats.{pool_of}

@@ -1,5 +1,5 @@
 -- The values that a field constructor is given: as the operands of its call, and in its local units.
-use Rattle.std.proofs.Common.{◌≡◌, ◌+◌, ◌&&◌, nat_le, ℕ, zero, suc, Bool, true, false, List, [], ◌∷◌, ◌++◌, drop, length, map, reverse, slice_get, slice_set, take, Option, Some, None, IsTrue, refl, sym, ap, subst, ◌∙◌, arith}
+use Rattle.std.proofs.Common.{◌≡◌, ◌+◌, nat_le, ℕ, zero, suc, true, List, [], ◌∷◌, ◌++◌, drop, length, map, reverse, slice_get, slice_set, take, Option, Some, None, IsTrue, refl, sym, ap, ◌∙◌, arith}
 use Rattle.std.proofs.lemmas.Bool.{false≢true, le-leb}
 use Rattle.std.proofs.lemmas.List.{append_assoc, drop-drop, length-append, length-reverse, reverse-append, reverse-reverse}
 use Rattle.std.proofs.lemmas.Option.{none-some, same_Some}

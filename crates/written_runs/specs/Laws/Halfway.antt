@@ -1,5 +1,5 @@
 -- The second run on its way to where the instruction of the topmost planned frame is next in both: it makes objects and jumps.
-use Rattle.std.proofs.Common.{◌≡◌, ◌==◌, ◌+◌, ℕ, Bool, true, false, List, [], ◌∷◌, length, reverse, slice_get, Some, IsTrue, refl, sym, ap, subst, ◌∙◌, arith}
+use Rattle.std.proofs.Common.{◌≡◌, ◌==◌, ◌+◌, ℕ, Bool, true, false, List, [], ◌∷◌, length, slice_get, Some, IsTrue, refl, sym, ap, subst, ◌∙◌, arith}
 use Rattle.std.proofs.lemmas.Bool.{eq-eqb, false≢true}
 use Rattle.machine_values.specs.Frames.{MethodState}
 use Rattle.machine_values.specs.declared.frame.RunFrame.{RunFrame}
@@ -18,7 +18,7 @@ use Rattle.same_runs.specs.Laws.Names.{held_more, references_more}
 use Rattle.same_runs.specs.Laws.QuietBeginnings.{quietly_then, standing}
 use Rattle.same_runs.specs.Laws.QuietMoves.{moves_quietly}
 use Rattle.same_runs.specs.QuietMoves.{moves}
-use Rattle.same_runs.specs.Renamings.{Names, NamesMore, SameHeld}
+use Rattle.same_runs.specs.Renamings.{Names, SameHeld}
 use Rattle.same_runs.specs.SameMemories.{SameMemories}
 use Rattle.same_runs.specs.SameWorlds.{SameSeen}
 use Rattle.same_runs.specs.Simulations.{Quietly}
@@ -32,9 +32,9 @@ use Rattle.written_runs.specs.Inner.MadeObjects.{BehindMaking, CanBeKept, CanBeS
 use Rattle.written_runs.specs.Inner.PlannedFrames.{Keeps, Known, scope_in}
 use Rattle.written_runs.specs.Inner.Setup.{Setup, first, second}
 use Rattle.written_runs.specs.Inner.Standing.{Stands, apart, comparison, is_awaited}
-use Rattle.written_runs.specs.Laws.StandingMore.{KnowsMore, SameBelow, SameOfFrame, stands_more}
+use Rattle.written_runs.specs.Laws.StandingMore.{KnowsMore, SameBelow, stands_more}
 use Rattle.written_runs.specs.Inner.Together.{AreKnown, AreOwned}
-use Rattle.written_runs.specs.VirtualObjects.{AreApart, HasVirtual, Tells, Virtual, Virtuals}
+use Rattle.written_runs.specs.VirtualObjects.{AreApart, Tells, Virtual, Virtuals}
 
 -- The two runs with a planned frame on top, by a state of the point at which the first frame stands; the second frame is at the item of a number.
 pub record Halfway (u : Setup) (one other : Run) (f : MethodState) (rest : List RunFrame) (w : WrittenMethod) (known : Known) (point : Point)

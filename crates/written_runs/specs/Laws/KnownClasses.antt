@@ -1,5 +1,5 @@
 -- What a state tells of the classes of objects, where the first run stands at a point with the objects that the state has.
-use Rattle.std.proofs.Common.{◌≡◌, ◌⊎◌, ◌+◌, ◌==◌, ℕ, zero, suc, Bool, true, false, List, [], ◌∷◌, ◌++◌, length, map, reverse, slice_get, take, drop, Some, IsTrue, refl, sym, ap, subst, ◌∙◌, arith, inl, inr}
+use Rattle.std.proofs.Common.{◌≡◌, ℕ, zero, suc, Bool, true, false, List, [], ◌∷◌, ◌++◌, length, map, slice_get, take, drop, Some, IsTrue, refl, sym, ap, subst, ◌∙◌}
 use Rattle.std.specs.List.{AllByRecursion}
 use Rattle.std.proofs.lemmas.Bool.{eq-eqb}
 use Rattle.std.proofs.lemmas.Option.{none-some, same_Some}
@@ -11,7 +11,6 @@ use Rattle.machine_values.specs.declared.object.Object.{Object}
 use Rattle.machine_values.specs.declared.object.Shape.{Shape}
 use Rattle.machine_values.specs.declared.object.Shape.TheVariants.{Array, External, Folder}
 use Rattle.machine_values.specs.declared.value.Value.{Value}
-use Rattle.machine_values.specs.declared.value.Value.TheVariants.{Ref}
 use Rattle.member_link.specs.Machine.Runs.{Run}
 use Rattle.plan_flow.specs.Written.WrittenPrograms.{WrittenMethod}
 use Rattle.same_runs.specs.Renamings.{Names}
@@ -32,7 +31,7 @@ use Rattle.written_runs.specs.Inner.Setup.{Setup, first}
 use Rattle.written_runs.specs.Inner.Standing.{apart, comparison}
 use Rattle.written_runs.specs.Laws.StandingMore.{KnowsMore, stands_more}
 use Rattle.written_runs.specs.Inner.Together.{AreKnown}
-use Rattle.written_runs.specs.VirtualObjects.{HasVirtual, RefersTo, TellsObject, Virtual, Virtuals, local_slots, stack_slots}
+use Rattle.written_runs.specs.VirtualObjects.{HasVirtual, RefersTo, TellsObject, Virtual, Virtuals}
 
 -- ---- the classes of virtual objects
 

@@ -1,16 +1,11 @@
 -- What is said of frames where virtual objects of another frame are made, or more references have names, or more classes are known.
-use Rattle.std.proofs.Common.{◌≡◌, ◌≢◌, ◌==◌, ◌&&◌, ◌<◌, ◌+◌, not, ℕ, zero, suc, Bool, true, false, List, [], ◌∷◌, ◌++◌, filter, length, map, reverse, slice_get, Option, Some, None, IsTrue, refl, sym, ap, subst, ◌∙◌, arith}
+use Rattle.std.proofs.Common.{◌≡◌, ◌≢◌, ◌==◌, ◌&&◌, not, ℕ, zero, suc, Bool, true, false, List, [], ◌∷◌, filter, slice_get, Some, refl, sym, ap, subst, ◌∙◌}
 use Rattle.std.specs.List.{AllByRecursion}
-use Rattle.std.proofs.lemmas.Bool.{eq-eqb, eqb-true, false≢true}
+use Rattle.std.proofs.lemmas.Bool.{eqb-true}
 use Rattle.std.proofs.lemmas.Option.{none-some, same_Some}
-use Rattle.class_model.specs.declared.descriptor.FieldType.{FieldType}
-use Rattle.machine_values.specs.Frames.{MethodState}
-use Rattle.machine_values.specs.declared.value.Value.{Value}
 use Rattle.virtual_state.specs.Sites.{has}
-use Rattle.virtual_state.specs.declared.slot.Slot.{Slot}
-use Rattle.virtual_state.specs.declared.slot.Slot.TheVariants.{Plain, Virt, Unusable}
 use Rattle.written_runs.specs.Inner.MadeObjects.{left_of}
-use Rattle.written_runs.specs.VirtualObjects.{AreApart, HasVirtual, IsOther, RefersTo, TellFields, TellsField, TellsObject, Virtual, Virtuals, tells_plain, tells_virtual}
+use Rattle.written_runs.specs.VirtualObjects.{AreApart, HasVirtual, IsOther, Virtual, Virtuals}
 
 -- ---- lists that are filtered
 

@@ -1,5 +1,5 @@
 -- A turn of both where the library's frame is on top of both.
-use Rattle.std.proofs.Common.{◌≡◌, ◌⊎◌, ◌+◌, ◌++◌, ℕ, Bool, true, List, [], ◌∷◌, map, reverse, slice_get, Option, refl, sym, ap, subst, ◌∙◌, inl, inr}
+use Rattle.std.proofs.Common.{◌≡◌, ◌⊎◌, ◌++◌, ℕ, Bool, true, List, [], ◌∷◌, map, reverse, slice_get, Option, refl, sym, ap, subst, ◌∙◌, inl, inr}
 use Rattle.machine_values.specs.Heaps.{Heap}
 use Rattle.machine_values.specs.declared.action.Action.{Action}
 use Rattle.machine_values.specs.declared.frame.RunFrame.TheVariants.{Beginning, Library}

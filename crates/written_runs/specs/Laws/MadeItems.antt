@@ -1,7 +1,6 @@
 -- The instructions of make code among the written items: none of them is one of a class, so that both forms have them alike, and there is one at least.
-use Rattle.std.proofs.Common.{◌≡◌, ◌+◌, ◌<◌, ℕ, zero, suc, Bool, true, false, List, [], ◌∷◌, ◌++◌, length, map, filter, reverse, take, slice_get, Option, Some, None, option_map, IsTrue, refl, sym, ap, subst, ◌∙◌, arith}
+use Rattle.std.proofs.Common.{◌≡◌, ◌+◌, ◌<◌, ℕ, zero, suc, Bool, true, false, List, [], ◌∷◌, ◌++◌, length, map, take, slice_get, Option, Some, None, option_map, IsTrue, refl, sym, ap, subst, ◌∙◌, arith}
 use Rattle.std.specs.List.{AllByRecursion, flat_map}
-use Rattle.std.proofs.lemmas.Bool.{false≢true}
 use Rattle.std.proofs.lemmas.Grind.{flat_map-append}
 use Rattle.std.proofs.lemmas.List.{length-append}
 use Rattle.std.proofs.lemmas.Option.{none-some, same_Some}
@@ -13,9 +12,9 @@ use Rattle.class_model.specs.declared.opcodes.TheConstants.{DUP}
 use Rattle.flow_code.specs.FlatCode.{FlatCode, point_at}
 use Rattle.flow_code.specs.declared.point.Site.{Site}
 use Rattle.making_code.specs.Items.{WInstr, WItem, carried, constructs, item, load, makes, plain, store}
-use Rattle.making_code.specs.MakeCode.{Entry, copy_fields_from, copy_field, copy_local, copy_locals_from, copy_object, enters, entries_at, from_lowest, load_entry, load_field, load_fields_from, local_slots_in, make_code, make_object, make_one, save, saved}
+use Rattle.making_code.specs.MakeCode.{Entry, copy_fields_from, copy_field, copy_local, copy_locals_from, copy_object, enters, entries_at, from_lowest, load_entry, load_fields_from, local_slots_in, make_code, make_object, make_one, save, saved}
 use Rattle.making_code.specs.Units.{object_unit}
-use Rattle.making_code.specs.MakeOrder.{IsMakeOrder, all_made, one_next}
+use Rattle.making_code.specs.MakeOrder.{IsMakeOrder, one_next}
 use Rattle.plan_flow.specs.Laws.WrittenBlocks.{first_item, holds_of_both}
 use Rattle.plan_flow.specs.Written.Finish.{Finished, is_empty}
 use Rattle.plan_flow.specs.Written.WrittenCode.{Form, block_items, in_form, short, wide, widened, written_items}

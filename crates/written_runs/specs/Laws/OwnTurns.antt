@@ -1,5 +1,5 @@
 -- A turn of both where a method that runs its own code in both is on top.
-use Rattle.std.proofs.Common.{◌≡◌, ◌≢◌, ◌+◌, ◌++◌, ℕ, false, List, [], ◌∷◌, map, reverse, slice_get, Some, None, IsTrue, refl, sym, ap, subst, ◌∙◌, arith, inr}
+use Rattle.std.proofs.Common.{◌≡◌, ◌≢◌, ◌++◌, ℕ, false, List, [], ◌∷◌, map, reverse, slice_get, Some, None, IsTrue, refl, sym, ap, subst, ◌∙◌, arith, inr}
 use Rattle.class_model.specs.declared.class_file.MethodAt.{MethodAt}
 use Rattle.machine_values.specs.Frames.{MethodState}
 use Rattle.machine_values.specs.declared.frame.RunFrame.{RunFrame}

@@ -1,25 +1,23 @@
 -- A planned frame that waits for the library asks for the same in both runs: its instruction is written as it is, or in the wide form as the opposite jump,
 -- for which nothing waits.
-use Rattle.std.proofs.Common.{◌≡◌, ◌&&◌, ◌<◌, ◌+◌, ◌++◌, nat_le, ℕ, zero, suc, Bool, true, false, List, [], ◌∷◌, length, map, slice_get, Option, Some, None, option_map, if◌then◌else◌, refl, sym, ap, subst, ◌∙◌, arith}
-use Rattle.std.specs.Prelude.{option_and_then}
+use Rattle.std.proofs.Common.{◌≡◌, ◌&&◌, nat_le, ℕ, Bool, true, false, List, [], ◌∷◌, slice_get, Option, Some, None, if◌then◌else◌, refl, sym, ap, subst, ◌∙◌}
 use Rattle.std.specs.List.{flat_map}
-use Rattle.std.proofs.lemmas.Option.{none-some, same_Some, slice_get-map}
+use Rattle.std.proofs.lemmas.Option.{none-some, same_Some}
 use Rattle.class_model.specs.Pool.{Constants}
 use Rattle.class_model.specs.declared.class_file.ClassFile.{ClassFile}
-use Rattle.class_model.specs.declared.class_file.MethodAt.{MethodAt}
 use Rattle.class_model.specs.declared.instr.Instr.{Instr}
 use Rattle.class_model.specs.declared.instr.Instr.TheVariants.{Goto, If, If2, IfNull, IfSame, Nop}
 use Rattle.class_model.specs.declared.opcodes.TheConstants.{IFEQ, IFLE, IFNONNULL, IFNULL, IF_ACMPEQ, IF_ACMPNE, IF_ICMPEQ, IF_ICMPLE}
 use Rattle.class_tree.specs.Headers.{Classes, Name}
 use Rattle.flow_code.specs.FlatCode.{FlatCode}
 use Rattle.making_code.specs.Items.{WInstr, WItem, ahead, carried, plain}
-use Rattle.member_link.specs.Machine.Acting.{Pending, pending_of}
+use Rattle.member_link.specs.Machine.Acting.{pending_of}
 use Rattle.member_link.specs.Machine.Codes.{if_between, instr_op}
 use Rattle.member_link.specs.Machine.Ops.{Op, jump_by_int, jump_by_ints, jump_by_null, jump_by_references, meaningless}
 use Rattle.member_link.specs.Machine.Programs.{Links}
 use Rattle.member_link.specs.RowScope.{RowScope}
 use Rattle.member_link.specs.Scope.{Scope, row_scope}
-use Rattle.plan_flow.specs.PlanScope.{PlanScope, pool_of, scope_of}
+use Rattle.plan_flow.specs.PlanScope.{pool_of, scope_of}
 use Rattle.plan_flow.specs.Written.Finish.{Finished, finished_items}
 use Rattle.making_code.specs.Opposites.{opposite, opposite_instr}
 use Rattle.plan_flow.specs.Written.WrittenCode.{Form, block_items, jumping_to, short, wide, widened, written_op}

@@ -1,6 +1,5 @@
 -- Each turn of the program with flat codes keeps runs related: so the program with written codes runs the same.
-use Rattle.std.proofs.Common.{◌≡◌, ◌⊎◌, ◌≤◌, ◌-◌, ◌++◌, ℕ, Bool, true, false, List, [], ◌∷◌, length, map, Option, None, refl, sym, ap, subst, ◌∙◌, arith, inl, inr}
-use Rattle.std.proofs.lemmas.Bool.{false≢true}
+use Rattle.std.proofs.Common.{◌≡◌, ◌⊎◌, ◌≤◌, ◌-◌, ◌++◌, ℕ, Bool, true, false, List, [], ◌∷◌, length, map, Option, refl, sym, ap, subst, ◌∙◌, arith, inl, inr}
 use Rattle.std.proofs.lemmas.Option.{none-some}
 use Rattle.machine_values.specs.Frames.{MethodState}
 use Rattle.machine_values.specs.declared.action.Action.{Action}
@@ -17,14 +16,13 @@ use Rattle.same_runs.specs.Laws.QuietCalls.{quiet_keeps}
 use Rattle.same_runs.specs.Laws.Turns.{quietly_shows}
 use Rattle.same_runs.specs.Laws.Simulated.{ends_over_same, ends_same, events_no_more, memories_at_start, none_named, simulated}
 use Rattle.same_runs.specs.Renamings.{Names, SameHeld, no_references, none_held}
-use Rattle.same_runs.specs.SameMemories.{HasOwnConstants, SameMemories}
 use Rattle.same_runs.specs.SameWorlds.{SameSeen, no_events}
 use Rattle.same_runs.specs.Simulations.{Keeps, Quietly, at_once}
 use Rattle.typed_runs.specs.TypedFrames.{FramesConform, nothing_awaited}
 use Rattle.typed_runs.specs.TypedWorlds.{TypedWorld}
 use Rattle.written_runs.specs.Inner.PlannedFrames.{InPlanned, Known}
 use Rattle.written_runs.specs.Inner.Setup.{Setup, first, second}
-use Rattle.written_runs.specs.Inner.Standing.{InOwn, Stands, apart, beginnings_stand, comparison, libraries_stand, none_stand, own_stand, planned_stand, is_awaited}
+use Rattle.written_runs.specs.Inner.Standing.{InOwn, Stands, beginnings_stand, comparison, libraries_stand, none_stand, own_stand, planned_stand, is_awaited}
 use Rattle.written_runs.specs.Inner.Together.{IsSettled, Over, Related, Together, TopIsSettled, points_left, weight}
 use Rattle.written_runs.specs.VirtualObjects.{Virtuals}
 

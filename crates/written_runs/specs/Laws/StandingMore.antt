@@ -1,5 +1,5 @@
 -- Frames that go together do so under more names, with more known classes, and where virtual objects of frames above them are made.
-use Rattle.std.proofs.Common.{◌≡◌, ◌≢◌, ◌≤◌, ◌<◌, ◌+◌, ℕ, suc, Bool, true, false, List, [], ◌∷◌, ◌++◌, length, reverse, slice_get, Some, IsTrue, refl, sym, ap, subst, ◌∙◌, arith}
+use Rattle.std.proofs.Common.{◌<◌, ℕ, Bool, List, [], ◌∷◌, length, reverse, refl, arith}
 use Rattle.std.proofs.lemmas.Bool.{false≢true}
 use Rattle.class_model.specs.declared.descriptor.FieldType.{FieldType}
 use Rattle.flow_code.specs.FlatCode.{FlatCode}
@@ -12,14 +12,14 @@ use Rattle.plan_flow.specs.PlanScope.{PlanScope}
 use Rattle.plan_flow.specs.Written.Blocks.{Block}
 use Rattle.plan_flow.specs.Written.WrittenPrograms.{WrittenMethod}
 use Rattle.same_runs.specs.Laws.Names.{held_more, units_more, value_more, values_more}
-use Rattle.same_runs.specs.Renamings.{Names, NamesMore, SameHeld, SameValue, SameValues}
+use Rattle.same_runs.specs.Renamings.{Names, NamesMore}
 use Rattle.virtual_state.specs.States.{State}
 use Rattle.virtual_state.specs.declared.slot.Slot.{Slot}
 use Rattle.virtual_state.specs.declared.slot.Slot.TheVariants.{Plain, Virt, Unusable}
 use Rattle.virtual_state.specs.declared.slot.VObject.{VObject}
 use Rattle.written_runs.specs.Inner.PlannedFrames.{InPlanned, IsKnown, IsMet, IsOfSite, KeepStack, Keeps, KeptIn, Known, Moment, arrives, stays, waits}
-use Rattle.written_runs.specs.Inner.Setup.{Setup, first}
-use Rattle.written_runs.specs.Inner.Standing.{InOwn, IsWaiting, Stands, beginnings_stand, libraries_stand, none_stand, own_stand, planned_stand}
+use Rattle.written_runs.specs.Inner.Setup.{Setup}
+use Rattle.written_runs.specs.Inner.Standing.{IsWaiting, Stands, beginnings_stand, libraries_stand, none_stand, own_stand, planned_stand}
 use Rattle.written_runs.specs.VirtualObjects.{HasVirtual, RefersTo, TellFields, Tells, TellsField, TellsObject, Virtual, Virtuals, tells_plain, tells_virtual}
 
 -- ---- one frame

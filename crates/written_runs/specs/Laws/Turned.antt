@@ -1,17 +1,17 @@
 -- A turn of the first run at a planned frame, beside which the second run makes moves, jumps and pushes in its own frame alone: quietly, and the last
 -- one as the turn of both; or none, where the first goes on to a later point.
-use Rattle.std.proofs.Common.{◌≡◌, ◌⊎◌, ◌≤◌, ◌<◌, ◌+◌, ◌-◌, ℕ, zero, suc, List, [], ◌∷◌, length, Some, None, Option, slice_get, option_and_then, refl, sym, ap, subst, ◌∙◌, arith, inl, inr}
+use Rattle.std.proofs.Common.{◌≡◌, ◌≤◌, ◌<◌, ◌+◌, ℕ, zero, suc, List, [], ◌∷◌, Some, None, Option, slice_get, option_and_then, refl, sym, ap, subst, ◌∙◌, inl, inr}
 use Rattle.std.proofs.lemmas.Option.{none-some, same_Some}
 use Rattle.machine_values.specs.Frames.{MethodState}
 use Rattle.machine_values.specs.declared.frame.RunFrame.{RunFrame}
 use Rattle.machine_values.specs.declared.frame.RunFrame.TheVariants.{Method}
 use Rattle.member_link.specs.Machine.Programs.{Code, Point, code_at}
 use Rattle.member_link.specs.Machine.Runs.{Run, turn}
-use Rattle.member_link.specs.Machine.Worlds.{Memory, going}
+use Rattle.member_link.specs.Machine.Worlds.{going}
 use Rattle.same_runs.specs.Laws.QuietBeginnings.{standing}
 use Rattle.same_runs.specs.Laws.QuietMoves.{moved_turn, moves_in_method, moves_quietly}
 use Rattle.same_runs.specs.QuietMoves.{moved_at, moved_by, moves}
-use Rattle.same_runs.specs.Simulations.{Keeps, Quietly, at_once}
+use Rattle.same_runs.specs.Simulations.{Quietly, at_once}
 use Rattle.written_runs.specs.Laws.Settling.{SettleLaws, settles}
 use Rattle.written_runs.specs.Inner.Setup.{Setup, first, second}
 use Rattle.written_runs.specs.Laws.Simulation.{KeepsTurn}

@@ -1,9 +1,7 @@
 -- A planned frame that waits below others: where something thrown reaches it, it lands in a handler in both, and behind a result it arrives at the
 -- block behind its instruction.
-use Rattle.std.proofs.Common.{◌≡◌, ◌+◌, ◌-◌, ◌++◌, ◌&&◌, nat_le, ℕ, suc, Bool, true, false, List, [], ◌∷◌, filter, length, reverse, slice_get, take, Some, refl, sym, ap, subst, ◌∙◌, arith}
+use Rattle.std.proofs.Common.{◌≡◌, ◌+◌, ◌-◌, ◌++◌, ◌&&◌, nat_le, ℕ, suc, Bool, true, false, List, [], ◌∷◌, filter, length, reverse, take, refl, sym, ap, subst, ◌∙◌, arith}
 use Rattle.std.proofs.lemmas.List.{length-reverse, reverse-append, reverse-reverse, take_all}
-use Rattle.class_model.specs.declared.frame.VType.{VType}
-use Rattle.flow_code.specs.declared.point.Point.{Point}
 use Rattle.machine_values.specs.Frames.{MethodState}
 use Rattle.machine_values.specs.Heaps.{Heap}
 use Rattle.machine_values.specs.declared.frame.RunFrame.{RunFrame}
@@ -13,17 +11,12 @@ use Rattle.member_link.specs.Machine.Performing.{resumed}
 use Rattle.member_link.specs.Machine.Programs.{Catch}
 use Rattle.plan_flow.specs.Laws.WrittenBlocks.{first_item, own_number}
 use Rattle.plan_flow.specs.Must.{row_of_point}
-use Rattle.plan_flow.specs.PlanRows.{Source}
 use Rattle.plan_flow.specs.PlanScope.{PlanScope}
-use Rattle.plan_flow.specs.PlanSlots.{is_open}
-use Rattle.plan_flow.specs.PlanTable.{falls_on}
-use Rattle.plan_flow.specs.ReadyForPlans.{KeepsType, place_types}
 use Rattle.plan_flow.specs.Written.Blocks.{state_written}
 use Rattle.plan_flow.specs.declared.edge.EdgeKind.TheVariants as edges
 use Rattle.same_runs.specs.Laws.Names.{names_themselves}
 use Rattle.same_runs.specs.Renamings.{Names, SameValues}
 use Rattle.same_runs.specs.SameFrames.{SameCatches, and_catch, catches_at, no_catches}
-use Rattle.virtual_state.specs.States.{State}
 use Rattle.written_runs.specs.Inner.PlannedFrames.{KeepStack, Known, blocks_in, scope_in}
 use Rattle.written_runs.specs.Inner.Setup.{Setup, first, second}
 use Rattle.written_runs.specs.Inner.Standing.{Stands, is_awaited}

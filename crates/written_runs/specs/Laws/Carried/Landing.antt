@@ -22,13 +22,12 @@ use Rattle.member_link.specs.Machine.Replaced.{map_numbered}
 use Rattle.member_link.specs.Scope.{Scope, scope_at}
 use Rattle.plan_flow.specs.Laws.WrittenBlocks.{first_item}
 use Rattle.plan_flow.specs.Must.{row_of_point}
-use Rattle.plan_flow.specs.PlanRows.{Guard, RowEdge, Source, from_place, plain_value}
+use Rattle.plan_flow.specs.PlanRows.{RowEdge, Source, from_place, plain_value}
 use Rattle.plan_flow.specs.PlanScope.{PlanScope, local_types, stack_types}
-use Rattle.plan_flow.specs.PlanSlots.{edge_locals, is_open}
+use Rattle.plan_flow.specs.PlanSlots.{edge_locals}
 use Rattle.plan_flow.specs.PlanTable.{held_from}
 use Rattle.plan_flow.specs.ReadyForPlans.{KeepsType, place_types}
 use Rattle.plan_flow.specs.Written.Blocks.{state_written}
-use Rattle.plan_flow.specs.Written.Routes.{Route}
 use Rattle.plan_flow.specs.Written.Templates.{catches_at as written_catches, catches_from, to_or_pad}
 use Rattle.plan_flow.specs.Written.WrittenCode.{target_number, written_catch}
 use Rattle.plan_flow.specs.declared.edge.EdgeKind.TheVariants as edges

@@ -1,5 +1,5 @@
 -- Arithmetic: no operand of it is a reference, so its operands are plain.
-use Rattle.std.proofs.Common.{◌≡◌, ◌≤◌, ◌<◌, ◌+◌, ◌-◌, ◌++◌, ◌==◌, ◌&&◌, ℕ, zero, suc, Bool, true, false, List, [], ◌∷◌, length, map, reverse, slice_get, take, Option, Some, None, if◌then◌else◌, refl, sym, ap, subst, ◌∙◌, arith}
+use Rattle.std.proofs.Common.{◌≡◌, ◌≤◌, ◌<◌, ◌==◌, ℕ, zero, suc, Bool, true, false, List, [], ◌∷◌, length, slice_get, Option, Some, None, if◌then◌else◌, refl, sym, ap, subst, ◌∙◌, arith}
 use Rattle.std.specs.List.{AllByRecursion, list_any}
 use Rattle.std.proofs.lemmas.Bool.{eqb-true}
 use Rattle.std.proofs.lemmas.Option.{none-some, same_Some}
@@ -14,9 +14,9 @@ use Rattle.machine_values.specs.declared.value.Value.TheVariants.{Int, Long, Flo
 use Rattle.member_link.specs.Machine.Arithmetic.{Meaning, MeaningRow, divide_meanings, int_to_long, long_to_int, longs_to_int, meaning_in, of_int, of_ints, of_long, of_long_and_int, of_longs, operands_of, pure_meanings, result_by}
 use Rattle.member_link.specs.Machine.Codes.{instr_op}
 use Rattle.member_link.specs.Machine.Completions.{Asked, asks, ends}
-use Rattle.member_link.specs.Machine.Ops.{Op, division, float_arithmetic, pure_arithmetic}
+use Rattle.member_link.specs.Machine.Ops.{division, float_arithmetic, pure_arithmetic}
 use Rattle.member_link.specs.Machine.Programs.{Program}
-use Rattle.member_link.specs.Machine.Work.{arithmetic_work, arity, division_work, float_work, of_result, work}
+use Rattle.member_link.specs.Machine.Work.{arithmetic_work, arity, float_work, of_result}
 use Rattle.member_link.specs.Machine.Worlds.{Memory, stuck}
 use Rattle.member_link.specs.RowScope.{RowScope}
 use Rattle.member_link.specs.Rows.ArithmeticRows.{Operation, divide_operations, float_operations, operation_in, pure_operations}
@@ -27,9 +27,9 @@ use Rattle.plan_flow.specs.Written.Blocks.{state_written}
 use Rattle.plan_flow.specs.Written.Routes.{Route}
 use Rattle.same_runs.specs.SameWorlds.{IsThrowing}
 use Rattle.virtual_state.specs.States.{State}
-use Rattle.written_runs.specs.Laws.Carried.Rows.{IsFolderObject, PlainRow, never_throws}
-use Rattle.written_runs.specs.Laws.Carried.SimpleFits.{FitsHere, OpFits, asking_row, moving_row, throws_each, works_to}
-use Rattle.written_runs.specs.Laws.Carried.StuckFits.{GetsStuck, stuck_on_each}
+use Rattle.written_runs.specs.Laws.Carried.Rows.{PlainRow, never_throws}
+use Rattle.written_runs.specs.Laws.Carried.SimpleFits.{FitsHere, OpFits, asking_row, moving_row, throws_each}
+use Rattle.written_runs.specs.Laws.Carried.StuckFits.{stuck_on_each}
 
 -- ---- results
 

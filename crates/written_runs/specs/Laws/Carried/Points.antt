@@ -1,11 +1,9 @@
 -- What stands in both codes for an instruction that is written as it is and does not jump: the same operation.
-use Rattle.std.proofs.Common.{◌≡◌, ◌+◌, ◌++◌, ℕ, suc, Bool, true, false, List, [], ◌∷◌, drop, length, map, slice_get, Option, Some, None, option_and_then, option_map, refl, sym, ap, subst, ◌∙◌, arith}
-use Rattle.std.specs.List.{flat_map}
-use Rattle.std.proofs.lemmas.Option.{same_Some, slice_get-map}
+use Rattle.std.proofs.Common.{◌≡◌, ◌+◌, ◌++◌, ℕ, suc, false, List, [], ◌∷◌, drop, length, map, slice_get, Option, Some, None, option_and_then, option_map, refl, sym, ap, ◌∙◌, arith}
+use Rattle.std.proofs.lemmas.Option.{slice_get-map}
 use Rattle.class_model.specs.Instructions.{targets}
 use Rattle.class_model.specs.Pool.{Constants}
 use Rattle.class_model.specs.declared.class_file.ClassFile.{ClassFile}
-use Rattle.class_model.specs.declared.class_file.MethodAt.{MethodAt}
 use Rattle.class_model.specs.declared.instr.Instr.{Instr}
 use Rattle.class_model.specs.declared.instr.Instr.TheVariants.{Nop, Const, Ldc, Ldc2, Load, Store, Iinc, ArrayLoad, ArrayStore, Shuffle, Pure, Divide, FloatAsk, If, If2, IfSame, IfNull, Goto, Table, Lookup, Return, GetStatic, PutStatic, GetField, PutField, Invoke, Dynamic, New, NewArray, NewRefArray, NewMulti, Length, Throw, Cast, InstanceOf, Enter, Leave}
 use Rattle.class_tree.specs.Headers.{Classes}
@@ -15,22 +13,20 @@ use Rattle.flow_code.specs.declared.point.FlatInstr.TheVariants.{Of}
 use Rattle.flow_code.specs.declared.point.Point.{Point}
 use Rattle.machine_values.specs.Frames.{MethodState}
 use Rattle.making_code.specs.Items.{WItem, carried}
-use Rattle.member_link.specs.Machine.Codes.{instr_op, item_op, number_at, renumbered, run_point}
-use Rattle.member_link.specs.Machine.Ops.{Op}
-use Rattle.member_link.specs.Machine.Programs.{Code, Links, Point as RunPoint, code_at, point_at}
-use Rattle.member_link.specs.RowScope.{RowScope}
-use Rattle.member_link.specs.Scope.{Scope, row_scope, scope_at}
+use Rattle.member_link.specs.Machine.Codes.{instr_op, item_op, number_at, run_point}
+use Rattle.member_link.specs.Machine.Programs.{Code, Links, code_at, point_at}
+use Rattle.member_link.specs.Scope.{Scope, row_scope}
 use Rattle.plan_flow.specs.Laws.WrittenBlocks.{block_finished, first_item, next_starts, own_number, own_of}
 use Rattle.plan_flow.specs.PlanScope.{PlanScope, pool_of as written_pool}
 use Rattle.plan_flow.specs.PlanTable.{targets_at}
-use Rattle.plan_flow.specs.Written.Blocks.{Block, blocks_of, instruction_block, is_decided, leaves_to, state_written}
+use Rattle.plan_flow.specs.Written.Blocks.{Block, blocks_of, instruction_block, is_decided, leaves_to}
 use Rattle.plan_flow.specs.Written.Finish.{End, Finished, end_items, end_of, finish, is_empty, no_end}
 use Rattle.plan_flow.specs.Written.Routes.{Route}
-use Rattle.plan_flow.specs.Written.Templates.{as_it_is, catches_at as written_catches, is_folded, items_at, jump_targets}
+use Rattle.plan_flow.specs.Written.Templates.{catches_at as written_catches, jump_targets}
 use Rattle.making_code.specs.Opposites.{opposite_instr}
-use Rattle.plan_flow.specs.Written.WrittenCode.{Form, block_items, in_form, jumping_to, short, target_number, wide, widened, written_catch, written_op, written_point}
+use Rattle.plan_flow.specs.Written.WrittenCode.{Form, block_items, in_form, jumping_to, short, target_number, wide, written_op, written_point}
 use Rattle.plan_flow.specs.Written.WrittenPrograms.{WrittenMethod}
-use Rattle.same_runs.specs.Flats.{flat_catch, flat_code, flat_item, flat_point, flat_points, host_scope, instr_scope, pool_of}
+use Rattle.same_runs.specs.Flats.{flat_code, flat_item, flat_point, flat_points, host_scope, instr_scope, pool_of}
 use Rattle.same_runs.specs.Laws.Numbered.{slice_numbered}
 use Rattle.written_runs.specs.Inner.PlannedFrames.{IsCarried, IsReached, blocks_in, scope_in}
 use Rattle.written_runs.specs.Inner.Setup.{Setup, first, second}

@@ -1,16 +1,13 @@
 -- A return out of a planned frame: its virtual objects are over with it, and its result, which is plain, goes to the frame below.
-use Rattle.std.proofs.Common.{◌≡◌, ◌≤◌, ◌<◌, ◌+◌, ◌-◌, ◌++◌, ℕ, zero, suc, Bool, true, false, List, [], ◌∷◌, drop, length, slice_get, take, Option, Some, None, refl, sym, ap, subst, ◌∙◌, arith}
+use Rattle.std.proofs.Common.{◌≡◌, ◌≤◌, ◌-◌, ℕ, Bool, true, false, List, [], ◌∷◌, drop, length, slice_get, take, Option, Some, None, refl, sym, ap, subst, ◌∙◌, arith}
 use Rattle.class_model.specs.Descriptors.{kind_of}
 use Rattle.class_model.specs.declared.descriptor.FieldType.{FieldType}
 use Rattle.class_model.specs.declared.descriptor.Kind.{Kind}
 use Rattle.class_model.specs.declared.instr.Instr.TheVariants.{Return}
-use Rattle.flow_code.specs.declared.point.FlatInstr.{FlatInstr}
 use Rattle.flow_code.specs.declared.point.FlatInstr.TheVariants.{Of}
 use Rattle.flow_code.specs.declared.point.Point.{Point}
 use Rattle.machine_values.specs.Frames.{MethodState}
 use Rattle.machine_values.specs.Values.{has_kind}
-use Rattle.machine_values.specs.declared.frame.RunFrame.{RunFrame}
-use Rattle.machine_values.specs.declared.frame.RunFrame.TheVariants.{Method}
 use Rattle.machine_values.specs.declared.value.Value.{Value}
 use Rattle.member_link.specs.Machine.Codes.{return_op, same_kind as same_kinds}
 use Rattle.member_link.specs.Machine.Ops.{Op, meaningless, return_nothing, return_value}
@@ -28,20 +25,18 @@ use Rattle.plan_flow.specs.Written.WrittenPrograms.{WrittenMethod}
 use Rattle.same_runs.specs.Flats.{instr_scope}
 use Rattle.same_runs.specs.Laws.BothBegin.{counted}
 use Rattle.same_runs.specs.Laws.Moves.{same_kind}
-use Rattle.same_runs.specs.Laws.Names.{names_themselves}
 use Rattle.same_runs.specs.Laws.Returned.{returned_same, returned_value_same}
-use Rattle.same_runs.specs.Renamings.{SameValue, SameValues, and_value, no_values}
+use Rattle.same_runs.specs.Renamings.{SameValues, and_value, no_values}
 use Rattle.same_runs.specs.SameFrames.{EndSame}
 use Rattle.same_runs.specs.SameWorlds.{Comparison, Returns, SameAfter, SameSeen}
 use Rattle.same_runs.specs.Simulations.{at_once}
 use Rattle.virtual_state.specs.States.{State}
-use Rattle.virtual_state.specs.declared.slot.Slot.TheVariants.{Virt}
 use Rattle.same_runs.specs.Laws.MethodPoints.{ends_there}
 use Rattle.written_runs.specs.Inner.PlannedFrames.{scope_in}
 use Rattle.written_runs.specs.Inner.Setup.{Setup, first, second}
 use Rattle.written_runs.specs.Laws.Carried.CarriedOps.{OpOf, not_stuck_there}
 use Rattle.written_runs.specs.Laws.Carried.Knowing.{CarriedLaws}
-use Rattle.written_runs.specs.Laws.Carried.Operands.{AreReal, HaveOperands, have_operands}
+use Rattle.written_runs.specs.Laws.Carried.Operands.{AreReal, have_operands}
 use Rattle.written_runs.specs.Laws.Carried.Planned.{carried_here, known_here, knowing_here, own_start}
 use Rattle.written_runs.specs.Laws.Carried.PlannedEdges.{asks_none, slots_long}
 use Rattle.written_runs.specs.Laws.Carried.Rows.{asked_plain, real_operands}

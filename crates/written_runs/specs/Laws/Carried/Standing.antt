@@ -1,16 +1,15 @@
 -- Where the second run stands at the block of an instruction, and what is written there.
-use Rattle.std.proofs.Common.{◌≡◌, ◌+◌, ◌<◌, ◌++◌, ℕ, suc, List, [], ◌∷◌, drop, length, map, slice_get, Option, Some, None, option_and_then, option_map, refl, sym, ap, subst, ◌∙◌, arith}
+use Rattle.std.proofs.Common.{◌≡◌, ◌+◌, ℕ, suc, List, [], ◌∷◌, drop, length, slice_get, Option, Some, option_and_then, option_map, refl, sym, ap, ◌∙◌}
 use Rattle.std.proofs.lemmas.Option.{same_Some, slice_get_within}
-use Rattle.class_model.specs.declared.class_file.MethodAt.{MethodAt}
 use Rattle.flow_code.specs.declared.point.Point.{Point}
 use Rattle.machine_values.specs.Frames.{MethodState}
 use Rattle.making_code.specs.Items.{WItem}
-use Rattle.member_link.specs.Machine.Programs.{Code, Point as RunPoint, code_at, point_at}
+use Rattle.member_link.specs.Machine.Programs.{Code, code_at, point_at}
 use Rattle.member_link.specs.Scope.{Scope, scope_at}
 use Rattle.plan_flow.specs.Laws.WrittenBlocks.{block_finished, blocks_left, first_block, first_item, own_first, own_number, own_of}
 use Rattle.plan_flow.specs.PlanScope.{PlanScope}
-use Rattle.plan_flow.specs.Written.Blocks.{Block, BlockOf, blocks_of, instruction_block}
-use Rattle.plan_flow.specs.Written.Finish.{End, Finished, end_of, finish}
+use Rattle.plan_flow.specs.Written.Blocks.{Block, blocks_of, instruction_block}
+use Rattle.plan_flow.specs.Written.Finish.{Finished, end_of, finish}
 use Rattle.plan_flow.specs.Written.Routes.{Route}
 use Rattle.plan_flow.specs.Written.WrittenCode.{block_items, written_code, written_items, written_point}
 use Rattle.plan_flow.specs.Written.WrittenPrograms.{WrittenMethod}

@@ -25,7 +25,6 @@ use Rattle.plan_flow.specs.PlanTable.{operand, positions, value_stored}
 use Rattle.plan_flow.specs.ReadyForPlans.{place_types}
 use Rattle.plan_flow.specs.Written.Blocks.{state_written}
 use Rattle.plan_flow.specs.Written.Routes.{Route}
-use Rattle.same_runs.specs.SameWorlds.{IsThrowing}
 use Rattle.virtual_state.specs.States.{State}
 use Rattle.virtual_state.specs.declared.slot.Slot.TheVariants.{Virt}
 use Rattle.written_runs.specs.Inner.Waiting.{ThrowsThere}

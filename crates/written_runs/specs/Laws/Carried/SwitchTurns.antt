@@ -1,27 +1,21 @@
 -- tableswitch and lookupswitch: both frames jump by the same key to the same of the targets.
-use Rattle.std.proofs.Common.{◌≡◌, ◌≤◌, ◌<◌, ◌+◌, ◌-◌, ◌++◌, not, ℕ, ℤ, int_lt, zero, suc, Bool, true, false, List, [], ◌∷◌, drop, length, map, slice_get, take, Option, Some, None, option_and_then, option_map, if◌then◌else◌, refl, sym, ap, subst, ◌∙◌, arith}
+use Rattle.std.proofs.Common.{◌≡◌, ◌≤◌, ◌+◌, ◌-◌, not, ℕ, ℤ, int_lt, zero, suc, Bool, true, false, List, [], ◌∷◌, drop, length, map, slice_get, take, Option, Some, None, option_and_then, option_map, if◌then◌else◌, refl, sym, ap, subst, ◌∙◌, arith}
 use Rattle.std.specs.Int.{int_gap}
 use Rattle.std.proofs.lemmas.List.{length-map}
 use Rattle.std.proofs.lemmas.Option.{none-some, same_Some, slice_get-map, slice_get_within}
 use Rattle.class_model.specs.Instructions.{targets}
-use Rattle.class_model.specs.declared.instr.Instr.{Instr}
-use Rattle.class_model.specs.declared.instr.Instr.TheVariants.{Lookup, Table}
 use Rattle.class_model.specs.declared.instr.Pair.{Pair}
-use Rattle.flow_code.specs.declared.point.FlatInstr.{FlatInstr}
-use Rattle.flow_code.specs.declared.point.FlatInstr.TheVariants.{Of}
 use Rattle.flow_code.specs.declared.point.Point.{Point}
 use Rattle.machine_values.specs.Frames.{MethodState}
 use Rattle.machine_values.specs.declared.frame.RunFrame.{RunFrame}
 use Rattle.machine_values.specs.declared.value.Value.{Value}
 use Rattle.machine_values.specs.declared.value.Value.TheVariants.{Int, Long, Float, Double, Null, Ref}
-use Rattle.making_code.specs.Items.{WItem, WTarget, carried, to_jump_pad, to_point}
-use Rattle.member_link.specs.Machine.Codes.{instr_op, item_op}
+use Rattle.making_code.specs.Items.{WItem, to_jump_pad, to_point}
+use Rattle.member_link.specs.Machine.Codes.{instr_op}
 use Rattle.member_link.specs.Machine.Locals.{lookup_target, table_target}
-use Rattle.member_link.specs.Machine.Ops.{Op, lookup_switch, table_switch}
 use Rattle.member_link.specs.Machine.Programs.{Point as RunPoint, Program}
 use Rattle.member_link.specs.Machine.Runs.{Run}
 use Rattle.member_link.specs.Machine.Stepping.{ends_stuck, op_step, switch_step, with_top}
-use Rattle.member_link.specs.Machine.Worlds.{World}
 use Rattle.plan_flow.specs.Laws.WrittenBlocks.{first_item}
 use Rattle.plan_flow.specs.Must.{row_of_point}
 use Rattle.plan_flow.specs.PlanRows.{PlanRow}
@@ -32,11 +26,11 @@ use Rattle.plan_flow.specs.Written.Blocks.{is_decided, state_written}
 use Rattle.plan_flow.specs.Written.Routes.{Route}
 use Rattle.plan_flow.specs.Written.Templates.{jump_target, jump_targets, to_or_pad}
 use Rattle.making_code.specs.Opposites.{opposite_instr}
-use Rattle.plan_flow.specs.Written.WrittenCode.{Form, carried_scope, in_form, jumping_to, pairs_to, short, target_number, wide, written_op, written_point}
+use Rattle.plan_flow.specs.Written.WrittenCode.{Form, carried_scope, in_form, jumping_to, pairs_to, short, target_number, wide, written_point}
 use Rattle.plan_flow.specs.declared.edge.EdgeKind.TheVariants as edges
 use Rattle.same_runs.specs.Laws.BothBegin.{counted}
 use Rattle.same_runs.specs.QuietMoves.{moved_at, moved_by, moves, switched}
-use Rattle.same_runs.specs.Renamings.{SameValue, SameValues, and_value, same_int}
+use Rattle.same_runs.specs.Renamings.{SameValues, and_value, same_int}
 use Rattle.plan_flow.specs.Written.WrittenPrograms.{WrittenMethod}
 use Rattle.virtual_state.specs.States.{State}
 use Rattle.virtual_state.specs.declared.slot.Slot.TheVariants.{Virt}

@@ -1,5 +1,5 @@
 -- What a planned frame that waits does, from what is known of it: where something is thrown out of what it waits for, and behind a result.
-use Rattle.std.proofs.Common.{◌≡◌, true, List, ◌∷◌, Some, IsTrue, refl, sym, ap, subst, ◌∙◌}
+use Rattle.std.proofs.Common.{◌≡◌, true, List, ◌∷◌, Some, IsTrue, refl, sym, subst, ◌∙◌}
 use Rattle.std.proofs.lemmas.Option.{same_Some}
 use Rattle.class_model.specs.declared.header.Member.{Member}
 use Rattle.machine_values.specs.Frames.{MethodState}
@@ -13,7 +13,7 @@ use Rattle.written_runs.specs.Inner.Setup.{Setup, first}
 use Rattle.written_runs.specs.Inner.Waiting.{may_throw}
 use Rattle.written_runs.specs.Laws.Carried.Awaited.{awaits, planned_catches, planned_resumes}
 use Rattle.written_runs.specs.Laws.Carried.Knowing.{CarriedFacts}
-use Rattle.written_runs.specs.Laws.OwnFrames.{MayThrowTo, ReturnsToPlanned, UnwindsPlanned, WaitsPlanned}
+use Rattle.written_runs.specs.Laws.OwnFrames.{MayThrowTo, ReturnsToPlanned, UnwindsPlanned}
 
 -- a call may throw
 call_may_throw : (member : Member) (op : Op) → FitsCall member op → may_throw op ≡ true

@@ -66,7 +66,7 @@ use Rattle.written_runs.specs.Laws.Carried.Slots.{lowest_left}
 use Rattle.written_runs.specs.Laws.Carried.Standing.{AtOwn}
 use Rattle.written_runs.specs.Laws.Carried.Turns.{all_owned, compares_here, keeps_both, not_stuck_here, seen_here, top_owned, turned_here, typed_here}
 use Rattle.written_runs.specs.Laws.Carried.Waiting.{AtCarried, carried_less, instruction_of, stays_with, waits_there, waits_with}
-use Rattle.written_runs.specs.Laws.FewerVirtuals.{AllOwned, GoesFewer, OwnedBelow, goes_above, none_under, over_turn, owned_below, stands_under, under}
+use Rattle.written_runs.specs.Laws.FewerVirtuals.{AllOwned, GoesFewer, OwnedBelow, goes_above, none_under, over_turn, owned_below, stands_under}
 use Rattle.written_runs.specs.Laws.Halfway.{Halfway}
 use Rattle.written_runs.specs.Laws.MethodsBegin.{begins_same}
 use Rattle.written_runs.specs.Laws.OwnFrames.{FrameLaws, above_awaited, below_may_throw, goes_below, names_grown, typed_below, waiting_unwind, waits_below}

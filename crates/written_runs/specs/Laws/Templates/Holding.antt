@@ -1,6 +1,5 @@
 -- What the second frame's local units hold at a planned frame, and what they hold behind stores into the units of a site's fields.
-use Rattle.std.proofs.Common.{◌≡◌, ◌≢◌, ◌⊎◌, ◌≤◌, ◌<◌, ◌+◌, ◌++◌, ℕ, zero, suc, Bool, true, false, List, [], ◌∷◌, length, map, slice_get, take, Some, None, Option, option_and_then, option_map, IsTrue, refl, sym, ap, subst, ◌∙◌, arith, inl, inr}
-use Rattle.std.specs.List.{AllByRecursion}
+use Rattle.std.proofs.Common.{◌≡◌, ◌≢◌, ◌≤◌, ◌+◌, ℕ, zero, suc, Bool, true, false, List, [], ◌∷◌, length, slice_get, Some, IsTrue, refl, sym, subst, ◌∙◌, arith}
 use Rattle.std.proofs.lemmas.Option.{none-some, same_Some, slice_get_within}
 use Rattle.class_model.specs.Descriptors.{kind_of, units_of}
 use Rattle.class_model.specs.Laws.Lists.{at_index}
@@ -17,7 +16,7 @@ use Rattle.machine_values.specs.Frames.{MethodState}
 use Rattle.machine_values.specs.Values.{blank_of_kind, has_kind, is_wide_value}
 use Rattle.machine_values.specs.declared.value.Value.{Value}
 use Rattle.machine_values.specs.declared.value.Value.TheVariants.{Ref}
-use Rattle.making_code.specs.Units.{WUnit, field_unit, first_object_unit, own, unit_number}
+use Rattle.making_code.specs.Units.{WUnit, field_unit, own, unit_number}
 use Rattle.member_link.specs.Machine.Locals.{stored, width_of}
 use Rattle.member_link.specs.Machine.Ops.{Op, push_value, store_local}
 use Rattle.member_link.specs.Machine.Runs.{Run}
@@ -25,10 +24,10 @@ use Rattle.member_link.specs.Machine.Stepping.{next_with}
 use Rattle.plan_flow.specs.Written.Blocks.{state_written}
 use Rattle.same_runs.specs.Laws.Moves.{same_kind, same_wide}
 use Rattle.same_runs.specs.Laws.Stored.{IsStored, Units, stored_is, stores}
-use Rattle.same_runs.specs.QuietMoves.{moved_by, popped, pushed}
+use Rattle.same_runs.specs.QuietMoves.{pushed}
 use Rattle.same_runs.specs.Renamings.{Names, SameValue, same_double, same_float, same_int, same_long, same_null}
 use Rattle.virtual_state.specs.Laws.Fields.{unusable_made}
-use Rattle.virtual_state.specs.States.{is_unusable, object_of}
+use Rattle.virtual_state.specs.States.{object_of}
 use Rattle.virtual_state.specs.Sites.{has}
 use Rattle.virtual_state.specs.declared.slot.Slot.TheVariants.{Plain}
 use Rattle.virtual_state.specs.declared.slot.VObject.{VObject}
@@ -39,7 +38,7 @@ use Rattle.written_runs.specs.Laws.Making.Places.{AreOther, FieldBounds, FitsUni
 use Rattle.written_runs.specs.Laws.PlannedTurns.{AtPlanned}
 use Rattle.written_runs.specs.Laws.Templates.Fields.{FieldTold, field_told}
 use Rattle.written_runs.specs.Laws.Templates.Items.{all_moved}
-use Rattle.written_runs.specs.Laws.Templates.Known.{TemplateLaws, keeps, ready, reached, room_here, stands, state_at, tells, written}
+use Rattle.written_runs.specs.Laws.Templates.Known.{TemplateLaws, keeps, ready, reached, room_here, stands, state_at, written}
 use Rattle.written_runs.specs.Laws.Templates.Operands.{fields_of}
 use Rattle.written_runs.specs.Laws.TypedKept.{HasPlaces, local_type, places_of}
 use Rattle.written_runs.specs.VirtualObjects.{HasVirtual, TellFields, TellsField, Virtual, local_slots, tells_plain}

@@ -1,18 +1,15 @@
 -- A jump that is always taken: objects are made before it, quietly, and the goto is the turn of both; or it is not written, and the target comes later.
-use Rattle.std.proofs.Common.{◌≡◌, ◌≢◌, ◌⊎◌, ◌≤◌, ◌<◌, ◌+◌, ◌-◌, ◌++◌, ℕ, zero, suc, Bool, true, false, List, [], ◌∷◌, drop, length, map, slice_get, Some, None, Option, option_and_then, option_map, IsTrue, refl, sym, ap, subst, ◌∙◌, arith, inl, inr}
+use Rattle.std.proofs.Common.{◌≡◌, ◌≢◌, ◌<◌, ◌+◌, ◌++◌, ℕ, suc, true, List, [], ◌∷◌, drop, length, map, slice_get, Some, None, Option, option_and_then, option_map, refl, sym, ap, subst, ◌∙◌, arith}
 use Rattle.std.specs.List.{AllByRecursion}
-use Rattle.std.proofs.lemmas.Bool.{false≢true}
-use Rattle.std.proofs.lemmas.List.{length-append, map-append}
+use Rattle.std.proofs.lemmas.List.{length-append}
 use Rattle.std.proofs.lemmas.Option.{none-some, same_Some, slice_get-map, slice_get_within}
 use Rattle.class_model.specs.declared.instr.Instr.TheVariants.{Goto, Nop}
 use Rattle.flow_code.specs.declared.point.Point.{Point}
 use Rattle.machine_values.specs.Frames.{MethodState}
-use Rattle.machine_values.specs.declared.frame.RunFrame.{RunFrame}
 use Rattle.machine_values.specs.declared.frame.RunFrame.TheVariants.{Method}
 use Rattle.making_code.specs.Items.{WInstr, WItem, item, plain, to_point}
 use Rattle.making_code.specs.MakeCode.{make_code}
-use Rattle.member_link.specs.Machine.Codes.{instr_op}
-use Rattle.member_link.specs.Machine.Ops.{Op, jump_to}
+use Rattle.member_link.specs.Machine.Ops.{Op}
 use Rattle.member_link.specs.Machine.Programs.{Code, Point as RunPoint, code_at}
 use Rattle.member_link.specs.Machine.Runs.{Run, turn}
 use Rattle.member_link.specs.Machine.Stepping.{next_with}
@@ -25,12 +22,11 @@ use Rattle.plan_flow.specs.PlanScope.{PlanScope}
 use Rattle.plan_flow.specs.PlanSlots.{is_open}
 use Rattle.plan_flow.specs.PlanTable.{targets_at}
 use Rattle.plan_flow.specs.Written.Blocks.{Block, blocks_of, instruction_block, is_decided, leaves_to, state_written}
-use Rattle.plan_flow.specs.Written.Finish.{End, Finished, begins_point, comes_to, end_items, end_of, finish, goto_end, no_end, nop_end}
-use Rattle.plan_flow.specs.Written.Routes.{Route, RouteEdge, edge_by}
+use Rattle.plan_flow.specs.Written.Finish.{End, begins_point, comes_to, end_items, end_of, finish, goto_end, no_end, nop_end}
+use Rattle.plan_flow.specs.Written.Routes.{RouteEdge, edge_by}
 use Rattle.plan_flow.specs.Written.Templates.{items_at, made_on_jump}
-use Rattle.plan_flow.specs.Written.WrittenCode.{block_items, start_of, target_number, written_code, written_items, written_op, written_point}
+use Rattle.plan_flow.specs.Written.WrittenCode.{block_items, start_of, written_code, written_items, written_op, written_point}
 use Rattle.plan_flow.specs.Written.WrittenPrograms.{WrittenMethod}
-use Rattle.plan_flow.specs.declared.edge.EdgeKind.{EdgeKind}
 use Rattle.plan_flow.specs.declared.edge.EdgeKind.TheVariants as edges
 use Rattle.same_runs.specs.Laws.QuietBeginnings.{quietly_then, standing}
 use Rattle.same_runs.specs.Laws.QuietCalls.{quiet_keeps}
@@ -39,13 +35,11 @@ use Rattle.same_runs.specs.QuietMoves.{moves}
 use Rattle.same_runs.specs.Simulations.{Quietly}
 use Rattle.virtual_state.specs.Laws.Removals.{without_none}
 use Rattle.virtual_state.specs.Sites.{has}
-use Rattle.virtual_state.specs.States.{State}
 use Rattle.virtual_state.specs.Without.{without}
 use Rattle.written_runs.specs.Laws.WrittenCodes.{written_code_at}
-use Rattle.written_runs.specs.Inner.MadeObjects.{CanBeKept, StandAt}
-use Rattle.written_runs.specs.Inner.PlannedFrames.{IsBlock, blocks_in, of_first, scope_in}
+use Rattle.written_runs.specs.Inner.MadeObjects.{StandAt}
+use Rattle.written_runs.specs.Inner.PlannedFrames.{blocks_in, of_first, scope_in}
 use Rattle.written_runs.specs.Inner.Setup.{Setup, first, second}
-use Rattle.written_runs.specs.Inner.Together.{weight}
 use Rattle.written_runs.specs.Laws.Carried.OpenEdges.{IsOfRow, jump_edge}
 use Rattle.written_runs.specs.Laws.Carried.Standing.{AtOwn, item_there, own_finished}
 use Rattle.written_runs.specs.Laws.Halfway.{GoesOn, Halfway, makes_on}
@@ -54,14 +48,14 @@ use Rattle.written_runs.specs.Laws.PlannedTurns.{AtPlanned}
 use Rattle.written_runs.specs.Laws.Settling.{Onwards, onwards}
 use Rattle.written_runs.specs.Laws.Simulation.{KeepsTurn}
 use Rattle.written_runs.specs.Laws.Templates.Items.{IsStraight, OpsThere, all_moved, moves_all, whole}
-use Rattle.written_runs.specs.Laws.Templates.Known.{TemplateLaws, of_plan, reached, written}
+use Rattle.written_runs.specs.Laws.Templates.Known.{TemplateLaws, of_plan, reached}
 use Rattle.written_runs.specs.Laws.Templates.Moving.{MovesOver}
 use Rattle.written_runs.specs.Laws.Templates.Onward.{ComesOn, comes_on, goto_leads, no_goto_comes}
 use Rattle.written_runs.specs.Laws.Templates.Stacks.{get_left, get_right}
 use Rattle.written_runs.specs.Laws.Templates.Turns.{FirstTurn, TakesEdge, along_there, effect_here, falls_below, halfway_behind, left_over, place_then, stands_own, target, written_then}
 use Rattle.written_runs.specs.Laws.Uncovered.{can_be_saved}
 use Rattle.written_runs.specs.Laws.WrittenCodes.{written_code_at}
-use Rattle.written_runs.specs.Laws.Turned.{BehindMoves, turns_by_moves}
+use Rattle.written_runs.specs.Laws.Turned.{turns_by_moves}
 use Rattle.written_runs.specs.Laws.TypedKept.{can_be_kept}
 
 module _ (u : Setup) (laws : TemplateLaws u) {measure : ℕ} {one other : Run} (a : AtPlanned u measure one other) where

@@ -117,15 +117,15 @@ read_slot (Virt site) = refl
 read_slot Unusable = refl
 
 -- what so many places hold, from one on
-pub held_slots : (s : PlanScope) (state : State) (change : Change) (first count : ℕ)
+pub held_slots : (s : PlanScope) (state : State) (moved : Change) (first count : ℕ)
     → first + count ≤ length state.slots
-    → slots_from s state change (held_from first count) ≡ map as_read (take count (drop first state.slots))
-held_slots s state change first zero few = refl
-held_slots s state change first (suc count) few =
+    → slots_from s state moved (held_from first count) ≡ map as_read (take count (drop first state.slots))
+held_slots s state moved first zero few = refl
+held_slots s state moved first (suc count) few =
     let here = drop_at first state.slots (omega (arith, few)) in
-    ap (λ (slot : Option Slot). readable slot ∷ slots_from s state change (held_from (first + 1) count)) here.1
-    ∙ ap (λ (slot : Slot). slot ∷ slots_from s state change (held_from (first + 1) count)) (read_slot here.0)
-    ∙ ap (λ (slots : List Slot). as_read here.0 ∷ slots) (held_slots s state change (first + 1) count (omega (arith, few)))
+    ap (λ (slot : Option Slot). readable slot ∷ slots_from s state moved (held_from (first + 1) count)) here.1
+    ∙ ap (λ (slot : Slot). slot ∷ slots_from s state moved (held_from (first + 1) count)) (read_slot here.0)
+    ∙ ap (λ (slots : List Slot). as_read here.0 ∷ slots) (held_slots s state moved (first + 1) count (omega (arith, few)))
     ∙ ap (λ (n : ℕ). as_read here.0 ∷ map as_read (take count (drop n state.slots))) next
     ∙ ap (λ (slots : List Slot). map as_read (take (suc count) slots)) (sym here.2) where
       next : first + 1 ≡ suc first
