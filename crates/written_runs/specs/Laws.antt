@@ -47,6 +47,7 @@ pub mod SettleFromSetup
 pub mod Settling
 pub mod Simulation
 pub mod StandingMore
+pub mod StaysTop
 pub mod StillThere
 pub mod Templates
 pub mod Turned

@@ -3,8 +3,6 @@ use Rattle.std.proofs.Common.{List, Some, false, slice_get, true, ℕ, ◌∷◌
 use Rattle.class_model.specs.Members.{FINAL, STATIC}
 use Rattle.class_model.specs.Pool.{constant_at}
 use Rattle.class_model.specs.declared.class_file.MethodAt.{MethodAt}
-use Rattle.class_model.specs.declared.frame.VType.TheVariants.{Top}
-use Rattle.class_model.specs.declared.frame.VType.{VType}
 use Rattle.class_model.specs.declared.instr.Instr.TheVariants.{PutField}
 use Rattle.class_tree.specs.Headers.{headers_of}
 use Rattle.class_tree.specs.Hierarchy.{IsHierarchy}
@@ -28,10 +26,7 @@ use Rattle.member_link.specs.Machine.Stepping.{is_library_turn, step}
 use Rattle.member_link.specs.Machine.Worlds.{World, start}
 use Rattle.member_link.specs.References.{Reference}
 use Rattle.member_link.specs.Signatures.{reference_of}
-use Rattle.plan_flow.specs.Must.{row_of_point}
-use Rattle.plan_flow.specs.PlanRows.{RowEdge, from_place}
-use Rattle.plan_flow.specs.PlanScope.{local_types}
-use Rattle.plan_flow.specs.PlanTable.{edges_of}
+use Rattle.plan_flow.specs.PlanSlots.{held}
 use Rattle.plan_flow.specs.Written.WrittenPrograms.{WrittenMethod}
 use Rattle.same_runs.specs.Flats.{pool_of}
 use Rattle.same_runs.specs.Laws.ClassInitialisers.{initialiser_named}
@@ -69,6 +64,7 @@ use Rattle.written_runs.specs.Laws.SameForms.{same_forms}
 use Rattle.written_runs.specs.Laws.SettleFromSetup.{settle_laws}
 use Rattle.written_runs.specs.Laws.Settling.{SettleLaws}
 use Rattle.written_runs.specs.Laws.Simulation.{Parts, runs_the_same}
+use Rattle.written_runs.specs.Laws.StaysTop.{stays_top_by}
 use Rattle.written_runs.specs.Laws.Templates.Known.{TemplateLaws}
 use Rattle.written_runs.specs.Laws.Templates.Whole.{TemplateParts, template_turns}
 use Rattle.written_runs.specs.Laws.TypedEntries.{typed_frame}
@@ -104,15 +100,6 @@ pub record Grounds (u : Setup) : Type 0 where
 pub record LeftToShow (u : Setup) : Type 0 where
   -- rows fit the types of the flat code
   pub rows_fit : (at : MethodAt) (w : WrittenMethod) → u.written at ≡ Some w → RowsFit (scope_in u w)
-  -- a local unit that is Top, and that an instruction does not store into, is Top behind it
-  pub stays_top : (at : MethodAt) (w : WrittenMethod) (place : ℕ) (point : Point) (number : ℕ) (edge : RowEdge) (unit : ℕ) (type : VType)
-      → u.written at ≡ Some w
-      → slice_get w.flat.points place ≡ Some point
-      → slice_get (edges_of place point (row_of_point (scope_in u w) place point)) number ≡ Some edge
-      → slice_get point.typed.locals unit ≡ Some Top
-      → slice_get (row_of_point (scope_in u w) place point).locals unit ≡ Some (from_place unit)
-      → slice_get (local_types w.flat edge.to) unit ≡ Some type
-      → type ≡ Top
   -- a field of the folder that flat code stores into is not final, where it stores into an object of one of its sites
   pub not_final : (world : World) (f : MethodState) (rest : List RunFrame) (w : WrittenMethod) (point : Point) (class index : ℕ)
       (r field : Reference) (number : ℕ) (value : Value) (reference : ℕ) (below : List Value) (object : Object) (of class_number : ℕ) (site : Site)
@@ -219,7 +206,8 @@ module _ {u : Setup} (grounds : Grounds u) (laws : RunLaws) where
       flat_code = λ at w host written there. flat_code_at u grounds.setup at w host written there;
       steps_typed = λ w typed. laws.steps (first u) u.typings w typed;
       conforms = conforms;
-      stays_top = left.stays_top;
+      stays_top = λ at w place point number edge unit type written there is_edge top stays is.
+          stays_top_by (scope_in u w) place point number edge unit type (left.rows_fit at w written) there is_edge top stays is;
       slots = slots_in_first grounds.setup;
       of_library = of_library grounds.setup;
       site_class = λ at w number site written there. site_class grounds.setup grounds.hierarchy at w number site written there;
