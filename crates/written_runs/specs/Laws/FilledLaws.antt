@@ -79,7 +79,7 @@ use Rattle.written_runs.specs.Laws.SettleFromSetup.{settle_laws}
 use Rattle.written_runs.specs.Laws.Settling.{SettleLaws}
 use Rattle.written_runs.specs.Laws.Simulation.{Parts, runs_the_same}
 use Rattle.written_runs.specs.Laws.Templates.Known.{TemplateLaws}
-use Rattle.written_runs.specs.Laws.Templates.Whole.{TemplateParts, template_turns}
+use Rattle.written_runs.specs.Laws.Templates.Whole.{template_turns}
 use Rattle.written_runs.specs.Laws.TypedEntries.{typed_frame}
 use Rattle.written_runs.specs.Laws.WaitingFrames.{waits_alike}
 use Rattle.written_runs.specs.Laws.WrittenCodes.{flat_code_at}
@@ -109,8 +109,7 @@ pub record Grounds (u : Setup) : Type 0 where
 
 -- ---- what is left to show
 
--- What the theorem still asks of flat codes, of their types, and of operations in both programs; and the turns at instructions that move stack entries,
--- but for pop and dup.
+-- What the theorem still asks of flat codes, of their types, and of operations in both programs.
 pub record LeftToShow (u : Setup) : Type 0 where
   -- rows fit the types of the flat code
   pub rows_fit : (at : MethodAt) (w : WrittenMethod) → u.written at ≡ Some w → RowsFit (scope_in u w)
@@ -168,8 +167,6 @@ pub record LeftToShow (u : Setup) : Type 0 where
       → folder_number (first u) site.class ≡ Some class_number
       → slice_get w.flat.sites of ≡ Some site
       → has_flag (field_of (first u) field) FINAL ≡ false
-  -- dup_x1, swap and the like
-  pub shuffles : TemplateParts u
 
 module _ {u : Setup} (grounds : Grounds u) (laws : RunLaws) where
   -- ---- the records
@@ -269,7 +266,7 @@ module _ {u : Setup} (grounds : Grounds u) (laws : RunLaws) where
     planned : PlannedParts u
     planned =
         planned_parts u carried_laws (λ measure one other a class instr instrs is told.
-        template_turns u template_laws left.shuffles measure one other a class instr instrs is told)
+        template_turns u template_laws measure one other a class instr instrs is told)
 
     -- ---- the theorem
 

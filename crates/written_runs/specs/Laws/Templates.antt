@@ -28,7 +28,6 @@ pub mod Quiets
 pub mod Sames
 pub mod ShuffleForms
 pub mod ShuffleTurns
-pub mod Shuffles
 pub mod Slots
 pub mod Stacks
 pub mod Still

@@ -261,4 +261,3 @@ all_checked opcode = by_pop (same_or_not opcode POP) where
       → AllByRecursion (IsChecked opcode) (forms_of opcode)
   by_pop (inl same) = subst (λ (n : ℕ). AllByRecursion (IsChecked n) (forms_of n)) (sym same) pop_forms
   by_pop (inr no_pop) = by_pop2 no_pop (same_or_not opcode POP2)
-

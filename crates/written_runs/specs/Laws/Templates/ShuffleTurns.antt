@@ -63,26 +63,26 @@ form_is : (P : Form → Type 0) (forms : List Form) (stack : List Value) (form :
 form_is P [] stack form all is = absurd (none-some form is)
 form_is P (first_form ∷ forms) stack form all is =
     by (fit_widths first_form.takes (topmost (length first_form.takes) stack)) refl is (λ same. form_is P forms stack form all.1 same) where
-  by : (fits : Bool) → fit_widths first_form.takes (topmost (length first_form.takes) stack) ≡ fits
-      → (if fits then Some first_form else form_for forms stack) ≡ Some form
-      → (form_for forms stack ≡ Some form → P form × (fit_widths form.takes (topmost (length form.takes) stack) ≡ true))
-      → P form × (fit_widths form.takes (topmost (length form.takes) stack) ≡ true)
-  by true fits same behind =
-      subst (λ (f : Form). P f × (fit_widths f.takes (topmost (length f.takes) stack) ≡ true)) (same_Some first_form form same) (all.0, fits)
-  by false fits same behind = behind same
+      by : (fits : Bool) → fit_widths first_form.takes (topmost (length first_form.takes) stack) ≡ fits
+          → (if fits then Some first_form else form_for forms stack) ≡ Some form
+          → (form_for forms stack ≡ Some form → P form × (fit_widths form.takes (topmost (length form.takes) stack) ≡ true))
+          → P form × (fit_widths form.takes (topmost (length form.takes) stack) ≡ true)
+      by true fits same behind =
+          subst (λ (f : Form). P f × (fit_widths f.takes (topmost (length f.takes) stack) ≡ true)) (same_Some first_form form same) (all.0, fits)
+      by false fits same behind = behind same
 
 typed_fits : (forms : List Form) (types : List VType) (form : Form) → form_in forms types ≡ Some form
     → have_widths form.takes (operands.topmost (length form.takes) types) ≡ true
 typed_fits [] types form is = absurd (none-some form is)
 typed_fits (first_form ∷ forms) types form is =
     by (have_widths first_form.takes (operands.topmost (length first_form.takes) types)) refl is (λ same. typed_fits forms types form same) where
-  by : (fits : Bool) → have_widths first_form.takes (operands.topmost (length first_form.takes) types) ≡ fits
-      → (if fits then Some first_form else form_in forms types) ≡ Some form
-      → (form_in forms types ≡ Some form → have_widths form.takes (operands.topmost (length form.takes) types) ≡ true)
-      → have_widths form.takes (operands.topmost (length form.takes) types) ≡ true
-  by true fits same behind =
-      subst (λ (f : Form). have_widths f.takes (operands.topmost (length f.takes) types) ≡ true) (same_Some first_form form same) fits
-  by false fits same behind = behind same
+      by : (fits : Bool) → have_widths first_form.takes (operands.topmost (length first_form.takes) types) ≡ fits
+          → (if fits then Some first_form else form_in forms types) ≡ Some form
+          → (form_in forms types ≡ Some form → have_widths form.takes (operands.topmost (length form.takes) types) ≡ true)
+          → have_widths form.takes (operands.topmost (length form.takes) types) ≡ true
+      by true fits same behind =
+          subst (λ (f : Form). have_widths f.takes (operands.topmost (length f.takes) types) ≡ true) (same_Some first_form form same) fits
+      by false fits same behind = behind same
 
 -- ---- cells
 
