@@ -66,7 +66,7 @@ use Rattle.written_runs.specs.Laws.Settling.{SettleLaws}
 use Rattle.written_runs.specs.Laws.Simulation.{Parts, runs_the_same}
 use Rattle.written_runs.specs.Laws.StaysTop.{stays_top_by}
 use Rattle.written_runs.specs.Laws.Templates.Known.{TemplateLaws}
-use Rattle.written_runs.specs.Laws.Templates.Whole.{TemplateParts, template_turns}
+use Rattle.written_runs.specs.Laws.Templates.Whole.{template_turns}
 use Rattle.written_runs.specs.Laws.TypedEntries.{typed_frame}
 use Rattle.written_runs.specs.Laws.WaitingFrames.{waits_alike}
 use Rattle.written_runs.specs.Laws.WrittenCodes.{flat_code_at}
@@ -96,7 +96,6 @@ pub record Grounds (u : Setup) : Type 0 where
 
 -- ---- what is left to show
 
--- What the theorem still asks of flat codes and of their types; and the turns at instructions that move stack entries, but for pop and dup.
 pub record LeftToShow (u : Setup) : Type 0 where
   -- rows fit the types of the flat code
   pub rows_fit : (at : MethodAt) (w : WrittenMethod) → u.written at ≡ Some w → RowsFit (scope_in u w)
@@ -118,8 +117,6 @@ pub record LeftToShow (u : Setup) : Type 0 where
       → folder_number (first u) site.class ≡ Some class_number
       → slice_get w.flat.sites of ≡ Some site
       → has_flag (field_of (first u) field) FINAL ≡ false
-  -- dup_x1, swap and the like
-  pub shuffles : TemplateParts u
 
 module _ {u : Setup} (grounds : Grounds u) (laws : RunLaws) where
   -- ---- the records
@@ -221,7 +218,7 @@ module _ {u : Setup} (grounds : Grounds u) (laws : RunLaws) where
     planned : PlannedParts u
     planned =
         planned_parts u carried_laws (λ measure one other a class instr instrs is told.
-        template_turns u template_laws left.shuffles measure one other a class instr instrs is told)
+        template_turns u template_laws measure one other a class instr instrs is told)
 
     -- ---- the theorem
 

@@ -26,7 +26,8 @@ pub mod Operands
 pub mod Puts
 pub mod Quiets
 pub mod Sames
-pub mod Shuffles
+pub mod ShuffleForms
+pub mod ShuffleTurns
 pub mod Slots
 pub mod Stacks
 pub mod Still

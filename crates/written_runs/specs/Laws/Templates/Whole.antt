@@ -1,13 +1,11 @@
--- A turn at an instruction of which a template is written, by the kinds of instructions; what is open of them is named.
-use Rattle.std.proofs.Common.{◌≡◌, ◌≢◌, ◌⊎◌, ◌∙◌, ℕ, List, Some, ap, inl, inr}
+-- A turn at an instruction of which a template is written, by the kinds of instructions.
+use Rattle.std.proofs.Common.{◌≡◌, ℕ, List, Some}
 use Rattle.std.proofs.lemmas.Option.{none-some}
 use Rattle.class_model.specs.declared.instr.Instr.{Instr}
 use Rattle.class_model.specs.declared.instr.Instr.TheVariants.{Load, Store, Shuffle, IfSame, IfNull, Goto, GetField, PutField, Invoke, New, Cast, InstanceOf, Enter, Leave}
-use Rattle.class_model.specs.declared.opcodes.TheConstants.{DUP, POP}
 use Rattle.flow_code.specs.declared.point.FlatInstr.TheVariants.{Of}
 use Rattle.making_code.specs.Items.{WInstr}
 use Rattle.member_link.specs.Machine.Runs.{Run}
-use Rattle.virtual_state.specs.Laws.Objects.{same_or_not}
 use Rattle.written_runs.specs.Inner.Setup.{Setup}
 use Rattle.written_runs.specs.Laws.PlannedTurns.{AtPlanned, written_at}
 use Rattle.written_runs.specs.Laws.Simulation.{KeepsTurn}
@@ -21,7 +19,7 @@ use Rattle.written_runs.specs.Laws.Templates.Monitors.{enter_turns, leave_turns}
 use Rattle.written_runs.specs.Laws.Templates.News.{new_turns}
 use Rattle.written_runs.specs.Laws.Templates.Puts.{put_turns}
 use Rattle.written_runs.specs.Laws.Templates.Sames.{same_turns}
-use Rattle.written_runs.specs.Laws.Templates.Shuffles.{dup_turns, pop_turns}
+use Rattle.written_runs.specs.Laws.Templates.ShuffleTurns.{shuffle_turns}
 use Rattle.written_runs.specs.Laws.Templates.Stores.{store_turns}
 
 -- the turn at an instruction of which a template is written
@@ -29,42 +27,22 @@ abbrev pub TurnsAt : (u : Setup) (measure : ℕ) (one other : Run) → AtPlanned
 TurnsAt u measure one other a class instr =
     (instrs : List WInstr) → a.settled.point.instr ≡ Of class instr → written_at a class instr ≡ Some instrs → KeepsTurn u measure one other
 
--- The instructions that are left to show: those that move stack entries, but for pop and dup.
-pub record TemplateParts (u : Setup) : Type 0 where
-  pub shuffles : (measure : ℕ) (one other : Run) (a : AtPlanned u measure one other) (class opcode : ℕ)
-      → opcode ≢ POP
-      → opcode ≢ DUP
-      → TurnsAt u measure one other a class (Shuffle opcode)
-
-shuffle_turns : (u : Setup) → TemplateLaws u → TemplateParts u → (measure : ℕ) (one other : Run) (a : AtPlanned u measure one other)
-    (class opcode : ℕ)
-    → TurnsAt u measure one other a class (Shuffle opcode)
-shuffle_turns u laws parts measure one other a class opcode instrs is told = by (same_or_not opcode POP) where
-  by_dup : (opcode ≢ POP) → (opcode ≡ DUP) ⊎ (opcode ≢ DUP) → KeepsTurn u measure one other
-  by_dup no_pop (inl same) = dup_turns u laws a class (is ∙ ap (λ (n : ℕ). Of class (Shuffle n)) same)
-  by_dup no_pop (inr no_dup) = parts.shuffles measure one other a class opcode no_pop no_dup instrs is told
-
-  by : (opcode ≡ POP) ⊎ (opcode ≢ POP) → KeepsTurn u measure one other
-  by (inl same) = pop_turns u laws a class (is ∙ ap (λ (n : ℕ). Of class (Shuffle n)) same)
-  by (inr no_pop) = by_dup no_pop (same_or_not opcode DUP)
-
-pub template_turns : (u : Setup) → TemplateLaws u → TemplateParts u → (measure : ℕ) (one other : Run) (a : AtPlanned u measure one other)
+pub template_turns : (u : Setup) → TemplateLaws u → (measure : ℕ) (one other : Run) (a : AtPlanned u measure one other)
     (class : ℕ) (instr : Instr)
     → TurnsAt u measure one other a class instr
-template_turns u laws parts measure one other a class (New index) instrs is told = new_turns u laws a class index is instrs told
-template_turns u laws parts measure one other a class (Load kind local) instrs is told = load_turns u laws a class kind local is instrs told
-template_turns u laws parts measure one other a class (Store kind local) instrs is told = store_turns u laws a class kind local is instrs told
-template_turns u laws parts measure one other a class (Cast index) instrs is told = cast_turns u laws a class index is instrs told
-template_turns u laws parts measure one other a class Enter instrs is told = enter_turns u laws a class is instrs told
-template_turns u laws parts measure one other a class Leave instrs is told = leave_turns u laws a class is instrs told
-template_turns u laws parts measure one other a class (GetField index) instrs is told = get_turns u laws a class index is instrs told
-template_turns u laws parts measure one other a class (IfNull opcode to) instrs is told = null_turns u laws a class opcode to is instrs told
-template_turns u laws parts measure one other a class (IfSame opcode to) instrs is told = same_turns u laws a class opcode to is instrs told
-template_turns u laws parts measure one other a class (InstanceOf index) instrs is told = instance_turns u laws a class index is instrs told
-template_turns u laws parts measure one other a class (Goto to) instrs is told = goto_turns u laws a class to is instrs told
-template_turns u laws parts measure one other a class (PutField index) instrs is told = put_turns u laws a class index is instrs told
-template_turns u laws parts measure one other a class (Invoke opcode index count) instrs is told =
+template_turns u laws measure one other a class (New index) instrs is told = new_turns u laws a class index is instrs told
+template_turns u laws measure one other a class (Load kind local) instrs is told = load_turns u laws a class kind local is instrs told
+template_turns u laws measure one other a class (Store kind local) instrs is told = store_turns u laws a class kind local is instrs told
+template_turns u laws measure one other a class (Cast index) instrs is told = cast_turns u laws a class index is instrs told
+template_turns u laws measure one other a class Enter instrs is told = enter_turns u laws a class is instrs told
+template_turns u laws measure one other a class Leave instrs is told = leave_turns u laws a class is instrs told
+template_turns u laws measure one other a class (GetField index) instrs is told = get_turns u laws a class index is instrs told
+template_turns u laws measure one other a class (IfNull opcode to) instrs is told = null_turns u laws a class opcode to is instrs told
+template_turns u laws measure one other a class (IfSame opcode to) instrs is told = same_turns u laws a class opcode to is instrs told
+template_turns u laws measure one other a class (InstanceOf index) instrs is told = instance_turns u laws a class index is instrs told
+template_turns u laws measure one other a class (Goto to) instrs is told = goto_turns u laws a class to is instrs told
+template_turns u laws measure one other a class (PutField index) instrs is told = put_turns u laws a class index is instrs told
+template_turns u laws measure one other a class (Invoke opcode index count) instrs is told =
     init_turns u laws a class opcode index count is instrs told
-template_turns u laws parts measure one other a class (Shuffle opcode) instrs is told =
-    shuffle_turns u laws parts measure one other a class opcode instrs is told
-template_turns u laws parts measure one other a class instr instrs is told = absurd (none-some instrs told)
+template_turns u laws measure one other a class (Shuffle opcode) instrs is told = shuffle_turns u laws a class opcode is
+template_turns u laws measure one other a class instr instrs is told = absurd (none-some instrs told)

@@ -1,0 +1,263 @@
+-- The written instruction moves the plain ones of the operands as pop, dup, swap and the like move all of them: form by form, and by which of
+-- them are virtual.
+use Rattle.std.proofs.Common.{◌≡◌, ◌≢◌, ◌<◌, ◌⊎◌, ◌++◌, ℕ, inl, inr, List, [], ◌∷◌, length, reverse, slice_get, Some, None, Option, true, false, refl, sym, subst, arith}
+use Rattle.std.specs.List.{AllByRecursion, flat_map}
+use Rattle.std.proofs.lemmas.Bool.{ne_eqb}
+use Rattle.class_model.specs.declared.instr.Instr.TheVariants.{Shuffle}
+use Rattle.class_model.specs.declared.opcodes.TheConstants.{POP, POP2, DUP, DUP_X1, DUP_X2, DUP2, DUP2_X1, DUP2_X2, SWAP}
+use Rattle.machine_values.specs.Values.{is_wide_value}
+use Rattle.machine_values.specs.declared.value.Value.{Value}
+use Rattle.making_code.specs.Items.{WInstr, plain}
+use Rattle.member_link.specs.Machine.Locals.{shuffled}
+use Rattle.member_link.specs.Rows.ShuffleRows.{Form, Width, forms_of, one, two}
+use Rattle.plan_flow.specs.Written.Templates.{Cell, shuffles}
+use Rattle.virtual_state.specs.Laws.Objects.{same_or_not}
+use Rattle.virtual_state.specs.declared.slot.Slot.{Slot}
+use Rattle.virtual_state.specs.declared.slot.Slot.TheVariants.{Plain, Virt}
+
+-- what the second stack has of an operand of a width, by its slot
+pub data Fits : Width → Slot → List Value → Type 0 where
+  gone : {site : ℕ} → Fits one (Virt site) []
+  narrow : {also : Value} → is_wide_value also ≡ false → Fits one Plain (also ∷ [])
+  wide : {also : Value} → is_wide_value also ≡ true → Fits two Plain (also ∷ [])
+
+-- of each of the operands, the lowest first
+pub data FitAll : List Width → List Slot → List (List Value) → Type 0 where
+  no_fits : FitAll [] [] []
+  and_fit : {width : Width} {slot : Slot} {has : List Value} {widths : List Width} {slots : List Slot} {all : List (List Value)}
+      → Fits width slot has
+      → FitAll widths slots all
+      → FitAll (width ∷ widths) (slot ∷ slots) (has ∷ all)
+
+abbrev pub units_in : Width → ℕ
+units_in one = 1
+units_in two = 2
+
+abbrev pub cells_of : List Width → List Slot → List Cell
+cells_of [] slots = []
+cells_of (width ∷ widths) [] = []
+cells_of (width ∷ widths) (slot ∷ slots) = record { units = units_in width; slot = slot } ∷ cells_of widths slots
+
+abbrev pub joined : List (List Value) → List Value
+joined [] = []
+joined (has ∷ all) = has ++ joined all
+
+abbrev pub list_or_none : Option (List Value) → List Value
+list_or_none None = []
+list_or_none (Some has) = has
+
+abbrev pub chosen_lists : List (List Value) → List ℕ → List Value
+chosen_lists all [] = []
+chosen_lists all (number ∷ numbers) = list_or_none (slice_get all number) ++ chosen_lists all numbers
+
+-- what is written leads from one stack to another, whatever is below
+pub data MovesTo (code : List Cell → List WInstr) (before after : List Value) : Type 0 where
+  stays : code [] ≡ [] → ((cell : Cell) (others : List Cell) → code (cell ∷ others) ≡ []) → before ≡ after → MovesTo code before after
+  moves : (opcode : ℕ)
+      → code [] ≡ plain (Shuffle opcode) ∷ []
+      → ((cell : Cell) (others : List Cell) → code (cell ∷ others) ≡ plain (Shuffle opcode) ∷ [])
+      → shuffled opcode before ≡ Some after
+      → MovesTo code before after
+
+abbrev pub CheckAt : ℕ → Form → List Slot → List (List Value) → Type 0
+CheckAt opcode form slots all = FitAll form.takes slots all
+    → MovesTo (λ (others : List Cell). shuffles opcode (reverse (cells_of form.takes slots) ++ others)) (reverse (joined all))
+    (reverse (chosen_lists all form.gives))
+
+pub record IsChecked (opcode : ℕ) (form : Form) : Type 0 where
+  pub checks : (slots : List Slot) (all : List (List Value)) → CheckAt opcode form slots all
+  pub low : AllByRecursion (λ (number : ℕ). number < length form.takes) form.gives
+
+-- ---- pop
+
+pop_by_one : {slots : List Slot} {all : List (List Value)} → CheckAt POP (record { takes = (one ∷ []); gives = [] }) slots all
+pop_by_one (and_fit gone no_fits) = stays refl (λ cell others. refl) refl
+pop_by_one (and_fit (narrow a) no_fits) = moves POP refl (λ cell others. refl) (rw (a) refl)
+
+pop_forms : AllByRecursion (IsChecked POP) (forms_of POP)
+pop_forms = (record { checks = λ slots all fit. pop_by_one fit; low = tt }, tt)
+
+-- ---- pop2
+
+pop2_by_one_one : {slots : List Slot} {all : List (List Value)} → CheckAt POP2 (record { takes = (one ∷ one ∷ []); gives = [] }) slots all
+pop2_by_one_one (and_fit gone (and_fit gone no_fits)) = stays refl (λ cell others. refl) refl
+pop2_by_one_one (and_fit gone (and_fit (narrow b) no_fits)) = moves POP refl (λ cell others. refl) (rw (b) refl)
+pop2_by_one_one (and_fit (narrow a) (and_fit gone no_fits)) = moves POP refl (λ cell others. refl) (rw (a) refl)
+pop2_by_one_one (and_fit (narrow a) (and_fit (narrow b) no_fits)) = moves POP2 refl (λ cell others. refl) (rw (a, b) refl)
+
+pop2_by_two : {slots : List Slot} {all : List (List Value)} → CheckAt POP2 (record { takes = (two ∷ []); gives = [] }) slots all
+pop2_by_two (and_fit (wide a) no_fits) = moves POP2 refl (λ cell others. refl) (rw (a) refl)
+
+pop2_forms : AllByRecursion (IsChecked POP2) (forms_of POP2)
+pop2_forms = (record { checks = λ slots all fit. pop2_by_one_one fit; low = tt }, (record { checks = λ slots all fit. pop2_by_two fit; low = tt }, tt))
+
+-- ---- dup
+
+dup_by_one : {slots : List Slot} {all : List (List Value)} → CheckAt DUP (record { takes = (one ∷ []); gives = (0 ∷ 0 ∷ []) }) slots all
+dup_by_one (and_fit gone no_fits) = stays refl (λ cell others. refl) refl
+dup_by_one (and_fit (narrow a) no_fits) = moves DUP refl (λ cell others. refl) (rw (a) refl)
+
+dup_forms : AllByRecursion (IsChecked DUP) (forms_of DUP)
+dup_forms = (record { checks = λ slots all fit. dup_by_one fit; low = (omega arith, (omega arith, tt)) }, tt)
+
+-- ---- dup_x1
+
+dup_x1_by_one_one : {slots : List Slot} {all : List (List Value)} → CheckAt DUP_X1 (record { takes = (one ∷ one ∷ []); gives = (1 ∷ 0 ∷ 1 ∷ []) }) slots all
+dup_x1_by_one_one (and_fit gone (and_fit gone no_fits)) = stays refl (λ cell others. refl) refl
+dup_x1_by_one_one (and_fit gone (and_fit (narrow b) no_fits)) = moves DUP refl (λ cell others. refl) (rw (b) refl)
+dup_x1_by_one_one (and_fit (narrow a) (and_fit gone no_fits)) = stays refl (λ cell others. refl) refl
+dup_x1_by_one_one (and_fit (narrow a) (and_fit (narrow b) no_fits)) = moves DUP_X1 refl (λ cell others. refl) (rw (a, b) refl)
+
+dup_x1_forms : AllByRecursion (IsChecked DUP_X1) (forms_of DUP_X1)
+dup_x1_forms = (record { checks = λ slots all fit. dup_x1_by_one_one fit; low = (omega arith, (omega arith, (omega arith, tt))) }, tt)
+
+-- ---- dup_x2
+
+dup_x2_by_one_one_one : {slots : List Slot} {all : List (List Value)} → CheckAt DUP_X2 (record { takes = (one ∷ one ∷ one ∷ []); gives = (2 ∷ 0 ∷ 1 ∷ 2 ∷ []) }) slots all
+dup_x2_by_one_one_one (and_fit gone (and_fit gone (and_fit gone no_fits))) = stays refl (λ cell others. refl) refl
+dup_x2_by_one_one_one (and_fit gone (and_fit gone (and_fit (narrow c) no_fits))) = moves DUP refl (λ cell others. refl) (rw (c) refl)
+dup_x2_by_one_one_one (and_fit gone (and_fit (narrow b) (and_fit gone no_fits))) = stays refl (λ cell others. refl) refl
+dup_x2_by_one_one_one (and_fit gone (and_fit (narrow b) (and_fit (narrow c) no_fits))) = moves DUP_X1 refl (λ cell others. refl) (rw (b, c) refl)
+dup_x2_by_one_one_one (and_fit (narrow a) (and_fit gone (and_fit gone no_fits))) = stays refl (λ cell others. refl) refl
+dup_x2_by_one_one_one (and_fit (narrow a) (and_fit gone (and_fit (narrow c) no_fits))) = moves DUP_X1 refl (λ cell others. refl) (rw (a, c) refl)
+dup_x2_by_one_one_one (and_fit (narrow a) (and_fit (narrow b) (and_fit gone no_fits))) = stays refl (λ cell others. refl) refl
+dup_x2_by_one_one_one (and_fit (narrow a) (and_fit (narrow b) (and_fit (narrow c) no_fits))) = moves DUP_X2 refl (λ cell others. refl) (rw (a, b, c) refl)
+
+dup_x2_by_two_one : {slots : List Slot} {all : List (List Value)} → CheckAt DUP_X2 (record { takes = (two ∷ one ∷ []); gives = (1 ∷ 0 ∷ 1 ∷ []) }) slots all
+dup_x2_by_two_one (and_fit (wide a) (and_fit gone no_fits)) = stays refl (λ cell others. refl) refl
+dup_x2_by_two_one (and_fit (wide a) (and_fit (narrow b) no_fits)) = moves DUP_X2 refl (λ cell others. refl) (rw (a, b) refl)
+
+dup_x2_forms : AllByRecursion (IsChecked DUP_X2) (forms_of DUP_X2)
+dup_x2_forms = (record { checks = λ slots all fit. dup_x2_by_one_one_one fit; low = (omega arith, (omega arith, (omega arith, (omega arith, tt)))) }, (record { checks = λ slots all fit. dup_x2_by_two_one fit; low = (omega arith, (omega arith, (omega arith, tt))) }, tt))
+
+-- ---- dup2
+
+dup2_by_one_one : {slots : List Slot} {all : List (List Value)} → CheckAt DUP2 (record { takes = (one ∷ one ∷ []); gives = (0 ∷ 1 ∷ 0 ∷ 1 ∷ []) }) slots all
+dup2_by_one_one (and_fit gone (and_fit gone no_fits)) = stays refl (λ cell others. refl) refl
+dup2_by_one_one (and_fit gone (and_fit (narrow b) no_fits)) = moves DUP refl (λ cell others. refl) (rw (b) refl)
+dup2_by_one_one (and_fit (narrow a) (and_fit gone no_fits)) = moves DUP refl (λ cell others. refl) (rw (a) refl)
+dup2_by_one_one (and_fit (narrow a) (and_fit (narrow b) no_fits)) = moves DUP2 refl (λ cell others. refl) (rw (a, b) refl)
+
+dup2_by_two : {slots : List Slot} {all : List (List Value)} → CheckAt DUP2 (record { takes = (two ∷ []); gives = (0 ∷ 0 ∷ []) }) slots all
+dup2_by_two (and_fit (wide a) no_fits) = moves DUP2 refl (λ cell others. refl) (rw (a) refl)
+
+dup2_forms : AllByRecursion (IsChecked DUP2) (forms_of DUP2)
+dup2_forms = (record { checks = λ slots all fit. dup2_by_one_one fit; low = (omega arith, (omega arith, (omega arith, (omega arith, tt)))) }, (record { checks = λ slots all fit. dup2_by_two fit; low = (omega arith, (omega arith, tt)) }, tt))
+
+-- ---- dup2_x1
+
+dup2_x1_by_one_one_one : {slots : List Slot} {all : List (List Value)} → CheckAt DUP2_X1 (record { takes = (one ∷ one ∷ one ∷ []); gives = (1 ∷ 2 ∷ 0 ∷ 1 ∷ 2 ∷ []) }) slots all
+dup2_x1_by_one_one_one (and_fit gone (and_fit gone (and_fit gone no_fits))) = stays refl (λ cell others. refl) refl
+dup2_x1_by_one_one_one (and_fit gone (and_fit gone (and_fit (narrow c) no_fits))) = moves DUP refl (λ cell others. refl) (rw (c) refl)
+dup2_x1_by_one_one_one (and_fit gone (and_fit (narrow b) (and_fit gone no_fits))) = moves DUP refl (λ cell others. refl) (rw (b) refl)
+dup2_x1_by_one_one_one (and_fit gone (and_fit (narrow b) (and_fit (narrow c) no_fits))) = moves DUP2 refl (λ cell others. refl) (rw (b, c) refl)
+dup2_x1_by_one_one_one (and_fit (narrow a) (and_fit gone (and_fit gone no_fits))) = stays refl (λ cell others. refl) refl
+dup2_x1_by_one_one_one (and_fit (narrow a) (and_fit gone (and_fit (narrow c) no_fits))) = moves DUP_X1 refl (λ cell others. refl) (rw (a, c) refl)
+dup2_x1_by_one_one_one (and_fit (narrow a) (and_fit (narrow b) (and_fit gone no_fits))) = moves DUP_X1 refl (λ cell others. refl) (rw (a, b) refl)
+dup2_x1_by_one_one_one (and_fit (narrow a) (and_fit (narrow b) (and_fit (narrow c) no_fits))) = moves DUP2_X1 refl (λ cell others. refl) (rw (a, b, c) refl)
+
+dup2_x1_by_one_two : {slots : List Slot} {all : List (List Value)} → CheckAt DUP2_X1 (record { takes = (one ∷ two ∷ []); gives = (1 ∷ 0 ∷ 1 ∷ []) }) slots all
+dup2_x1_by_one_two (and_fit gone (and_fit (wide b) no_fits)) = moves DUP2 refl (λ cell others. refl) (rw (b) refl)
+dup2_x1_by_one_two (and_fit (narrow a) (and_fit (wide b) no_fits)) = moves DUP2_X1 refl (λ cell others. refl) (rw (a, b) refl)
+
+dup2_x1_forms : AllByRecursion (IsChecked DUP2_X1) (forms_of DUP2_X1)
+dup2_x1_forms = (record { checks = λ slots all fit. dup2_x1_by_one_one_one fit; low = (omega arith, (omega arith, (omega arith, (omega arith, (omega arith, tt))))) }, (record { checks = λ slots all fit. dup2_x1_by_one_two fit; low = (omega arith, (omega arith, (omega arith, tt))) }, tt))
+
+-- ---- dup2_x2
+
+dup2_x2_by_one_one_one_one : {slots : List Slot} {all : List (List Value)} → CheckAt DUP2_X2 (record { takes = (one ∷ one ∷ one ∷ one ∷ []); gives = (2 ∷ 3 ∷ 0 ∷ 1 ∷ 2 ∷ 3 ∷ []) }) slots all
+dup2_x2_by_one_one_one_one (and_fit gone (and_fit gone (and_fit gone (and_fit gone no_fits)))) = stays refl (λ cell others. refl) refl
+dup2_x2_by_one_one_one_one (and_fit gone (and_fit gone (and_fit gone (and_fit (narrow d) no_fits)))) = moves DUP refl (λ cell others. refl) (rw (d) refl)
+dup2_x2_by_one_one_one_one (and_fit gone (and_fit gone (and_fit (narrow c) (and_fit gone no_fits)))) = moves DUP refl (λ cell others. refl) (rw (c) refl)
+dup2_x2_by_one_one_one_one (and_fit gone (and_fit gone (and_fit (narrow c) (and_fit (narrow d) no_fits)))) = moves DUP2 refl (λ cell others. refl) (rw (c, d) refl)
+dup2_x2_by_one_one_one_one (and_fit gone (and_fit (narrow b) (and_fit gone (and_fit gone no_fits)))) = stays refl (λ cell others. refl) refl
+dup2_x2_by_one_one_one_one (and_fit gone (and_fit (narrow b) (and_fit gone (and_fit (narrow d) no_fits)))) = moves DUP_X1 refl (λ cell others. refl) (rw (b, d) refl)
+dup2_x2_by_one_one_one_one (and_fit gone (and_fit (narrow b) (and_fit (narrow c) (and_fit gone no_fits)))) = moves DUP_X1 refl (λ cell others. refl) (rw (b, c) refl)
+dup2_x2_by_one_one_one_one (and_fit gone (and_fit (narrow b) (and_fit (narrow c) (and_fit (narrow d) no_fits)))) = moves DUP2_X1 refl (λ cell others. refl) (rw (b, c, d) refl)
+dup2_x2_by_one_one_one_one (and_fit (narrow a) (and_fit gone (and_fit gone (and_fit gone no_fits)))) = stays refl (λ cell others. refl) refl
+dup2_x2_by_one_one_one_one (and_fit (narrow a) (and_fit gone (and_fit gone (and_fit (narrow d) no_fits)))) = moves DUP_X1 refl (λ cell others. refl) (rw (a, d) refl)
+dup2_x2_by_one_one_one_one (and_fit (narrow a) (and_fit gone (and_fit (narrow c) (and_fit gone no_fits)))) = moves DUP_X1 refl (λ cell others. refl) (rw (a, c) refl)
+dup2_x2_by_one_one_one_one (and_fit (narrow a) (and_fit gone (and_fit (narrow c) (and_fit (narrow d) no_fits)))) = moves DUP2_X1 refl (λ cell others. refl) (rw (a, c, d) refl)
+dup2_x2_by_one_one_one_one (and_fit (narrow a) (and_fit (narrow b) (and_fit gone (and_fit gone no_fits)))) = stays refl (λ cell others. refl) refl
+dup2_x2_by_one_one_one_one (and_fit (narrow a) (and_fit (narrow b) (and_fit gone (and_fit (narrow d) no_fits)))) = moves DUP_X2 refl (λ cell others. refl) (rw (a, b, d) refl)
+dup2_x2_by_one_one_one_one (and_fit (narrow a) (and_fit (narrow b) (and_fit (narrow c) (and_fit gone no_fits)))) = moves DUP_X2 refl (λ cell others. refl) (rw (a, b, c) refl)
+dup2_x2_by_one_one_one_one (and_fit (narrow a) (and_fit (narrow b) (and_fit (narrow c) (and_fit (narrow d) no_fits)))) = moves DUP2_X2 refl (λ cell others. refl) (rw (a, b, c, d) refl)
+
+dup2_x2_by_one_one_two : {slots : List Slot} {all : List (List Value)} → CheckAt DUP2_X2 (record { takes = (one ∷ one ∷ two ∷ []); gives = (2 ∷ 0 ∷ 1 ∷ 2 ∷ []) }) slots all
+dup2_x2_by_one_one_two (and_fit gone (and_fit gone (and_fit (wide c) no_fits))) = moves DUP2 refl (λ cell others. refl) (rw (c) refl)
+dup2_x2_by_one_one_two (and_fit gone (and_fit (narrow b) (and_fit (wide c) no_fits))) = moves DUP2_X1 refl (λ cell others. refl) (rw (b, c) refl)
+dup2_x2_by_one_one_two (and_fit (narrow a) (and_fit gone (and_fit (wide c) no_fits))) = moves DUP2_X1 refl (λ cell others. refl) (rw (a, c) refl)
+dup2_x2_by_one_one_two (and_fit (narrow a) (and_fit (narrow b) (and_fit (wide c) no_fits))) = moves DUP2_X2 refl (λ cell others. refl) (rw (a, b, c) refl)
+
+dup2_x2_by_two_one_one : {slots : List Slot} {all : List (List Value)} → CheckAt DUP2_X2 (record { takes = (two ∷ one ∷ one ∷ []); gives = (1 ∷ 2 ∷ 0 ∷ 1 ∷ 2 ∷ []) }) slots all
+dup2_x2_by_two_one_one (and_fit (wide a) (and_fit gone (and_fit gone no_fits))) = stays refl (λ cell others. refl) refl
+dup2_x2_by_two_one_one (and_fit (wide a) (and_fit gone (and_fit (narrow c) no_fits))) = moves DUP_X2 refl (λ cell others. refl) (rw (a, c) refl)
+dup2_x2_by_two_one_one (and_fit (wide a) (and_fit (narrow b) (and_fit gone no_fits))) = moves DUP_X2 refl (λ cell others. refl) (rw (a, b) refl)
+dup2_x2_by_two_one_one (and_fit (wide a) (and_fit (narrow b) (and_fit (narrow c) no_fits))) = moves DUP2_X2 refl (λ cell others. refl) (rw (a, b, c) refl)
+
+dup2_x2_by_two_two : {slots : List Slot} {all : List (List Value)} → CheckAt DUP2_X2 (record { takes = (two ∷ two ∷ []); gives = (1 ∷ 0 ∷ 1 ∷ []) }) slots all
+dup2_x2_by_two_two (and_fit (wide a) (and_fit (wide b) no_fits)) = moves DUP2_X2 refl (λ cell others. refl) (rw (a, b) refl)
+
+dup2_x2_forms : AllByRecursion (IsChecked DUP2_X2) (forms_of DUP2_X2)
+dup2_x2_forms = (record { checks = λ slots all fit. dup2_x2_by_one_one_one_one fit; low = (omega arith, (omega arith, (omega arith, (omega arith, (omega arith, (omega arith, tt)))))) }, (record { checks = λ slots all fit. dup2_x2_by_one_one_two fit; low = (omega arith, (omega arith, (omega arith, (omega arith, tt)))) }, (record { checks = λ slots all fit. dup2_x2_by_two_one_one fit; low = (omega arith, (omega arith, (omega arith, (omega arith, (omega arith, tt))))) }, (record { checks = λ slots all fit. dup2_x2_by_two_two fit; low = (omega arith, (omega arith, (omega arith, tt))) }, tt))))
+
+-- ---- swap
+
+swap_by_one_one : {slots : List Slot} {all : List (List Value)} → CheckAt SWAP (record { takes = (one ∷ one ∷ []); gives = (1 ∷ 0 ∷ []) }) slots all
+swap_by_one_one (and_fit gone (and_fit gone no_fits)) = stays refl (λ cell others. refl) refl
+swap_by_one_one (and_fit gone (and_fit (narrow b) no_fits)) = stays refl (λ cell others. refl) refl
+swap_by_one_one (and_fit (narrow a) (and_fit gone no_fits)) = stays refl (λ cell others. refl) refl
+swap_by_one_one (and_fit (narrow a) (and_fit (narrow b) no_fits)) = moves SWAP refl (λ cell others. refl) (rw (a, b) refl)
+
+swap_forms : AllByRecursion (IsChecked SWAP) (forms_of SWAP)
+swap_forms = (record { checks = λ slots all fit. swap_by_one_one fit; low = (omega arith, (omega arith, tt)) }, tt)
+
+-- ---- each
+
+pub all_checked : (opcode : ℕ) → AllByRecursion (IsChecked opcode) (forms_of opcode)
+all_checked opcode = by_pop (same_or_not opcode POP) where
+  by_swap : (opcode ≢ POP) → (opcode ≢ POP2) → (opcode ≢ DUP) → (opcode ≢ DUP_X1) → (opcode ≢ DUP_X2) → (opcode ≢ DUP2) → (opcode ≢ DUP2_X1) → (opcode ≢ DUP2_X2) → (opcode ≡ SWAP) ⊎ (opcode ≢ SWAP)
+      → AllByRecursion (IsChecked opcode) (forms_of opcode)
+  by_swap no_pop no_pop2 no_dup no_dup_x1 no_dup_x2 no_dup2 no_dup2_x1 no_dup2_x2 (inl same) = subst (λ (n : ℕ). AllByRecursion (IsChecked n) (forms_of n)) (sym same) swap_forms
+  by_swap no_pop no_pop2 no_dup no_dup_x1 no_dup_x2 no_dup2 no_dup2_x1 no_dup2_x2 (inr no_swap) =
+      rw (ne_eqb opcode POP no_pop, ne_eqb opcode POP2 no_pop2, ne_eqb opcode DUP no_dup, ne_eqb opcode DUP_X1 no_dup_x1, ne_eqb opcode DUP_X2 no_dup_x2, ne_eqb opcode DUP2 no_dup2, ne_eqb opcode DUP2_X1 no_dup2_x1, ne_eqb opcode DUP2_X2 no_dup2_x2, ne_eqb opcode SWAP no_swap) tt
+
+  by_dup2_x2 : (opcode ≢ POP) → (opcode ≢ POP2) → (opcode ≢ DUP) → (opcode ≢ DUP_X1) → (opcode ≢ DUP_X2) → (opcode ≢ DUP2) → (opcode ≢ DUP2_X1) → (opcode ≡ DUP2_X2) ⊎ (opcode ≢ DUP2_X2)
+      → AllByRecursion (IsChecked opcode) (forms_of opcode)
+  by_dup2_x2 no_pop no_pop2 no_dup no_dup_x1 no_dup_x2 no_dup2 no_dup2_x1 (inl same) = subst (λ (n : ℕ). AllByRecursion (IsChecked n) (forms_of n)) (sym same) dup2_x2_forms
+  by_dup2_x2 no_pop no_pop2 no_dup no_dup_x1 no_dup_x2 no_dup2 no_dup2_x1 (inr no_dup2_x2) = by_swap no_pop no_pop2 no_dup no_dup_x1 no_dup_x2 no_dup2 no_dup2_x1 no_dup2_x2 (same_or_not opcode SWAP)
+
+  by_dup2_x1 : (opcode ≢ POP) → (opcode ≢ POP2) → (opcode ≢ DUP) → (opcode ≢ DUP_X1) → (opcode ≢ DUP_X2) → (opcode ≢ DUP2) → (opcode ≡ DUP2_X1) ⊎ (opcode ≢ DUP2_X1)
+      → AllByRecursion (IsChecked opcode) (forms_of opcode)
+  by_dup2_x1 no_pop no_pop2 no_dup no_dup_x1 no_dup_x2 no_dup2 (inl same) = subst (λ (n : ℕ). AllByRecursion (IsChecked n) (forms_of n)) (sym same) dup2_x1_forms
+  by_dup2_x1 no_pop no_pop2 no_dup no_dup_x1 no_dup_x2 no_dup2 (inr no_dup2_x1) = by_dup2_x2 no_pop no_pop2 no_dup no_dup_x1 no_dup_x2 no_dup2 no_dup2_x1 (same_or_not opcode DUP2_X2)
+
+  by_dup2 : (opcode ≢ POP) → (opcode ≢ POP2) → (opcode ≢ DUP) → (opcode ≢ DUP_X1) → (opcode ≢ DUP_X2) → (opcode ≡ DUP2) ⊎ (opcode ≢ DUP2)
+      → AllByRecursion (IsChecked opcode) (forms_of opcode)
+  by_dup2 no_pop no_pop2 no_dup no_dup_x1 no_dup_x2 (inl same) = subst (λ (n : ℕ). AllByRecursion (IsChecked n) (forms_of n)) (sym same) dup2_forms
+  by_dup2 no_pop no_pop2 no_dup no_dup_x1 no_dup_x2 (inr no_dup2) = by_dup2_x1 no_pop no_pop2 no_dup no_dup_x1 no_dup_x2 no_dup2 (same_or_not opcode DUP2_X1)
+
+  by_dup_x2 : (opcode ≢ POP) → (opcode ≢ POP2) → (opcode ≢ DUP) → (opcode ≢ DUP_X1) → (opcode ≡ DUP_X2) ⊎ (opcode ≢ DUP_X2)
+      → AllByRecursion (IsChecked opcode) (forms_of opcode)
+  by_dup_x2 no_pop no_pop2 no_dup no_dup_x1 (inl same) = subst (λ (n : ℕ). AllByRecursion (IsChecked n) (forms_of n)) (sym same) dup_x2_forms
+  by_dup_x2 no_pop no_pop2 no_dup no_dup_x1 (inr no_dup_x2) = by_dup2 no_pop no_pop2 no_dup no_dup_x1 no_dup_x2 (same_or_not opcode DUP2)
+
+  by_dup_x1 : (opcode ≢ POP) → (opcode ≢ POP2) → (opcode ≢ DUP) → (opcode ≡ DUP_X1) ⊎ (opcode ≢ DUP_X1)
+      → AllByRecursion (IsChecked opcode) (forms_of opcode)
+  by_dup_x1 no_pop no_pop2 no_dup (inl same) = subst (λ (n : ℕ). AllByRecursion (IsChecked n) (forms_of n)) (sym same) dup_x1_forms
+  by_dup_x1 no_pop no_pop2 no_dup (inr no_dup_x1) = by_dup_x2 no_pop no_pop2 no_dup no_dup_x1 (same_or_not opcode DUP_X2)
+
+  by_dup : (opcode ≢ POP) → (opcode ≢ POP2) → (opcode ≡ DUP) ⊎ (opcode ≢ DUP)
+      → AllByRecursion (IsChecked opcode) (forms_of opcode)
+  by_dup no_pop no_pop2 (inl same) = subst (λ (n : ℕ). AllByRecursion (IsChecked n) (forms_of n)) (sym same) dup_forms
+  by_dup no_pop no_pop2 (inr no_dup) = by_dup_x1 no_pop no_pop2 no_dup (same_or_not opcode DUP_X1)
+
+  by_pop2 : (opcode ≢ POP) → (opcode ≡ POP2) ⊎ (opcode ≢ POP2)
+      → AllByRecursion (IsChecked opcode) (forms_of opcode)
+  by_pop2 no_pop (inl same) = subst (λ (n : ℕ). AllByRecursion (IsChecked n) (forms_of n)) (sym same) pop2_forms
+  by_pop2 no_pop (inr no_pop2) = by_dup no_pop no_pop2 (same_or_not opcode DUP)
+
+  by_pop : (opcode ≡ POP) ⊎ (opcode ≢ POP)
+      → AllByRecursion (IsChecked opcode) (forms_of opcode)
+  by_pop (inl same) = subst (λ (n : ℕ). AllByRecursion (IsChecked n) (forms_of n)) (sym same) pop_forms
+  by_pop (inr no_pop) = by_pop2 no_pop (same_or_not opcode POP2)
