@@ -1,8 +1,8 @@
 -- The written instruction moves the plain ones of the operands as pop, dup, swap and the like move all of them: form by form, and by which of
 -- them are virtual.
-use Rattle.std.proofs.Common.{◌≡◌, ◌≢◌, ◌<◌, ◌⊎◌, ◌++◌, ℕ, inl, inr, List, [], ◌∷◌, length, reverse, slice_get, Some, None, Option, true, false, refl, sym, subst, arith}
-use Rattle.std.specs.List.{AllByRecursion, flat_map}
-use Rattle.std.proofs.lemmas.Bool.{ne_eqb}
+use Rattle.std.proofs.Common.{◌≡◌, ◌<◌, ◌++◌, ◌==◌, ℕ, Bool, if◌then◌else◌, List, [], ◌∷◌, length, reverse, slice_get, Some, None, Option, true, false, refl, sym, subst, arith}
+use Rattle.std.specs.List.{AllByRecursion}
+use Rattle.std.proofs.lemmas.Bool.{eqb-true}
 use Rattle.class_model.specs.declared.instr.Instr.TheVariants.{Shuffle}
 use Rattle.class_model.specs.declared.opcodes.TheConstants.{POP, POP2, DUP, DUP_X1, DUP_X2, DUP2, DUP2_X1, DUP2_X2, SWAP}
 use Rattle.machine_values.specs.Values.{is_wide_value}
@@ -11,7 +11,6 @@ use Rattle.making_code.specs.Items.{WInstr, plain}
 use Rattle.member_link.specs.Machine.Locals.{shuffled}
 use Rattle.member_link.specs.Rows.ShuffleRows.{Form, Width, forms_of, one, two}
 use Rattle.plan_flow.specs.Written.Templates.{Cell, shuffles}
-use Rattle.virtual_state.specs.Laws.Objects.{same_or_not}
 use Rattle.virtual_state.specs.declared.slot.Slot.{Slot}
 use Rattle.virtual_state.specs.declared.slot.Slot.TheVariants.{Plain, Virt}
 
@@ -70,7 +69,7 @@ pub record IsChecked (opcode : ℕ) (form : Form) : Type 0 where
 
 -- ---- pop
 
-pop_by_one : {slots : List Slot} {all : List (List Value)} → CheckAt POP (record { takes = (one ∷ []); gives = [] }) slots all
+pop_by_one : {slots : List Slot} {all : List (List Value)} → CheckAt POP (record { takes = one ∷ []; gives = [] }) slots all
 pop_by_one (and_fit gone no_fits) = stays refl (λ cell others. refl) refl
 pop_by_one (and_fit (narrow a) no_fits) = moves POP refl (λ cell others. refl) (rw (a) refl)
 
@@ -79,13 +78,13 @@ pop_forms = (record { checks = λ slots all fit. pop_by_one fit; low = tt }, tt)
 
 -- ---- pop2
 
-pop2_by_one_one : {slots : List Slot} {all : List (List Value)} → CheckAt POP2 (record { takes = (one ∷ one ∷ []); gives = [] }) slots all
+pop2_by_one_one : {slots : List Slot} {all : List (List Value)} → CheckAt POP2 (record { takes = one ∷ one ∷ []; gives = [] }) slots all
 pop2_by_one_one (and_fit gone (and_fit gone no_fits)) = stays refl (λ cell others. refl) refl
 pop2_by_one_one (and_fit gone (and_fit (narrow b) no_fits)) = moves POP refl (λ cell others. refl) (rw (b) refl)
 pop2_by_one_one (and_fit (narrow a) (and_fit gone no_fits)) = moves POP refl (λ cell others. refl) (rw (a) refl)
 pop2_by_one_one (and_fit (narrow a) (and_fit (narrow b) no_fits)) = moves POP2 refl (λ cell others. refl) (rw (a, b) refl)
 
-pop2_by_two : {slots : List Slot} {all : List (List Value)} → CheckAt POP2 (record { takes = (two ∷ []); gives = [] }) slots all
+pop2_by_two : {slots : List Slot} {all : List (List Value)} → CheckAt POP2 (record { takes = two ∷ []; gives = [] }) slots all
 pop2_by_two (and_fit (wide a) no_fits) = moves POP2 refl (λ cell others. refl) (rw (a) refl)
 
 pop2_forms : AllByRecursion (IsChecked POP2) (forms_of POP2)
@@ -93,7 +92,7 @@ pop2_forms = (record { checks = λ slots all fit. pop2_by_one_one fit; low = tt 
 
 -- ---- dup
 
-dup_by_one : {slots : List Slot} {all : List (List Value)} → CheckAt DUP (record { takes = (one ∷ []); gives = (0 ∷ 0 ∷ []) }) slots all
+dup_by_one : {slots : List Slot} {all : List (List Value)} → CheckAt DUP (record { takes = one ∷ []; gives = 0 ∷ 0 ∷ [] }) slots all
 dup_by_one (and_fit gone no_fits) = stays refl (λ cell others. refl) refl
 dup_by_one (and_fit (narrow a) no_fits) = moves DUP refl (λ cell others. refl) (rw (a) refl)
 
@@ -102,7 +101,7 @@ dup_forms = (record { checks = λ slots all fit. dup_by_one fit; low = (omega ar
 
 -- ---- dup_x1
 
-dup_x1_by_one_one : {slots : List Slot} {all : List (List Value)} → CheckAt DUP_X1 (record { takes = (one ∷ one ∷ []); gives = (1 ∷ 0 ∷ 1 ∷ []) }) slots all
+dup_x1_by_one_one : {slots : List Slot} {all : List (List Value)} → CheckAt DUP_X1 (record { takes = one ∷ one ∷ []; gives = 1 ∷ 0 ∷ 1 ∷ [] }) slots all
 dup_x1_by_one_one (and_fit gone (and_fit gone no_fits)) = stays refl (λ cell others. refl) refl
 dup_x1_by_one_one (and_fit gone (and_fit (narrow b) no_fits)) = moves DUP refl (λ cell others. refl) (rw (b) refl)
 dup_x1_by_one_one (and_fit (narrow a) (and_fit gone no_fits)) = stays refl (λ cell others. refl) refl
@@ -113,7 +112,8 @@ dup_x1_forms = (record { checks = λ slots all fit. dup_x1_by_one_one fit; low =
 
 -- ---- dup_x2
 
-dup_x2_by_one_one_one : {slots : List Slot} {all : List (List Value)} → CheckAt DUP_X2 (record { takes = (one ∷ one ∷ one ∷ []); gives = (2 ∷ 0 ∷ 1 ∷ 2 ∷ []) }) slots all
+dup_x2_by_one_one_one : {slots : List Slot} {all : List (List Value)}
+    → CheckAt DUP_X2 (record { takes = one ∷ one ∷ one ∷ []; gives = 2 ∷ 0 ∷ 1 ∷ 2 ∷ [] }) slots all
 dup_x2_by_one_one_one (and_fit gone (and_fit gone (and_fit gone no_fits))) = stays refl (λ cell others. refl) refl
 dup_x2_by_one_one_one (and_fit gone (and_fit gone (and_fit (narrow c) no_fits))) = moves DUP refl (λ cell others. refl) (rw (c) refl)
 dup_x2_by_one_one_one (and_fit gone (and_fit (narrow b) (and_fit gone no_fits))) = stays refl (λ cell others. refl) refl
@@ -123,30 +123,37 @@ dup_x2_by_one_one_one (and_fit (narrow a) (and_fit gone (and_fit (narrow c) no_f
 dup_x2_by_one_one_one (and_fit (narrow a) (and_fit (narrow b) (and_fit gone no_fits))) = stays refl (λ cell others. refl) refl
 dup_x2_by_one_one_one (and_fit (narrow a) (and_fit (narrow b) (and_fit (narrow c) no_fits))) = moves DUP_X2 refl (λ cell others. refl) (rw (a, b, c) refl)
 
-dup_x2_by_two_one : {slots : List Slot} {all : List (List Value)} → CheckAt DUP_X2 (record { takes = (two ∷ one ∷ []); gives = (1 ∷ 0 ∷ 1 ∷ []) }) slots all
+dup_x2_by_two_one : {slots : List Slot} {all : List (List Value)} → CheckAt DUP_X2 (record { takes = two ∷ one ∷ []; gives = 1 ∷ 0 ∷ 1 ∷ [] }) slots all
 dup_x2_by_two_one (and_fit (wide a) (and_fit gone no_fits)) = stays refl (λ cell others. refl) refl
 dup_x2_by_two_one (and_fit (wide a) (and_fit (narrow b) no_fits)) = moves DUP_X2 refl (λ cell others. refl) (rw (a, b) refl)
 
 dup_x2_forms : AllByRecursion (IsChecked DUP_X2) (forms_of DUP_X2)
-dup_x2_forms = (record { checks = λ slots all fit. dup_x2_by_one_one_one fit; low = (omega arith, (omega arith, (omega arith, (omega arith, tt)))) }, (record { checks = λ slots all fit. dup_x2_by_two_one fit; low = (omega arith, (omega arith, (omega arith, tt))) }, tt))
+dup_x2_forms = (
+  record { checks = λ slots all fit. dup_x2_by_one_one_one fit; low = (omega arith, (omega arith, (omega arith, (omega arith, tt)))) },
+  (record { checks = λ slots all fit. dup_x2_by_two_one fit; low = (omega arith, (omega arith, (omega arith, tt))) }, tt),
+)
 
 -- ---- dup2
 
-dup2_by_one_one : {slots : List Slot} {all : List (List Value)} → CheckAt DUP2 (record { takes = (one ∷ one ∷ []); gives = (0 ∷ 1 ∷ 0 ∷ 1 ∷ []) }) slots all
+dup2_by_one_one : {slots : List Slot} {all : List (List Value)} → CheckAt DUP2 (record { takes = one ∷ one ∷ []; gives = 0 ∷ 1 ∷ 0 ∷ 1 ∷ [] }) slots all
 dup2_by_one_one (and_fit gone (and_fit gone no_fits)) = stays refl (λ cell others. refl) refl
 dup2_by_one_one (and_fit gone (and_fit (narrow b) no_fits)) = moves DUP refl (λ cell others. refl) (rw (b) refl)
 dup2_by_one_one (and_fit (narrow a) (and_fit gone no_fits)) = moves DUP refl (λ cell others. refl) (rw (a) refl)
 dup2_by_one_one (and_fit (narrow a) (and_fit (narrow b) no_fits)) = moves DUP2 refl (λ cell others. refl) (rw (a, b) refl)
 
-dup2_by_two : {slots : List Slot} {all : List (List Value)} → CheckAt DUP2 (record { takes = (two ∷ []); gives = (0 ∷ 0 ∷ []) }) slots all
+dup2_by_two : {slots : List Slot} {all : List (List Value)} → CheckAt DUP2 (record { takes = two ∷ []; gives = 0 ∷ 0 ∷ [] }) slots all
 dup2_by_two (and_fit (wide a) no_fits) = moves DUP2 refl (λ cell others. refl) (rw (a) refl)
 
 dup2_forms : AllByRecursion (IsChecked DUP2) (forms_of DUP2)
-dup2_forms = (record { checks = λ slots all fit. dup2_by_one_one fit; low = (omega arith, (omega arith, (omega arith, (omega arith, tt)))) }, (record { checks = λ slots all fit. dup2_by_two fit; low = (omega arith, (omega arith, tt)) }, tt))
+dup2_forms = (
+  record { checks = λ slots all fit. dup2_by_one_one fit; low = (omega arith, (omega arith, (omega arith, (omega arith, tt)))) },
+  (record { checks = λ slots all fit. dup2_by_two fit; low = (omega arith, (omega arith, tt)) }, tt),
+)
 
 -- ---- dup2_x1
 
-dup2_x1_by_one_one_one : {slots : List Slot} {all : List (List Value)} → CheckAt DUP2_X1 (record { takes = (one ∷ one ∷ one ∷ []); gives = (1 ∷ 2 ∷ 0 ∷ 1 ∷ 2 ∷ []) }) slots all
+dup2_x1_by_one_one_one : {slots : List Slot} {all : List (List Value)}
+    → CheckAt DUP2_X1 (record { takes = one ∷ one ∷ one ∷ []; gives = 1 ∷ 2 ∷ 0 ∷ 1 ∷ 2 ∷ [] }) slots all
 dup2_x1_by_one_one_one (and_fit gone (and_fit gone (and_fit gone no_fits))) = stays refl (λ cell others. refl) refl
 dup2_x1_by_one_one_one (and_fit gone (and_fit gone (and_fit (narrow c) no_fits))) = moves DUP refl (λ cell others. refl) (rw (c) refl)
 dup2_x1_by_one_one_one (and_fit gone (and_fit (narrow b) (and_fit gone no_fits))) = moves DUP refl (λ cell others. refl) (rw (b) refl)
@@ -156,54 +163,82 @@ dup2_x1_by_one_one_one (and_fit (narrow a) (and_fit gone (and_fit (narrow c) no_
 dup2_x1_by_one_one_one (and_fit (narrow a) (and_fit (narrow b) (and_fit gone no_fits))) = moves DUP_X1 refl (λ cell others. refl) (rw (a, b) refl)
 dup2_x1_by_one_one_one (and_fit (narrow a) (and_fit (narrow b) (and_fit (narrow c) no_fits))) = moves DUP2_X1 refl (λ cell others. refl) (rw (a, b, c) refl)
 
-dup2_x1_by_one_two : {slots : List Slot} {all : List (List Value)} → CheckAt DUP2_X1 (record { takes = (one ∷ two ∷ []); gives = (1 ∷ 0 ∷ 1 ∷ []) }) slots all
+dup2_x1_by_one_two : {slots : List Slot} {all : List (List Value)} → CheckAt DUP2_X1 (record { takes = one ∷ two ∷ []; gives = 1 ∷ 0 ∷ 1 ∷ [] }) slots all
 dup2_x1_by_one_two (and_fit gone (and_fit (wide b) no_fits)) = moves DUP2 refl (λ cell others. refl) (rw (b) refl)
 dup2_x1_by_one_two (and_fit (narrow a) (and_fit (wide b) no_fits)) = moves DUP2_X1 refl (λ cell others. refl) (rw (a, b) refl)
 
 dup2_x1_forms : AllByRecursion (IsChecked DUP2_X1) (forms_of DUP2_X1)
-dup2_x1_forms = (record { checks = λ slots all fit. dup2_x1_by_one_one_one fit; low = (omega arith, (omega arith, (omega arith, (omega arith, (omega arith, tt))))) }, (record { checks = λ slots all fit. dup2_x1_by_one_two fit; low = (omega arith, (omega arith, (omega arith, tt))) }, tt))
+dup2_x1_forms = (
+  record { checks = λ slots all fit. dup2_x1_by_one_one_one fit; low = (omega arith, (omega arith, (omega arith, (omega arith, (omega arith, tt))))) },
+  (record { checks = λ slots all fit. dup2_x1_by_one_two fit; low = (omega arith, (omega arith, (omega arith, tt))) }, tt),
+)
 
 -- ---- dup2_x2
 
-dup2_x2_by_one_one_one_one : {slots : List Slot} {all : List (List Value)} → CheckAt DUP2_X2 (record { takes = (one ∷ one ∷ one ∷ one ∷ []); gives = (2 ∷ 3 ∷ 0 ∷ 1 ∷ 2 ∷ 3 ∷ []) }) slots all
+dup2_x2_by_one_one_one_one : {slots : List Slot} {all : List (List Value)}
+    → CheckAt DUP2_X2 (record { takes = one ∷ one ∷ one ∷ one ∷ []; gives = 2 ∷ 3 ∷ 0 ∷ 1 ∷ 2 ∷ 3 ∷ [] }) slots all
 dup2_x2_by_one_one_one_one (and_fit gone (and_fit gone (and_fit gone (and_fit gone no_fits)))) = stays refl (λ cell others. refl) refl
 dup2_x2_by_one_one_one_one (and_fit gone (and_fit gone (and_fit gone (and_fit (narrow d) no_fits)))) = moves DUP refl (λ cell others. refl) (rw (d) refl)
 dup2_x2_by_one_one_one_one (and_fit gone (and_fit gone (and_fit (narrow c) (and_fit gone no_fits)))) = moves DUP refl (λ cell others. refl) (rw (c) refl)
-dup2_x2_by_one_one_one_one (and_fit gone (and_fit gone (and_fit (narrow c) (and_fit (narrow d) no_fits)))) = moves DUP2 refl (λ cell others. refl) (rw (c, d) refl)
+dup2_x2_by_one_one_one_one (and_fit gone (and_fit gone (and_fit (narrow c) (and_fit (narrow d) no_fits)))) =
+    moves DUP2 refl (λ cell others. refl) (rw (c, d) refl)
 dup2_x2_by_one_one_one_one (and_fit gone (and_fit (narrow b) (and_fit gone (and_fit gone no_fits)))) = stays refl (λ cell others. refl) refl
-dup2_x2_by_one_one_one_one (and_fit gone (and_fit (narrow b) (and_fit gone (and_fit (narrow d) no_fits)))) = moves DUP_X1 refl (λ cell others. refl) (rw (b, d) refl)
-dup2_x2_by_one_one_one_one (and_fit gone (and_fit (narrow b) (and_fit (narrow c) (and_fit gone no_fits)))) = moves DUP_X1 refl (λ cell others. refl) (rw (b, c) refl)
-dup2_x2_by_one_one_one_one (and_fit gone (and_fit (narrow b) (and_fit (narrow c) (and_fit (narrow d) no_fits)))) = moves DUP2_X1 refl (λ cell others. refl) (rw (b, c, d) refl)
+dup2_x2_by_one_one_one_one (and_fit gone (and_fit (narrow b) (and_fit gone (and_fit (narrow d) no_fits)))) =
+    moves DUP_X1 refl (λ cell others. refl) (rw (b, d) refl)
+dup2_x2_by_one_one_one_one (and_fit gone (and_fit (narrow b) (and_fit (narrow c) (and_fit gone no_fits)))) =
+    moves DUP_X1 refl (λ cell others. refl) (rw (b, c) refl)
+dup2_x2_by_one_one_one_one (and_fit gone (and_fit (narrow b) (and_fit (narrow c) (and_fit (narrow d) no_fits)))) =
+    moves DUP2_X1 refl (λ cell others. refl) (rw (b, c, d) refl)
 dup2_x2_by_one_one_one_one (and_fit (narrow a) (and_fit gone (and_fit gone (and_fit gone no_fits)))) = stays refl (λ cell others. refl) refl
-dup2_x2_by_one_one_one_one (and_fit (narrow a) (and_fit gone (and_fit gone (and_fit (narrow d) no_fits)))) = moves DUP_X1 refl (λ cell others. refl) (rw (a, d) refl)
-dup2_x2_by_one_one_one_one (and_fit (narrow a) (and_fit gone (and_fit (narrow c) (and_fit gone no_fits)))) = moves DUP_X1 refl (λ cell others. refl) (rw (a, c) refl)
-dup2_x2_by_one_one_one_one (and_fit (narrow a) (and_fit gone (and_fit (narrow c) (and_fit (narrow d) no_fits)))) = moves DUP2_X1 refl (λ cell others. refl) (rw (a, c, d) refl)
+dup2_x2_by_one_one_one_one (and_fit (narrow a) (and_fit gone (and_fit gone (and_fit (narrow d) no_fits)))) =
+    moves DUP_X1 refl (λ cell others. refl) (rw (a, d) refl)
+dup2_x2_by_one_one_one_one (and_fit (narrow a) (and_fit gone (and_fit (narrow c) (and_fit gone no_fits)))) =
+    moves DUP_X1 refl (λ cell others. refl) (rw (a, c) refl)
+dup2_x2_by_one_one_one_one (and_fit (narrow a) (and_fit gone (and_fit (narrow c) (and_fit (narrow d) no_fits)))) =
+    moves DUP2_X1 refl (λ cell others. refl) (rw (a, c, d) refl)
 dup2_x2_by_one_one_one_one (and_fit (narrow a) (and_fit (narrow b) (and_fit gone (and_fit gone no_fits)))) = stays refl (λ cell others. refl) refl
-dup2_x2_by_one_one_one_one (and_fit (narrow a) (and_fit (narrow b) (and_fit gone (and_fit (narrow d) no_fits)))) = moves DUP_X2 refl (λ cell others. refl) (rw (a, b, d) refl)
-dup2_x2_by_one_one_one_one (and_fit (narrow a) (and_fit (narrow b) (and_fit (narrow c) (and_fit gone no_fits)))) = moves DUP_X2 refl (λ cell others. refl) (rw (a, b, c) refl)
-dup2_x2_by_one_one_one_one (and_fit (narrow a) (and_fit (narrow b) (and_fit (narrow c) (and_fit (narrow d) no_fits)))) = moves DUP2_X2 refl (λ cell others. refl) (rw (a, b, c, d) refl)
+dup2_x2_by_one_one_one_one (and_fit (narrow a) (and_fit (narrow b) (and_fit gone (and_fit (narrow d) no_fits)))) =
+    moves DUP_X2 refl (λ cell others. refl) (rw (a, b, d) refl)
+dup2_x2_by_one_one_one_one (and_fit (narrow a) (and_fit (narrow b) (and_fit (narrow c) (and_fit gone no_fits)))) =
+    moves DUP_X2 refl (λ cell others. refl) (rw (a, b, c) refl)
+dup2_x2_by_one_one_one_one (and_fit (narrow a) (and_fit (narrow b) (and_fit (narrow c) (and_fit (narrow d) no_fits)))) =
+    moves DUP2_X2 refl (λ cell others. refl) (rw (a, b, c, d) refl)
 
-dup2_x2_by_one_one_two : {slots : List Slot} {all : List (List Value)} → CheckAt DUP2_X2 (record { takes = (one ∷ one ∷ two ∷ []); gives = (2 ∷ 0 ∷ 1 ∷ 2 ∷ []) }) slots all
+dup2_x2_by_one_one_two : {slots : List Slot} {all : List (List Value)}
+    → CheckAt DUP2_X2 (record { takes = one ∷ one ∷ two ∷ []; gives = 2 ∷ 0 ∷ 1 ∷ 2 ∷ [] }) slots all
 dup2_x2_by_one_one_two (and_fit gone (and_fit gone (and_fit (wide c) no_fits))) = moves DUP2 refl (λ cell others. refl) (rw (c) refl)
 dup2_x2_by_one_one_two (and_fit gone (and_fit (narrow b) (and_fit (wide c) no_fits))) = moves DUP2_X1 refl (λ cell others. refl) (rw (b, c) refl)
 dup2_x2_by_one_one_two (and_fit (narrow a) (and_fit gone (and_fit (wide c) no_fits))) = moves DUP2_X1 refl (λ cell others. refl) (rw (a, c) refl)
 dup2_x2_by_one_one_two (and_fit (narrow a) (and_fit (narrow b) (and_fit (wide c) no_fits))) = moves DUP2_X2 refl (λ cell others. refl) (rw (a, b, c) refl)
 
-dup2_x2_by_two_one_one : {slots : List Slot} {all : List (List Value)} → CheckAt DUP2_X2 (record { takes = (two ∷ one ∷ one ∷ []); gives = (1 ∷ 2 ∷ 0 ∷ 1 ∷ 2 ∷ []) }) slots all
+dup2_x2_by_two_one_one : {slots : List Slot} {all : List (List Value)}
+    → CheckAt DUP2_X2 (record { takes = two ∷ one ∷ one ∷ []; gives = 1 ∷ 2 ∷ 0 ∷ 1 ∷ 2 ∷ [] }) slots all
 dup2_x2_by_two_one_one (and_fit (wide a) (and_fit gone (and_fit gone no_fits))) = stays refl (λ cell others. refl) refl
 dup2_x2_by_two_one_one (and_fit (wide a) (and_fit gone (and_fit (narrow c) no_fits))) = moves DUP_X2 refl (λ cell others. refl) (rw (a, c) refl)
 dup2_x2_by_two_one_one (and_fit (wide a) (and_fit (narrow b) (and_fit gone no_fits))) = moves DUP_X2 refl (λ cell others. refl) (rw (a, b) refl)
 dup2_x2_by_two_one_one (and_fit (wide a) (and_fit (narrow b) (and_fit (narrow c) no_fits))) = moves DUP2_X2 refl (λ cell others. refl) (rw (a, b, c) refl)
 
-dup2_x2_by_two_two : {slots : List Slot} {all : List (List Value)} → CheckAt DUP2_X2 (record { takes = (two ∷ two ∷ []); gives = (1 ∷ 0 ∷ 1 ∷ []) }) slots all
+dup2_x2_by_two_two : {slots : List Slot} {all : List (List Value)} → CheckAt DUP2_X2 (record { takes = two ∷ two ∷ []; gives = 1 ∷ 0 ∷ 1 ∷ [] }) slots all
 dup2_x2_by_two_two (and_fit (wide a) (and_fit (wide b) no_fits)) = moves DUP2_X2 refl (λ cell others. refl) (rw (a, b) refl)
 
 dup2_x2_forms : AllByRecursion (IsChecked DUP2_X2) (forms_of DUP2_X2)
-dup2_x2_forms = (record { checks = λ slots all fit. dup2_x2_by_one_one_one_one fit; low = (omega arith, (omega arith, (omega arith, (omega arith, (omega arith, (omega arith, tt)))))) }, (record { checks = λ slots all fit. dup2_x2_by_one_one_two fit; low = (omega arith, (omega arith, (omega arith, (omega arith, tt)))) }, (record { checks = λ slots all fit. dup2_x2_by_two_one_one fit; low = (omega arith, (omega arith, (omega arith, (omega arith, (omega arith, tt))))) }, (record { checks = λ slots all fit. dup2_x2_by_two_two fit; low = (omega arith, (omega arith, (omega arith, tt))) }, tt))))
+dup2_x2_forms = (
+  record {
+    checks = λ slots all fit. dup2_x2_by_one_one_one_one fit;
+    low = (omega arith, (omega arith, (omega arith, (omega arith, (omega arith, (omega arith, tt))))));
+  },
+  (
+    record { checks = λ slots all fit. dup2_x2_by_one_one_two fit; low = (omega arith, (omega arith, (omega arith, (omega arith, tt)))) },
+    (
+      record { checks = λ slots all fit. dup2_x2_by_two_one_one fit; low = (omega arith, (omega arith, (omega arith, (omega arith, (omega arith, tt))))) },
+      (record { checks = λ slots all fit. dup2_x2_by_two_two fit; low = (omega arith, (omega arith, (omega arith, tt))) }, tt),
+    ),
+  ),
+)
 
 -- ---- swap
 
-swap_by_one_one : {slots : List Slot} {all : List (List Value)} → CheckAt SWAP (record { takes = (one ∷ one ∷ []); gives = (1 ∷ 0 ∷ []) }) slots all
+swap_by_one_one : {slots : List Slot} {all : List (List Value)} → CheckAt SWAP (record { takes = one ∷ one ∷ []; gives = 1 ∷ 0 ∷ [] }) slots all
 swap_by_one_one (and_fit gone (and_fit gone no_fits)) = stays refl (λ cell others. refl) refl
 swap_by_one_one (and_fit gone (and_fit (narrow b) no_fits)) = stays refl (λ cell others. refl) refl
 swap_by_one_one (and_fit (narrow a) (and_fit gone no_fits)) = stays refl (λ cell others. refl) refl
@@ -214,50 +249,22 @@ swap_forms = (record { checks = λ slots all fit. swap_by_one_one fit; low = (om
 
 -- ---- each
 
+-- the forms of one opcode, or those of others
+or_others : (opcode known : ℕ) (others : List Form) → AllByRecursion (IsChecked known) (forms_of known) → AllByRecursion (IsChecked opcode) others
+    → AllByRecursion (IsChecked opcode) (if opcode == known then forms_of known else others)
+or_others opcode known others here rest = by (opcode == known) refl where
+  by : (same : Bool) → (opcode == known) ≡ same → AllByRecursion (IsChecked opcode) (if same then forms_of known else others)
+  by true told = subst (λ (n : ℕ). AllByRecursion (IsChecked n) (forms_of known)) (sym (eqb-true opcode known told)) here
+  by false told = rest
+
 pub all_checked : (opcode : ℕ) → AllByRecursion (IsChecked opcode) (forms_of opcode)
-all_checked opcode = by_pop (same_or_not opcode POP) where
-  by_swap : (opcode ≢ POP) → (opcode ≢ POP2) → (opcode ≢ DUP) → (opcode ≢ DUP_X1) → (opcode ≢ DUP_X2) → (opcode ≢ DUP2) → (opcode ≢ DUP2_X1) → (opcode ≢ DUP2_X2) → (opcode ≡ SWAP) ⊎ (opcode ≢ SWAP)
-      → AllByRecursion (IsChecked opcode) (forms_of opcode)
-  by_swap no_pop no_pop2 no_dup no_dup_x1 no_dup_x2 no_dup2 no_dup2_x1 no_dup2_x2 (inl same) = subst (λ (n : ℕ). AllByRecursion (IsChecked n) (forms_of n)) (sym same) swap_forms
-  by_swap no_pop no_pop2 no_dup no_dup_x1 no_dup_x2 no_dup2 no_dup2_x1 no_dup2_x2 (inr no_swap) =
-      rw (ne_eqb opcode POP no_pop, ne_eqb opcode POP2 no_pop2, ne_eqb opcode DUP no_dup, ne_eqb opcode DUP_X1 no_dup_x1, ne_eqb opcode DUP_X2 no_dup_x2, ne_eqb opcode DUP2 no_dup2, ne_eqb opcode DUP2_X1 no_dup2_x1, ne_eqb opcode DUP2_X2 no_dup2_x2, ne_eqb opcode SWAP no_swap) tt
-
-  by_dup2_x2 : (opcode ≢ POP) → (opcode ≢ POP2) → (opcode ≢ DUP) → (opcode ≢ DUP_X1) → (opcode ≢ DUP_X2) → (opcode ≢ DUP2) → (opcode ≢ DUP2_X1) → (opcode ≡ DUP2_X2) ⊎ (opcode ≢ DUP2_X2)
-      → AllByRecursion (IsChecked opcode) (forms_of opcode)
-  by_dup2_x2 no_pop no_pop2 no_dup no_dup_x1 no_dup_x2 no_dup2 no_dup2_x1 (inl same) = subst (λ (n : ℕ). AllByRecursion (IsChecked n) (forms_of n)) (sym same) dup2_x2_forms
-  by_dup2_x2 no_pop no_pop2 no_dup no_dup_x1 no_dup_x2 no_dup2 no_dup2_x1 (inr no_dup2_x2) = by_swap no_pop no_pop2 no_dup no_dup_x1 no_dup_x2 no_dup2 no_dup2_x1 no_dup2_x2 (same_or_not opcode SWAP)
-
-  by_dup2_x1 : (opcode ≢ POP) → (opcode ≢ POP2) → (opcode ≢ DUP) → (opcode ≢ DUP_X1) → (opcode ≢ DUP_X2) → (opcode ≢ DUP2) → (opcode ≡ DUP2_X1) ⊎ (opcode ≢ DUP2_X1)
-      → AllByRecursion (IsChecked opcode) (forms_of opcode)
-  by_dup2_x1 no_pop no_pop2 no_dup no_dup_x1 no_dup_x2 no_dup2 (inl same) = subst (λ (n : ℕ). AllByRecursion (IsChecked n) (forms_of n)) (sym same) dup2_x1_forms
-  by_dup2_x1 no_pop no_pop2 no_dup no_dup_x1 no_dup_x2 no_dup2 (inr no_dup2_x1) = by_dup2_x2 no_pop no_pop2 no_dup no_dup_x1 no_dup_x2 no_dup2 no_dup2_x1 (same_or_not opcode DUP2_X2)
-
-  by_dup2 : (opcode ≢ POP) → (opcode ≢ POP2) → (opcode ≢ DUP) → (opcode ≢ DUP_X1) → (opcode ≢ DUP_X2) → (opcode ≡ DUP2) ⊎ (opcode ≢ DUP2)
-      → AllByRecursion (IsChecked opcode) (forms_of opcode)
-  by_dup2 no_pop no_pop2 no_dup no_dup_x1 no_dup_x2 (inl same) = subst (λ (n : ℕ). AllByRecursion (IsChecked n) (forms_of n)) (sym same) dup2_forms
-  by_dup2 no_pop no_pop2 no_dup no_dup_x1 no_dup_x2 (inr no_dup2) = by_dup2_x1 no_pop no_pop2 no_dup no_dup_x1 no_dup_x2 no_dup2 (same_or_not opcode DUP2_X1)
-
-  by_dup_x2 : (opcode ≢ POP) → (opcode ≢ POP2) → (opcode ≢ DUP) → (opcode ≢ DUP_X1) → (opcode ≡ DUP_X2) ⊎ (opcode ≢ DUP_X2)
-      → AllByRecursion (IsChecked opcode) (forms_of opcode)
-  by_dup_x2 no_pop no_pop2 no_dup no_dup_x1 (inl same) = subst (λ (n : ℕ). AllByRecursion (IsChecked n) (forms_of n)) (sym same) dup_x2_forms
-  by_dup_x2 no_pop no_pop2 no_dup no_dup_x1 (inr no_dup_x2) = by_dup2 no_pop no_pop2 no_dup no_dup_x1 no_dup_x2 (same_or_not opcode DUP2)
-
-  by_dup_x1 : (opcode ≢ POP) → (opcode ≢ POP2) → (opcode ≢ DUP) → (opcode ≡ DUP_X1) ⊎ (opcode ≢ DUP_X1)
-      → AllByRecursion (IsChecked opcode) (forms_of opcode)
-  by_dup_x1 no_pop no_pop2 no_dup (inl same) = subst (λ (n : ℕ). AllByRecursion (IsChecked n) (forms_of n)) (sym same) dup_x1_forms
-  by_dup_x1 no_pop no_pop2 no_dup (inr no_dup_x1) = by_dup_x2 no_pop no_pop2 no_dup no_dup_x1 (same_or_not opcode DUP_X2)
-
-  by_dup : (opcode ≢ POP) → (opcode ≢ POP2) → (opcode ≡ DUP) ⊎ (opcode ≢ DUP)
-      → AllByRecursion (IsChecked opcode) (forms_of opcode)
-  by_dup no_pop no_pop2 (inl same) = subst (λ (n : ℕ). AllByRecursion (IsChecked n) (forms_of n)) (sym same) dup_forms
-  by_dup no_pop no_pop2 (inr no_dup) = by_dup_x1 no_pop no_pop2 no_dup (same_or_not opcode DUP_X1)
-
-  by_pop2 : (opcode ≢ POP) → (opcode ≡ POP2) ⊎ (opcode ≢ POP2)
-      → AllByRecursion (IsChecked opcode) (forms_of opcode)
-  by_pop2 no_pop (inl same) = subst (λ (n : ℕ). AllByRecursion (IsChecked n) (forms_of n)) (sym same) pop2_forms
-  by_pop2 no_pop (inr no_pop2) = by_dup no_pop no_pop2 (same_or_not opcode DUP)
-
-  by_pop : (opcode ≡ POP) ⊎ (opcode ≢ POP)
-      → AllByRecursion (IsChecked opcode) (forms_of opcode)
-  by_pop (inl same) = subst (λ (n : ℕ). AllByRecursion (IsChecked n) (forms_of n)) (sym same) pop_forms
-  by_pop (inr no_pop) = by_pop2 no_pop (same_or_not opcode POP2)
+all_checked opcode =
+    or_others opcode POP _ pop_forms
+    (or_others opcode POP2 _ pop2_forms
+    (or_others opcode DUP _ dup_forms
+    (or_others opcode DUP_X1 _ dup_x1_forms
+    (or_others opcode DUP_X2 _ dup_x2_forms
+    (or_others opcode DUP2 _ dup2_forms
+    (or_others opcode DUP2_X1 _ dup2_x1_forms
+    (or_others opcode DUP2_X2 _ dup2_x2_forms
+    (or_others opcode SWAP _ swap_forms tt))))))))

@@ -1,5 +1,5 @@
 -- Turns at pop, dup, swap and the like: the second stack moves the plain ones of the operands.
-use Rattle.std.proofs.Common.{◌≡◌, ◌≢◌, ◌≤◌, ◌<◌, ◌+◌, ◌-◌, ◌++◌, ◌&&◌, ℕ, zero, suc, not, Bool, true, false, List, [], ◌∷◌, drop, length, map, reverse, slice_get, take, Some, None, Option, option_map, if◌then◌else◌, IsTrue, refl, sym, ap, subst, ◌∙◌, arith}
+use Rattle.std.proofs.Common.{◌≡◌, ◌<◌, ◌+◌, ◌-◌, ◌++◌, ℕ, zero, suc, not, Bool, true, false, List, [], ◌∷◌, drop, length, map, reverse, slice_get, take, Some, None, Option, option_map, if◌then◌else◌, IsTrue, refl, sym, ap, subst, ◌∙◌, arith}
 use Rattle.std.specs.List.{AllByRecursion}
 use Rattle.std.proofs.lemmas.Bool.{and_parts, false≢true}
 use Rattle.std.proofs.lemmas.List.{length-reverse, reverse-append, reverse-reverse, take-append-drop}
@@ -18,10 +18,10 @@ use Rattle.making_code.specs.Items.{WInstr, plain}
 use Rattle.member_link.specs.Machine.Locals.{chosen_values, fit_widths, fits_width, form_for, shuffled, topmost}
 use Rattle.member_link.specs.Machine.Ops.{Op, shuffle_stack}
 use Rattle.member_link.specs.Machine.Runs.{Run}
-use Rattle.member_link.specs.Machine.Stepping.{next_with, op_step, shuffle_step, with_top}
+use Rattle.member_link.specs.Machine.Stepping.{next_with, shuffle_step}
 use Rattle.member_link.specs.Rows.Operands as operands
 use Rattle.member_link.specs.Rows.ShuffleRows.{Form, Width, form_in, forms_of, has_width, have_widths, one, two}
-use Rattle.plan_flow.specs.PlanRows.{PlanRow, Source, from_new, from_place, no_change}
+use Rattle.plan_flow.specs.PlanRows.{PlanRow, Source, from_place, no_change}
 use Rattle.plan_flow.specs.PlanSlots.{held, is_open, readable, slots_from}
 use Rattle.plan_flow.specs.PlanTable.{operand, picked_operands, shuffle_row}
 use Rattle.plan_flow.specs.ReadyForPlans.{KeepsType, from_its_new, from_its_type, place_types}
@@ -34,7 +34,7 @@ use Rattle.same_runs.specs.Renamings.{Names, SameValue, no_values}
 use Rattle.virtual_state.specs.declared.slot.Slot.{Slot}
 use Rattle.virtual_state.specs.declared.slot.Slot.TheVariants.{Plain, Virt, Unusable}
 use Rattle.written_runs.specs.Inner.PlannedFrames.{KeepStack, scope_in}
-use Rattle.written_runs.specs.Inner.Setup.{Setup, first}
+use Rattle.written_runs.specs.Inner.Setup.{Setup}
 use Rattle.written_runs.specs.Laws.MadeItems.{AreOwn}
 use Rattle.written_runs.specs.Laws.PlannedTurns.{AtPlanned, written_at}
 use Rattle.written_runs.specs.Laws.Simulation.{KeepsTurn}
