@@ -21,6 +21,7 @@ use Rattle.machine_values.specs.declared.value.Value.TheVariants.{Ref}
 use Rattle.machine_values.specs.declared.value.Value.{Value}
 use Rattle.member_link.specs.Machine.Acting.{act}
 use Rattle.member_link.specs.Machine.Programs.{Program, field_of, folder_number, has_flag}
+use Rattle.member_link.specs.Machine.Runs.{Run, begins_with, turns}
 use Rattle.member_link.specs.Machine.SameRuns.{SameRuns}
 use Rattle.member_link.specs.Machine.Stepping.{is_library_turn, step}
 use Rattle.member_link.specs.Machine.Worlds.{World, start}
@@ -35,8 +36,10 @@ use Rattle.typed_runs.specs.FolderTypings.{HasFlatTypings}
 use Rattle.typed_runs.specs.TypedFrames.{ConformsTo}
 use Rattle.typed_runs.specs.TypedPrograms.{IsTypedProgram, Typings}
 use Rattle.typed_runs.specs.TypedWorlds.{StaysTyped, TypedWorld}
+use Rattle.written_runs.specs.Inner.MadeObjects.{MakesObjects}
 use Rattle.written_runs.specs.Inner.PlannedFrames.{scope_in}
 use Rattle.written_runs.specs.Inner.Setup.{IsSetup, Setup, first, second}
+use Rattle.written_runs.specs.Inner.Together.{Related}
 use Rattle.written_runs.specs.Laws.AddedConstructors.{AddsToCandidates, first_second_same}
 use Rattle.written_runs.specs.Laws.AloneTurns.{alone_turn}
 use Rattle.written_runs.specs.Laws.BeginningTurns.{beginning_turn}
@@ -63,7 +66,7 @@ use Rattle.written_runs.specs.Laws.SameBoth.{begin_alike}
 use Rattle.written_runs.specs.Laws.SameForms.{same_forms}
 use Rattle.written_runs.specs.Laws.SettleFromSetup.{settle_laws}
 use Rattle.written_runs.specs.Laws.Settling.{SettleLaws}
-use Rattle.written_runs.specs.Laws.Simulation.{Parts, runs_the_same}
+use Rattle.written_runs.specs.Laws.Simulation.{Parts, runs_the_same, stays_related}
 use Rattle.written_runs.specs.Laws.StaysTop.{stays_top_by}
 use Rattle.written_runs.specs.Laws.Templates.Known.{TemplateLaws}
 use Rattle.written_runs.specs.Laws.Templates.Whole.{template_turns}
@@ -183,12 +186,12 @@ module _ {u : Setup} (grounds : Grounds u) (laws : RunLaws) where
       rows_fit = left.rows_fit;
     }
 
-    turns : TurnLaws u
-    turns = turn_laws (frame_laws (unwinds_planned u carried_facts) (returns_planned u carried_facts))
+    turns_known : TurnLaws u
+    turns_known = turn_laws (frame_laws (unwinds_planned u carried_facts) (returns_planned u carried_facts))
 
     carried_laws : CarriedLaws u
     carried_laws = record {
-      turns = turns;
+      turns = turns_known;
       flat_code = λ at w host written there. flat_code_at u grounds.setup at w host written there;
       conforms = conforms;
       rows_fit = left.rows_fit;
@@ -226,11 +229,11 @@ module _ {u : Setup} (grounds : Grounds u) (laws : RunLaws) where
     parts = record {
       alone = λ measure one other t class now is. alone_turn u basis measure one other t class now is;
       library = λ measure one other t none made made_also ones others is is_also held below.
-          library_turn u (library_laws turns) measure one other t none made made_also ones others is is_also held below;
+          library_turn u (library_laws turns_known) measure one other t none made made_also ones others is is_also held below;
       beginning = λ measure one other t none class ones others is is_also below.
           beginning_turn u basis measure one other t none class ones others is is_also below;
       own = λ measure one other t none f g ones others is is_also in_own below.
-          own_turn u turns measure one other t none f g ones others is is_also in_own below;
+          own_turn u turns_known measure one other t none f g ones others is is_also in_own below;
       planned = λ measure one other t none f g ones others is is_also in_planned settled below low.
           planned_turn u planned measure one other (record {
             t = t;
@@ -253,3 +256,11 @@ module _ {u : Setup} (grounds : Grounds u) (laws : RunLaws) where
     -- The program with written codes runs the same as the one with flat codes.
     pub written_codes_run_the_same : SameRuns (first u) (second u)
     written_codes_run_the_same = runs_the_same u parts
+
+    -- In each run of the first the relation holds of some run of the second.
+    pub written_codes_stay_related : (actions : List Action) (count : ℕ)
+        → (measure : ℕ) × (other : Run) × Related u measure (turns (first u) count (begins_with actions)) other
+    written_codes_stay_related = stays_related u parts
+
+  pub makes_what_was_virtual : MakesObjects u
+  makes_what_was_virtual = settle.making

@@ -1,12 +1,12 @@
 -- Each turn of the program with flat codes keeps runs related: so the program with written codes runs the same.
-use Rattle.std.proofs.Common.{◌≡◌, ◌⊎◌, ◌≤◌, ◌-◌, ◌++◌, ℕ, Bool, true, false, List, [], ◌∷◌, length, map, Option, refl, sym, ap, subst, ◌∙◌, arith, inl, inr}
+use Rattle.std.proofs.Common.{◌≡◌, ◌⊎◌, ◌≤◌, ◌<◌, ◌-◌, ◌++◌, ℕ, zero, suc, Bool, true, false, List, [], ◌∷◌, length, map, Option, refl, sym, ap, subst, ◌∙◌, arith, inl, inr}
 use Rattle.std.proofs.lemmas.Option.{none-some}
 use Rattle.machine_values.specs.Frames.{MethodState}
 use Rattle.machine_values.specs.declared.action.Action.{Action}
 use Rattle.machine_values.specs.declared.frame.RunFrame.{RunFrame}
 use Rattle.machine_values.specs.declared.frame.RunFrame.TheVariants.{Beginning, Library, Method}
 use Rattle.member_link.specs.Machine.Programs.{Program}
-use Rattle.member_link.specs.Machine.Runs.{Run, begins_with, end_of, shown}
+use Rattle.member_link.specs.Machine.Runs.{Run, begins_with, end_of, shown, turn, turns}
 use Rattle.member_link.specs.Machine.SameRuns.{IsSameShown, SameRuns}
 use Rattle.member_link.specs.Machine.Stepping.{is_library_turn}
 use Rattle.member_link.specs.Machine.Worlds.{start}
@@ -216,3 +216,25 @@ module _ (u : Setup) (parts : Parts u) where
   -- The program with written codes runs the same.
   pub runs_the_same : SameRuns P Q
   runs_the_same = simulated (record { shows = shows; keeps = keeps }) starts_together
+
+  -- After any number of turns of the first some run of the second is related to it.
+  related_after : (count measure : ℕ) (one other : Run) → Related u measure one other
+      → (then : ℕ) × (also : Run) × Related u then (turns P count one) also
+  related_after zero measure one other related = (measure, other, related)
+  related_after (suc count) measure one other related =
+      by (keeps measure one other related) (λ then also is. related_after count then (turn P one) also is) where
+        by : Keeps P Q (Related u) measure one other
+            → ((then : ℕ) (also : Run) → Related u then (turn P one) also → (last : ℕ) × (later : Run) × Related u last (turns P count (turn P one)) later)
+            → (last : ℕ) × (later : Run) × Related u last (turns P count (turn P one)) later
+        by kept rest = on kept.goes_on where
+          on : ((kept.measure_then < measure) × Related u kept.measure_then (turn P one) kept.waits)
+              ⊎ Related u kept.measure_then (turn P one) (turn Q kept.waits)
+              → (last : ℕ) × (later : Run) × Related u last (turns P count (turn P one)) later
+          on (inl stays) = rest kept.measure_then kept.waits stays.1
+          on (inr moves) = rest kept.measure_then (turn Q kept.waits) moves
+
+  pub stays_related : (actions : List Action) (count : ℕ)
+      → (measure : ℕ) × (other : Run) × Related u measure (turns P count (begins_with actions)) other
+  stays_related actions count =
+      let begins = starts_together actions in
+      related_after count begins.0 (begins_with actions) (begins_with actions) begins.1
