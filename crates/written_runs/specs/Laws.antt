@@ -7,6 +7,7 @@ pub mod BeginningTurns
 pub mod BegunFrames
 pub mod BothTurns
 pub mod Carried
+pub mod ClimbedClasses
 pub mod ConstructorRuns
 pub mod ConstructorSteps
 pub mod ConstructorTexts
@@ -31,6 +32,7 @@ pub mod Making
 pub mod MethodsBegin
 pub mod NewOnTop
 pub mod NextEdges
+pub mod NotFinal
 pub mod ObjectInits
 pub mod OneEffect
 pub mod OverTurns
@@ -40,6 +42,7 @@ pub mod OwnOperations
 pub mod OwnTurns
 pub mod PendingOperations
 pub mod PlannedTurns
+pub mod ReceiverClasses
 pub mod RowsGo
 pub mod SameBoth
 pub mod SameForms

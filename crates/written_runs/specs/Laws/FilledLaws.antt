@@ -1,24 +1,17 @@
 -- The records of laws that the parts of the theorem go on, from the setup and from what other crates prove.
-use Rattle.std.proofs.Common.{List, Some, false, slice_get, true, ℕ, ◌∷◌, ◌≡◌}
-use Rattle.class_model.specs.Members.{FINAL, STATIC}
-use Rattle.class_model.specs.Pool.{constant_at}
+use Rattle.std.proofs.Common.{List, Some, slice_get, true, ℕ, ◌∷◌, ◌≡◌}
 use Rattle.class_model.specs.declared.class_file.MethodAt.{MethodAt}
 use Rattle.class_model.specs.declared.instr.Instr.TheVariants.{PutField}
+use Rattle.class_model.specs.declared.frame.VType.TheVariants.{Top}
+use Rattle.class_model.specs.declared.frame.VType.{VType}
 use Rattle.class_tree.specs.Headers.{headers_of}
 use Rattle.class_tree.specs.Hierarchy.{IsHierarchy}
 use Rattle.flow_code.specs.ReadTypes.{read_frame}
-use Rattle.flow_code.specs.declared.point.FlatInstr.TheVariants.{Of}
 use Rattle.flow_code.specs.declared.point.Point.{Point}
-use Rattle.flow_code.specs.declared.point.Site.{Site}
 use Rattle.machine_values.specs.Frames.{MethodState}
-use Rattle.machine_values.specs.Heaps.{object_at}
 use Rattle.machine_values.specs.declared.action.Action.{Action}
 use Rattle.machine_values.specs.declared.frame.RunFrame.TheVariants.{Method}
 use Rattle.machine_values.specs.declared.frame.RunFrame.{RunFrame}
-use Rattle.machine_values.specs.declared.object.Object.{Object}
-use Rattle.machine_values.specs.declared.object.Shape.TheVariants.{Folder}
-use Rattle.machine_values.specs.declared.value.Value.TheVariants.{Ref}
-use Rattle.machine_values.specs.declared.value.Value.{Value}
 use Rattle.member_link.specs.Machine.Acting.{act}
 use Rattle.member_link.specs.Machine.Programs.{Program, field_of, folder_number, has_flag}
 use Rattle.member_link.specs.Machine.Runs.{Run, begins_with, turns}
@@ -27,9 +20,20 @@ use Rattle.member_link.specs.Machine.Stepping.{is_library_turn, step}
 use Rattle.member_link.specs.Machine.Worlds.{World, start}
 use Rattle.member_link.specs.References.{Reference}
 use Rattle.member_link.specs.Signatures.{reference_of}
+use Rattle.member_link.specs.Machine.Codes.{item_op, number_at}
+use Rattle.member_link.specs.Machine.Programs.{Program}
+use Rattle.member_link.specs.Machine.Runs.{turn}
+use Rattle.member_link.specs.Machine.SameRuns.{SameRuns}
+use Rattle.member_link.specs.Machine.Stepping.{is_library_turn, step}
+use Rattle.member_link.specs.Machine.Worlds.{World, start}
+use Rattle.member_link.specs.Scope.{Scope, scope_at}
+use Rattle.plan_flow.specs.Must.{row_of_point}
+use Rattle.plan_flow.specs.PlanRows.{RowEdge, from_place}
+use Rattle.plan_flow.specs.PlanScope.{local_types}
 use Rattle.plan_flow.specs.PlanSlots.{held}
 use Rattle.plan_flow.specs.Written.WrittenPrograms.{WrittenMethod}
 use Rattle.same_runs.specs.Flats.{pool_of}
+use Rattle.same_runs.specs.Flats.{flat_code, flat_item, flat_points, instr_scope}
 use Rattle.same_runs.specs.Laws.ClassInitialisers.{initialiser_named}
 use Rattle.same_runs.specs.Laws.FoundMembers.{FieldLaws}
 use Rattle.typed_runs.specs.FolderTypings.{HasFlatTypings}
@@ -55,6 +59,7 @@ use Rattle.written_runs.specs.Laws.FreshFrames.{fresh_frames_stand}
 use Rattle.written_runs.specs.Laws.KeptMemories.{TurnsGrow, act_kept, step_kept}
 use Rattle.written_runs.specs.Laws.LibraryFrames.{LibraryLaws}
 use Rattle.written_runs.specs.Laws.LibraryTurns.{library_turn}
+use Rattle.written_runs.specs.Laws.NotFinal.{not_final}
 use Rattle.written_runs.specs.Laws.ObjectInits.{object_inits}
 use Rattle.written_runs.specs.Laws.OverTurns.{over_keeps}
 use Rattle.written_runs.specs.Laws.OwnCodes.{own_codes}
@@ -102,24 +107,6 @@ pub record Grounds (u : Setup) : Type 0 where
 pub record LeftToShow (u : Setup) : Type 0 where
   -- rows fit the types of the flat code
   pub rows_fit : (at : MethodAt) (w : WrittenMethod) → u.written at ≡ Some w → RowsFit (scope_in u w)
-  -- a field of the folder that flat code stores into is not final, where it stores into an object of one of its sites
-  pub not_final : (world : World) (f : MethodState) (rest : List RunFrame) (w : WrittenMethod) (point : Point) (class index : ℕ)
-      (r field : Reference) (number : ℕ) (value : Value) (reference : ℕ) (below : List Value) (object : Object) (of class_number : ℕ) (site : Site)
-      → TypedWorld (first u) u.typings world
-      → world.frames ≡ Method f ∷ rest
-      → u.written f.at ≡ Some w
-      → slice_get w.flat.points f.place ≡ Some point
-      → point.instr ≡ Of class (PutField index)
-      → reference_of (pool_of u.classes class) (constant_at (pool_of u.classes class) index) ≡ Some r
-      → u.links.field r ≡ Some field
-      → folder_number (first u) field.class ≡ Some number
-      → has_flag (field_of (first u) field) STATIC ≡ false
-      → f.stack ≡ value ∷ Ref reference ∷ below
-      → object_at world.memory.heap reference ≡ Some object
-      → object.shape ≡ Folder class_number
-      → folder_number (first u) site.class ≡ Some class_number
-      → slice_get w.flat.sites of ≡ Some site
-      → has_flag (field_of (first u) field) FINAL ≡ false
 
 module _ {u : Setup} (grounds : Grounds u) (laws : RunLaws) where
   -- ---- the records
@@ -212,7 +199,7 @@ module _ {u : Setup} (grounds : Grounds u) (laws : RunLaws) where
       of_library = of_library grounds.setup;
       site_class = λ at w number site written there. site_class grounds.setup grounds.hierarchy at w number site written there;
       same_forms = same_forms u grounds.setup grounds.typings;
-      not_final = left.not_final;
+      not_final = not_final u grounds.setup grounds.hierarchy laws.fields grounds.typings;
       object_inits = λ at w place point class opcode index count r written there is names init.
           (object_inits u grounds.setup at w place point class opcode index count r written there is names init).1;
       blanks = blanks_in_first grounds.setup;

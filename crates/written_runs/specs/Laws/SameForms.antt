@@ -71,7 +71,7 @@ conform_drop zero all = all
 conform_drop (suc n) no_values = no_values
 conform_drop (suc n) (and_value conforms others) = conform_drop n others
 
-top_conforms : {P : Program} {s : RowScope} {h : Heap} (n : ℕ) (types : List VType) (stack : List Value) → AllConform P s h types (reverse stack)
+pub top_conforms : {P : Program} {s : RowScope} {h : Heap} (n : ℕ) (types : List VType) (stack : List Value) → AllConform P s h types (reverse stack)
     → AllConform P s h (topmost n types) (machine.topmost n stack)
 top_conforms {P} {s} {h} n types stack all =
     subst (AllConform P s h (topmost n types))
