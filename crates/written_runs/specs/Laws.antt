@@ -15,6 +15,8 @@ pub mod FewerVirtuals
 pub mod FieldConstructors
 pub mod FilledLaws
 pub mod FirstProgram
+pub mod FittingEdges
+pub mod FittingRows
 pub mod FolderFacts
 pub mod FreshFrames
 pub mod GivenValues
