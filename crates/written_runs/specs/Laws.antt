@@ -17,6 +17,7 @@ pub mod FilledLaws
 pub mod FirstProgram
 pub mod FittingEdges
 pub mod FittingRows
+pub mod FittingSetup
 pub mod FolderFacts
 pub mod FreshFrames
 pub mod GivenValues
@@ -32,6 +33,7 @@ pub mod Making
 pub mod MethodsBegin
 pub mod NewOnTop
 pub mod NextEdges
+pub mod ObjectInits
 pub mod OneEffect
 pub mod OverTurns
 pub mod OwnCodes

@@ -1,11 +1,9 @@
 -- The records of laws that the parts of the theorem go on, from the setup and from what other crates prove.
-use Rattle.std.proofs.Common.{List, Some, [], false, slice_get, true, ℕ, ◌∷◌, ◌≡◌}
-use Rattle.class_model.specs.Descriptors.{parameters_of}
+use Rattle.std.proofs.Common.{List, Some, false, slice_get, true, ℕ, ◌∷◌, ◌≡◌}
 use Rattle.class_model.specs.Members.{FINAL, STATIC}
 use Rattle.class_model.specs.Pool.{constant_at}
 use Rattle.class_model.specs.declared.class_file.MethodAt.{MethodAt}
-use Rattle.class_model.specs.declared.instr.Instr.TheVariants.{Invoke, PutField, Shuffle}
-use Rattle.class_model.specs.declared.opcodes.TheConstants.{INVOKESPECIAL}
+use Rattle.class_model.specs.declared.instr.Instr.TheVariants.{PutField, Shuffle}
 use Rattle.class_tree.specs.Headers.{headers_of}
 use Rattle.class_tree.specs.Hierarchy.{IsHierarchy}
 use Rattle.flow_code.specs.ReadTypes.{read_frame}
@@ -22,7 +20,6 @@ use Rattle.machine_values.specs.declared.object.Shape.TheVariants.{Folder}
 use Rattle.machine_values.specs.declared.value.Value.TheVariants.{Ref}
 use Rattle.machine_values.specs.declared.value.Value.{Value}
 use Rattle.member_link.specs.Machine.Acting.{act}
-use Rattle.member_link.specs.Machine.CallSteps.{is_object_init}
 use Rattle.member_link.specs.Machine.Codes.{item_op, number_at}
 use Rattle.member_link.specs.Machine.Locals.{form_for}
 use Rattle.member_link.specs.Machine.Programs.{Program, field_of, folder_number, has_flag}
@@ -34,7 +31,6 @@ use Rattle.member_link.specs.References.{Reference}
 use Rattle.member_link.specs.Rows.ShuffleRows.{Form, form_in, forms_of}
 use Rattle.member_link.specs.Scope.{Scope, scope_at}
 use Rattle.member_link.specs.Signatures.{reference_of}
-use Rattle.plan_flow.specs.PlanScope.{member_of}
 use Rattle.plan_flow.specs.PlanSlots.{held}
 use Rattle.plan_flow.specs.Written.Routes.{Route}
 use Rattle.plan_flow.specs.Written.WrittenPrograms.{WrittenMethod}
@@ -54,15 +50,16 @@ use Rattle.written_runs.specs.Laws.AloneTurns.{alone_turn}
 use Rattle.written_runs.specs.Laws.BeginningTurns.{beginning_turn}
 use Rattle.written_runs.specs.Laws.BothTurns.{Basis}
 use Rattle.written_runs.specs.Laws.Carried.Knowing.{CarriedFacts, CarriedLaws}
-use Rattle.written_runs.specs.Laws.Carried.PlannedEdges.{RowsFit}
 use Rattle.written_runs.specs.Laws.Carried.WaitingPlanned.{returns_planned, unwinds_planned}
 use Rattle.written_runs.specs.Laws.Carried.Whole.{planned_parts}
 use Rattle.written_runs.specs.Laws.ConstructorTexts.{ReadsParameters}
 use Rattle.written_runs.specs.Laws.FirstProgram.{blanks_in_first, of_library, site_class, slots_in_first}
+use Rattle.written_runs.specs.Laws.FittingSetup.{rows_fit}
 use Rattle.written_runs.specs.Laws.FreshFrames.{fresh_frames_stand}
 use Rattle.written_runs.specs.Laws.KeptMemories.{TurnsGrow, act_kept, step_kept}
 use Rattle.written_runs.specs.Laws.LibraryFrames.{LibraryLaws}
 use Rattle.written_runs.specs.Laws.LibraryTurns.{library_turn}
+use Rattle.written_runs.specs.Laws.ObjectInits.{object_inits}
 use Rattle.written_runs.specs.Laws.OverTurns.{over_keeps}
 use Rattle.written_runs.specs.Laws.OwnCodes.{own_codes}
 use Rattle.written_runs.specs.Laws.OwnFrames.{FrameLaws, ReturnsToPlanned, UnwindsPlanned}
@@ -108,8 +105,6 @@ pub record Grounds (u : Setup) : Type 0 where
 -- What the theorem still asks of flat codes, of their types, and of operations in both programs; and the turns at instructions that move stack entries,
 -- but for pop and dup.
 pub record LeftToShow (u : Setup) : Type 0 where
-  -- rows fit the types of the flat code
-  pub rows_fit : (at : MethodAt) (w : WrittenMethod) → u.written at ≡ Some w → RowsFit (scope_in u w)
   -- an operation on operands does the same in both
   pub in_both : (at : MethodAt) (w : WrittenMethod) (host : Scope) (place : ℕ) (point : Point) (route : Route)
       → u.written at ≡ Some w
@@ -120,14 +115,6 @@ pub record LeftToShow (u : Setup) : Type 0 where
       (flat_item point.instr))
       → IsInBoth (first u) (second u)
       (item_op u.links (number_at (flat_points u.classes host w.flat)) (instr_scope u.classes host w.flat point.instr) (flat_item point.instr))
-  -- java/lang/Object's constructor is called by invokespecial, without arguments
-  pub object_inits : (at : MethodAt) (w : WrittenMethod) (place : ℕ) (point : Point) (class opcode index count : ℕ) (r : Reference)
-      → u.written at ≡ Some w
-      → slice_get w.flat.points place ≡ Some point
-      → point.instr ≡ Of class (Invoke opcode index count)
-      → member_of (scope_in u w) class index ≡ Some r
-      → is_object_init r ≡ true
-      → (opcode ≡ INVOKESPECIAL) × (parameters_of r.desc ≡ [])
   -- the form by which the topmost values are moved is that of their types
   pub same_forms : (world : World) (f : MethodState) (rest : List RunFrame) (w : WrittenMethod) (point : Point) (class opcode : ℕ) (form : Form)
       → TypedWorld (first u) u.typings world
@@ -220,7 +207,7 @@ module _ {u : Setup} (grounds : Grounds u) (laws : RunLaws) where
     carried_facts = record {
       settle = settle;
       flat_code = λ at w host written there. flat_code_at u grounds.setup at w host written there;
-      rows_fit = left.rows_fit;
+      rows_fit = rows_fit u grounds.setup;
     }
 
     turns : TurnLaws u
@@ -231,9 +218,9 @@ module _ {u : Setup} (grounds : Grounds u) (laws : RunLaws) where
       turns = turns;
       flat_code = λ at w host written there. flat_code_at u grounds.setup at w host written there;
       conforms = conforms;
-      rows_fit = left.rows_fit;
+      rows_fit = rows_fit u grounds.setup;
       in_both = left.in_both;
-      object_inits = left.object_inits;
+      object_inits = object_inits u grounds.setup;
     }
 
     template_laws : TemplateLaws u
@@ -243,14 +230,14 @@ module _ {u : Setup} (grounds : Grounds u) (laws : RunLaws) where
       steps_typed = λ w typed. laws.steps (first u) u.typings w typed;
       conforms = conforms;
       stays_top = λ at w place point number edge unit type written there is_edge top stays is.
-          stays_top_by (scope_in u w) place point number edge unit type (left.rows_fit at w written) there is_edge top stays is;
+          stays_top_by (scope_in u w) place point number edge unit type (rows_fit u grounds.setup at w written) there is_edge top stays is;
       slots = slots_in_first grounds.setup;
       of_library = of_library grounds.setup;
       site_class = λ at w number site written there. site_class grounds.setup grounds.hierarchy at w number site written there;
       same_forms = left.same_forms;
       not_final = left.not_final;
       object_inits = λ at w place point class opcode index count r written there is names init.
-          (left.object_inits at w place point class opcode index count r written there is names init).1;
+          (object_inits u grounds.setup at w place point class opcode index count r written there is names init).1;
       blanks = blanks_in_first grounds.setup;
     }
 

@@ -747,7 +747,7 @@ module _ (flat : FlatCode) (f : Frame) where
 -- ---- the table
 
 -- a plan and the typing of code read the same constants
-same_pool : (s : PlanScope) (class : ℕ) → pool_of s class ≡ flat_pool s.classes class
+pub same_pool : (s : PlanScope) (class : ℕ) → pool_of s class ≡ flat_pool s.classes class
 same_pool s class = by (slice_get s.classes.folder class) refl where
   by : (found : Option ClassFile) → slice_get s.classes.folder class ≡ found → pool_of s class ≡ flat_pool s.classes class
   by None none = rw none refl
