@@ -1,5 +1,5 @@
 -- Where flat code calls the initialiser of java/lang/Object, it does so by invokespecial and without arguments: the class has one initialiser, which has
--- no parameters.
+-- neither parameters nor a result.
 use Rattle.std.proofs.Common.{◌≡◌, ◌||◌, ◌&&◌, not, ℕ, zero, suc, Bool, true, false, List, [], ◌∷◌, filter, length, bytes_eq, codes, slice_get, Option, Some, None, IfSome, option_and_then, option_map, refl, sym, ap, subst, ◌∙◌, arith, inl, inr}
 use Rattle.std.specs.List.{list_any}
 use Rattle.std.proofs.lemmas.Bool.{and_parts, false≢true}
@@ -34,25 +34,26 @@ use Rattle.member_link.specs.Laws.OwnMembers.{own_of_declared}
 use Rattle.member_link.specs.Machine.CallSteps.{is_object_init}
 use Rattle.member_link.specs.Methods.{FindsMethod, initialiser, of_array, of_class, polymorphic}
 use Rattle.member_link.specs.References.{Reference, reference_at}
-use Rattle.member_link.specs.Signatures.{reference_of}
+use Rattle.member_link.specs.Signatures.{reference_of, result_of}
 use Rattle.member_link.specs.Uses.{UseScope, asked_of_reference, method_use_checks, methodref_use_checks}
 use Rattle.plan_flow.specs.PlanScope.{member_of}
 use Rattle.plan_flow.specs.Written.WrittenPrograms.{WrittenMethod}
 use Rattle.same_runs.specs.Flats.{pool_of}
 use Rattle.same_runs.specs.ReadyCode.{IsReadyInstr, IsReadyItem}
+use Rattle.written_runs.specs.Laws.FittingRows.{CallsObject}
 use Rattle.written_runs.specs.Inner.PlannedFrames.{scope_in}
 use Rattle.written_runs.specs.Inner.Setup.{IsSetup, Setup}
 use Rattle.written_runs.specs.Laws.FolderFacts.{object_has}
-
--- by invokespecial, and without arguments
-abbrev IsCalledSo : ℕ → Reference → Type 0
-IsCalledSo opcode r = (opcode ≡ INVOKESPECIAL) × (parameters_of r.desc ≡ [])
 
 -- ---- the descriptor ()V
 
 no_parameters : parameters_of (codes "()V") ≡ []
 unfolding types_before
 no_parameters = refl
+
+no_result : result_of (codes "()V") ≡ None
+unfolding types_before
+no_result = refl
 
 -- ---- one that passes
 
@@ -168,16 +169,20 @@ called pool major opcode index count (inr (inr (special))) = elim (special.1) [
 module _ (s : UseScope) (has_one : IfSome (class_named s.headers object) HasOneConstructor) (opcode index count : ℕ) where
   of_reference : (constant : Option Const) (r : Reference) → r.class ≡ object → r.name ≡ init
       → AllHold (method_use_checks s (FitsCall s.headers opcode constant) r)
-      → IsCalledSo opcode r
+      → CallsObject opcode r
   of_reference constant r class name held =
       let found = held.1.1.0 in
       let fits = held.1.1.1.0 found.0 found.1 in
       let desc = found_desc s.headers has_one found.1 class name found.0 refl in
-      (fits.initialiser name, ap parameters_of desc ∙ no_parameters)
+      record {
+        special = fits.initialiser name;
+        no_parameters = ap parameters_of desc ∙ no_parameters;
+        no_result = ap result_of desc ∙ no_result;
+      }
 
   asked_reference : (constant : Option Const) (found : Option Reference) (r : Reference) → found ≡ Some r → r.class ≡ object → r.name ≡ init
       → AllHold (asked_of_reference (method_use_checks s (FitsCall s.headers opcode constant)) found)
-      → IsCalledSo opcode r
+      → CallsObject opcode r
   asked_reference constant None r is class name held = absurd (none-some r is)
   asked_reference constant (Some one) r is class name held =
       of_reference constant r class name
@@ -187,7 +192,7 @@ module _ (s : UseScope) (has_one : IfSome (class_named s.headers object) HasOneC
       → r.class ≡ object
       → r.name ≡ init
       → AllHold (methodref_use_checks s (FitsCall s.headers opcode constant) constant)
-      → IsCalledSo opcode r
+      → CallsObject opcode r
   of_constant None may r is class name held = absurd may
   of_constant (Some (Methodref owner member)) may r is class name held =
       asked_reference (Some (Methodref owner member)) (reference_at s.pool owner member) r is class name held
@@ -197,15 +202,15 @@ module _ (s : UseScope) (has_one : IfSome (class_named s.headers object) HasOneC
 
 -- ---- in flat code
 
-pub object_inits : (u : Setup) → IsSetup u
+pub object_calls : (u : Setup) → IsSetup u
     → (at : MethodAt) (w : WrittenMethod) (place : ℕ) (point : Point) (class opcode index count : ℕ) (r : Reference)
     → u.written at ≡ Some w
     → slice_get w.flat.points place ≡ Some point
     → point.instr ≡ Of class (Invoke opcode index count)
     → member_of (scope_in u w) class index ≡ Some r
     → is_object_init r ≡ true
-    → (opcode ≡ INVOKESPECIAL) × (parameters_of r.desc ≡ [])
-object_inits u setup at w place point class opcode index count r written there instr names init_is =
+    → CallsObject opcode r
+object_calls u setup at w place point class opcode index count r written there instr names init_is =
     of_constant (record { headers = headers_of u.classes; pool = ready.file.pool; site = site_of (header_of ready.file) no_member })
     (object_has u.classes setup.tree class ready.file ready.there) opcode index count (constant_at ready.file.pool index)
     (called ready.file.pool ready.file.major opcode index count ready.operand) r
@@ -226,3 +231,15 @@ object_inits u setup at w place point class opcode index count r written there i
 
       named : (bytes_eq r.class object ≡ true) × (bytes_eq r.name init ≡ true)
       named = and_parts (bytes_eq r.class object) (bytes_eq r.name init) init_is
+
+pub object_inits : (u : Setup) → IsSetup u
+    → (at : MethodAt) (w : WrittenMethod) (place : ℕ) (point : Point) (class opcode index count : ℕ) (r : Reference)
+    → u.written at ≡ Some w
+    → slice_get w.flat.points place ≡ Some point
+    → point.instr ≡ Of class (Invoke opcode index count)
+    → member_of (scope_in u w) class index ≡ Some r
+    → is_object_init r ≡ true
+    → (opcode ≡ INVOKESPECIAL) × (parameters_of r.desc ≡ [])
+object_inits u setup at w place point class opcode index count r written there instr names init_is =
+    let calls = object_calls u setup at w place point class opcode index count r written there instr names init_is in
+    (calls.special, calls.no_parameters)

@@ -8,11 +8,10 @@ use Rattle.class_model.specs.declared.frame.VType.TheVariants.{Top, Int, Float, 
 use Rattle.flow_code.specs.FlatCode.{point_at}
 use Rattle.flow_code.specs.declared.point.Point.{Point}
 use Rattle.plan_flow.specs.Must.{row_of_point}
-use Rattle.plan_flow.specs.PlanRows.{PlanRow, RowEdge, from_place}
+use Rattle.plan_flow.specs.PlanRows.{RowEdge, from_place}
 use Rattle.plan_flow.specs.PlanScope.{PlanScope, local_types}
 use Rattle.plan_flow.specs.PlanSlots.{edge_locals}
 use Rattle.plan_flow.specs.PlanTable.{edges_of}
-use Rattle.plan_flow.specs.ReadyForPlans.{place_types}
 use Rattle.plan_flow.specs.declared.edge.EdgeKind.{EdgeKind}
 use Rattle.plan_flow.specs.declared.edge.EdgeKind.TheVariants as edges
 use Rattle.written_runs.specs.Laws.Carried.PlannedEdges.{FitsAlong, RowsFit, all_at}
