@@ -16,13 +16,10 @@ pub mod FewerVirtuals
 pub mod FieldConstructors
 pub mod FilledLaws
 pub mod FirstProgram
-<<<<<<< HEAD
 pub mod FlatOperations
-=======
 pub mod FittingEdges
 pub mod FittingRows
 pub mod FittingSetup
->>>>>>> 2f4ad57aa6c29370fc9b3eb61bdb4be93b3b7885
 pub mod FolderFacts
 pub mod FreshFrames
 pub mod GivenValues

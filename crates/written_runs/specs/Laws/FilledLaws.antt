@@ -1,13 +1,5 @@
 -- The records of laws that the parts of the theorem go on, from the setup and from what other crates prove.
 use Rattle.std.proofs.Common.{List, Some, slice_get, true, ℕ, ◌∷◌, ◌≡◌}
-use Rattle.class_model.specs.declared.class_file.MethodAt.{MethodAt}
-<<<<<<< HEAD
-use Rattle.class_model.specs.declared.instr.Instr.TheVariants.{PutField}
-use Rattle.class_model.specs.declared.frame.VType.TheVariants.{Top}
-use Rattle.class_model.specs.declared.frame.VType.{VType}
-=======
-use Rattle.class_model.specs.declared.instr.Instr.TheVariants.{PutField, Shuffle}
->>>>>>> 2f4ad57aa6c29370fc9b3eb61bdb4be93b3b7885
 use Rattle.class_tree.specs.Headers.{headers_of}
 use Rattle.class_tree.specs.Hierarchy.{IsHierarchy}
 use Rattle.flow_code.specs.ReadTypes.{read_frame}
@@ -17,30 +9,12 @@ use Rattle.machine_values.specs.declared.action.Action.{Action}
 use Rattle.machine_values.specs.declared.frame.RunFrame.TheVariants.{Method}
 use Rattle.machine_values.specs.declared.frame.RunFrame.{RunFrame}
 use Rattle.member_link.specs.Machine.Acting.{act}
-use Rattle.member_link.specs.Machine.Programs.{Program, field_of, folder_number, has_flag}
+use Rattle.member_link.specs.Machine.Programs.{Program}
 use Rattle.member_link.specs.Machine.Runs.{Run, begins_with, turns}
 use Rattle.member_link.specs.Machine.SameRuns.{SameRuns}
 use Rattle.member_link.specs.Machine.Stepping.{is_library_turn, step}
 use Rattle.member_link.specs.Machine.Worlds.{World, start}
-use Rattle.member_link.specs.References.{Reference}
-use Rattle.member_link.specs.Signatures.{reference_of}
-<<<<<<< HEAD
-use Rattle.member_link.specs.Machine.Codes.{item_op, number_at}
-use Rattle.member_link.specs.Machine.Programs.{Program}
-use Rattle.member_link.specs.Machine.Runs.{turn}
-use Rattle.member_link.specs.Machine.SameRuns.{SameRuns}
-use Rattle.member_link.specs.Machine.Stepping.{is_library_turn, step}
-use Rattle.member_link.specs.Machine.Worlds.{World, start}
-use Rattle.member_link.specs.Scope.{Scope, scope_at}
-use Rattle.plan_flow.specs.Must.{row_of_point}
-use Rattle.plan_flow.specs.PlanRows.{RowEdge, from_place}
-use Rattle.plan_flow.specs.PlanScope.{local_types}
-=======
->>>>>>> 2f4ad57aa6c29370fc9b3eb61bdb4be93b3b7885
-use Rattle.plan_flow.specs.PlanSlots.{held}
 use Rattle.plan_flow.specs.Written.WrittenPrograms.{WrittenMethod}
-use Rattle.same_runs.specs.Flats.{pool_of}
-use Rattle.same_runs.specs.Flats.{flat_code, flat_item, flat_points, instr_scope}
 use Rattle.same_runs.specs.Laws.ClassInitialisers.{initialiser_named}
 use Rattle.same_runs.specs.Laws.FoundMembers.{FieldLaws}
 use Rattle.typed_runs.specs.FolderTypings.{HasFlatTypings}
@@ -60,11 +34,8 @@ use Rattle.written_runs.specs.Laws.Carried.WaitingPlanned.{returns_planned, unwi
 use Rattle.written_runs.specs.Laws.Carried.Whole.{planned_parts}
 use Rattle.written_runs.specs.Laws.ConstructorTexts.{ReadsParameters}
 use Rattle.written_runs.specs.Laws.FirstProgram.{blanks_in_first, of_library, site_class, slots_in_first}
-<<<<<<< HEAD
-use Rattle.written_runs.specs.Laws.FlatOperations.{flat_in_both}
-=======
 use Rattle.written_runs.specs.Laws.FittingSetup.{rows_fit}
->>>>>>> 2f4ad57aa6c29370fc9b3eb61bdb4be93b3b7885
+use Rattle.written_runs.specs.Laws.FlatOperations.{flat_in_both}
 use Rattle.written_runs.specs.Laws.FreshFrames.{fresh_frames_stand}
 use Rattle.written_runs.specs.Laws.KeptMemories.{TurnsGrow, act_kept, step_kept}
 use Rattle.written_runs.specs.Laws.LibraryFrames.{LibraryLaws}
@@ -111,54 +82,6 @@ pub record Grounds (u : Setup) : Type 0 where
   pub adds : AddsToCandidates u
   -- the frames of flat codes are those of their typed points
   pub typings : HasFlatTypings u.flats u.typings
-
--- ---- what is left to show
-
-pub record LeftToShow (u : Setup) : Type 0 where
-<<<<<<< HEAD
-  -- rows fit the types of the flat code
-  pub rows_fit : (at : MethodAt) (w : WrittenMethod) → u.written at ≡ Some w → RowsFit (scope_in u w)
-=======
-  -- an operation on operands does the same in both
-  pub in_both : (at : MethodAt) (w : WrittenMethod) (host : Scope) (place : ℕ) (point : Point) (route : Route)
-      → u.written at ≡ Some w
-      → scope_at u.classes at ≡ Some host
-      → IsReached w place point route
-      → IsCarried u w place point route
-      → WorksOnOperands (item_op u.links (number_at (flat_points u.classes host w.flat)) (instr_scope u.classes host w.flat point.instr)
-      (flat_item point.instr))
-      → IsInBoth (first u) (second u)
-      (item_op u.links (number_at (flat_points u.classes host w.flat)) (instr_scope u.classes host w.flat point.instr) (flat_item point.instr))
-  -- the form by which the topmost values are moved is that of their types
-  pub same_forms : (world : World) (f : MethodState) (rest : List RunFrame) (w : WrittenMethod) (point : Point) (class opcode : ℕ) (form : Form)
-      → TypedWorld (first u) u.typings world
-      → world.frames ≡ Method f ∷ rest
-      → u.written f.at ≡ Some w
-      → slice_get w.flat.points f.place ≡ Some point
-      → point.instr ≡ Of class (Shuffle opcode)
-      → form_for (forms_of opcode) f.stack ≡ Some form
-      → form_in (forms_of opcode) point.typed.stack ≡ Some form
-  -- a field of the folder that flat code stores into is not final, where it stores into an object of one of its sites
-  pub not_final : (world : World) (f : MethodState) (rest : List RunFrame) (w : WrittenMethod) (point : Point) (class index : ℕ)
-      (r field : Reference) (number : ℕ) (value : Value) (reference : ℕ) (below : List Value) (object : Object) (of class_number : ℕ) (site : Site)
-      → TypedWorld (first u) u.typings world
-      → world.frames ≡ Method f ∷ rest
-      → u.written f.at ≡ Some w
-      → slice_get w.flat.points f.place ≡ Some point
-      → point.instr ≡ Of class (PutField index)
-      → reference_of (pool_of u.classes class) (constant_at (pool_of u.classes class) index) ≡ Some r
-      → u.links.field r ≡ Some field
-      → folder_number (first u) field.class ≡ Some number
-      → has_flag (field_of (first u) field) STATIC ≡ false
-      → f.stack ≡ value ∷ Ref reference ∷ below
-      → object_at world.memory.heap reference ≡ Some object
-      → object.shape ≡ Folder class_number
-      → folder_number (first u) site.class ≡ Some class_number
-      → slice_get w.flat.sites of ≡ Some site
-      → has_flag (field_of (first u) field) FINAL ≡ false
-  -- dup_x1, swap and the like
-  pub shuffles : TemplateParts u
->>>>>>> 2f4ad57aa6c29370fc9b3eb61bdb4be93b3b7885
 
 module _ {u : Setup} (grounds : Grounds u) (laws : RunLaws) where
   -- ---- the records
@@ -215,96 +138,90 @@ module _ {u : Setup} (grounds : Grounds u) (laws : RunLaws) where
       let found = typed_frame u grounds.setup grounds.typings world f rest w point typed stands written there in
       record { locals = found.locals; stack = found.stack }
 
-  -- ---- planned frames, from what is left to show
+  -- ---- planned frames
 
-  module _ (left : LeftToShow u) where
-    carried_facts : CarriedFacts u
-    carried_facts = record {
-      settle = settle;
-      flat_code = λ at w host written there. flat_code_at u grounds.setup at w host written there;
-      rows_fit = rows_fit u grounds.setup;
-    }
+  carried_facts : CarriedFacts u
+  carried_facts = record {
+    settle = settle;
+    flat_code = λ at w host written there. flat_code_at u grounds.setup at w host written there;
+    rows_fit = rows_fit u grounds.setup;
+  }
 
-    turns_known : TurnLaws u
-    turns_known = turn_laws (frame_laws (unwinds_planned u carried_facts) (returns_planned u carried_facts))
+  turns_known : TurnLaws u
+  turns_known = turn_laws (frame_laws (unwinds_planned u carried_facts) (returns_planned u carried_facts))
 
-    carried_laws : CarriedLaws u
-    carried_laws = record {
-      turns = turns_known;
-      flat_code = λ at w host written there. flat_code_at u grounds.setup at w host written there;
-      conforms = conforms;
-<<<<<<< HEAD
-      rows_fit = left.rows_fit;
-      in_both = λ at w host place point route written is_host reached carried_so work.
-          flat_in_both grounds.setup laws.fields grounds.hierarchy at w host place point route written is_host reached carried_so;
-=======
-      rows_fit = rows_fit u grounds.setup;
-      in_both = left.in_both;
->>>>>>> 2f4ad57aa6c29370fc9b3eb61bdb4be93b3b7885
-      object_inits = object_inits u grounds.setup;
-    }
+  carried_laws : CarriedLaws u
+  carried_laws = record {
+    turns = turns_known;
+    flat_code = λ at w host written there. flat_code_at u grounds.setup at w host written there;
+    conforms = conforms;
+    rows_fit = rows_fit u grounds.setup;
+    in_both = λ at w host place point route written is_host reached carried_so work.
+        flat_in_both grounds.setup laws.fields grounds.hierarchy at w host place point route written is_host reached carried_so;
+    object_inits = object_inits u grounds.setup;
+  }
 
-    template_laws : TemplateLaws u
-    template_laws = record {
-      settle = settle;
-      flat_code = λ at w host written there. flat_code_at u grounds.setup at w host written there;
-      steps_typed = λ w typed. laws.steps (first u) u.typings w typed;
-      conforms = conforms;
-      stays_top = λ at w place point number edge unit type written there is_edge top stays is.
-          stays_top_by (scope_in u w) place point number edge unit type (rows_fit u grounds.setup at w written) there is_edge top stays is;
-      slots = slots_in_first grounds.setup;
-      of_library = of_library grounds.setup;
-      site_class = λ at w number site written there. site_class grounds.setup grounds.hierarchy at w number site written there;
-      same_forms = same_forms u grounds.setup grounds.typings;
-      not_final = not_final u grounds.setup grounds.hierarchy laws.fields grounds.typings;
-      object_inits = λ at w place point class opcode index count r written there is names init.
-          (object_inits u grounds.setup at w place point class opcode index count r written there is names init).1;
-      blanks = blanks_in_first grounds.setup;
-    }
+  template_laws : TemplateLaws u
+  template_laws = record {
+    settle = settle;
+    flat_code = λ at w host written there. flat_code_at u grounds.setup at w host written there;
+    steps_typed = λ w typed. laws.steps (first u) u.typings w typed;
+    conforms = conforms;
+    stays_top = λ at w place point number edge unit type written there is_edge top stays is.
+        stays_top_by (scope_in u w) place point number edge unit type (rows_fit u grounds.setup at w written) there is_edge top stays is;
+    slots = slots_in_first grounds.setup;
+    of_library = of_library grounds.setup;
+    site_class = λ at w number site written there. site_class grounds.setup grounds.hierarchy at w number site written there;
+    same_forms = same_forms u grounds.setup grounds.typings;
+    not_final = not_final u grounds.setup grounds.hierarchy laws.fields grounds.typings;
+    object_inits = λ at w place point class opcode index count r written there is names init.
+        (object_inits u grounds.setup at w place point class opcode index count r written there is names init).1;
+    blanks = blanks_in_first grounds.setup;
+  }
 
-    planned : PlannedParts u
-    planned =
-        planned_parts u carried_laws (λ measure one other a class instr instrs is told.
-        template_turns u template_laws measure one other a class instr instrs is told)
+  planned : PlannedParts u
+  planned =
+      planned_parts u carried_laws (λ measure one other a class instr instrs is told.
+      template_turns u template_laws measure one other a class instr instrs is told)
 
-    -- ---- the theorem
+  -- ---- the theorem
 
-    parts : Parts u
-    parts = record {
-      alone = λ measure one other t class now is. alone_turn u basis measure one other t class now is;
-      library = λ measure one other t none made made_also ones others is is_also held below.
-          library_turn u (library_laws turns_known) measure one other t none made made_also ones others is is_also held below;
-      beginning = λ measure one other t none class ones others is is_also below.
-          beginning_turn u basis measure one other t none class ones others is is_also below;
-      own = λ measure one other t none f g ones others is is_also in_own below.
-          own_turn u turns_known measure one other t none f g ones others is is_also in_own below;
-      planned = λ measure one other t none f g ones others is is_also in_planned settled below low.
-          planned_turn u planned measure one other (record {
-            t = t;
-            none_now = none;
-            f = f;
-            g = g;
-            ones = ones;
-            others = others;
-            stands = is;
-            stands_also = is_also;
-            in_planned = in_planned;
-            settled = settled;
-            below = below;
-            low = low;
-          });
-      over = λ measure one other over. over_keeps u measure one other over;
-      starts = laws.starts (first u) u.typings grounds.setup.program;
-    }
+  parts : Parts u
+  parts = record {
+    alone = λ measure one other t class now is. alone_turn u basis measure one other t class now is;
+    library = λ measure one other t none made made_also ones others is is_also held below.
+        library_turn u (library_laws turns_known) measure one other t none made made_also ones others is is_also held below;
+    beginning = λ measure one other t none class ones others is is_also below.
+        beginning_turn u basis measure one other t none class ones others is is_also below;
+    own = λ measure one other t none f g ones others is is_also in_own below.
+        own_turn u turns_known measure one other t none f g ones others is is_also in_own below;
+    planned = λ measure one other t none f g ones others is is_also in_planned settled below low.
+        planned_turn u planned measure one other (record {
+          t = t;
+          none_now = none;
+          f = f;
+          g = g;
+          ones = ones;
+          others = others;
+          stands = is;
+          stands_also = is_also;
+          in_planned = in_planned;
+          settled = settled;
+          below = below;
+          low = low;
+        });
+    over = λ measure one other over. over_keeps u measure one other over;
+    starts = laws.starts (first u) u.typings grounds.setup.program;
+  }
 
-    -- The program with written codes runs the same as the one with flat codes.
-    pub written_codes_run_the_same : SameRuns (first u) (second u)
-    written_codes_run_the_same = runs_the_same u parts
+  -- The program with written codes runs the same as the one with flat codes.
+  pub written_codes_run_the_same : SameRuns (first u) (second u)
+  written_codes_run_the_same = runs_the_same u parts
 
-    -- In each run of the first the relation holds of some run of the second.
-    pub written_codes_stay_related : (actions : List Action) (count : ℕ)
-        → (measure : ℕ) × (other : Run) × Related u measure (turns (first u) count (begins_with actions)) other
-    written_codes_stay_related = stays_related u parts
+  -- In each run of the first the relation holds of some run of the second.
+  pub written_codes_stay_related : (actions : List Action) (count : ℕ)
+      → (measure : ℕ) × (other : Run) × Related u measure (turns (first u) count (begins_with actions)) other
+  written_codes_stay_related = stays_related u parts
 
   pub makes_what_was_virtual : MakesObjects u
   makes_what_was_virtual = settle.making

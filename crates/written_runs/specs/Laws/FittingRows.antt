@@ -7,7 +7,7 @@ use Rattle.std.proofs.lemmas.List.{drop-map, length-append, length-map, length-r
 use Rattle.std.proofs.lemmas.Option.{none-some, same_Some, slice_get-map, slice_get_within}
 use Rattle.class_model.specs.Code.{verification_type}
 use Rattle.class_model.specs.Descriptors.{parameters_of}
-use Rattle.class_model.specs.Frames.{is_top, is_wide, units}
+use Rattle.class_model.specs.Frames.{is_top, is_wide}
 use Rattle.class_model.specs.Names.{init}
 use Rattle.class_model.specs.Pool.{Constants, constant_at}
 use Rattle.class_model.specs.PoolChecks.{class_at, descriptor_at}
