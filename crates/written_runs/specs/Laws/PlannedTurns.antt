@@ -36,9 +36,9 @@ abbrev pub written_at : {u : Setup} {measure : ℕ} {one other : Run} → AtPlan
 written_at {u = u} a class instr =
     template (scope_in u a.in_planned.one) a.f.place a.settled.point.typed (state_written a.settled.route) a.settled.route class instr
 
--- What is left to show of planned frames: an instruction of which a template is written; one that is written as it is; a test for null. What is written of a
--- template mostly moves, jumps and pushes (`BehindMoves`); but a new object's class may have to begin in the first run, objects may be made
--- before a jump, and what is stored into a field is narrowed.
+-- What a planned frame's turn is, by what stands at its point: an instruction of which a template is written; one that is written as it is; a test
+-- for null. What is written of a template mostly moves, jumps and pushes (`BehindMoves`); but a new object's class may have to begin in the first
+-- run, objects may be made before a jump, and what is stored into a field is narrowed.
 pub record PlannedParts (u : Setup) : Type 0 where
   pub by_template : (measure : ℕ) (one other : Run) (a : AtPlanned u measure one other) (class : ℕ) (instr : Instr) (instrs : List WInstr)
       → a.settled.point.instr ≡ Of class instr
