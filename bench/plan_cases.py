@@ -6,7 +6,13 @@ many points saves something. The code has about 256 sites, whose objects are sto
     joined      the same with a jump to the last point in place of each use
     caught      the same with divisions inside 64 handlers behind the code
     nested      six loops in one another, which begin with such blocks, and calls in the innermost that take objects
-    looped      the same, where the object of the block before is written and read"""
+    looped      the same, where the object of the block before is written and read
+
+In three more shapes COUNT is something else:
+
+    thrown      divisions inside so many handlers, which lead to 64 points behind the code
+    broad       8,000 points with so many local units
+    sunk        200 points with so many stack entries below one whose type is Top"""
 import sys
 
 HANDLERS, LEVELS = 64, 6
@@ -131,6 +137,45 @@ def nested(uses, count):
     return code
 
 
+class Given:
+    """Points that stand there as they are, the first of which is a site."""
+
+    link = "I"
+
+    def __init__(self, units, points):
+        self.units, self.points = units, points
+
+    def question(self):
+        return f"plan_gain {self.units} 0=P:I:I ; {' ; '.join(self.points)} => true"
+
+
+def thrown(uses, count):
+    points = ["new P, I T |", "astore_1, = | P"]
+    blocks = (8000 - len(points) - 2 - HANDLERS) // 4
+    behind = len(points) + 1 + 4 * blocks + 1
+    handlers = " ".join(f"{behind + number % HANDLERS}:*" for number in range(count))
+    points.append(f"nop, I P |, {handlers}")
+    points += ["iload_0, = |, =", "iload_0, = | I, =", "idiv, = | I I, =", "istore_0, = | I, ="] * blocks
+    points.append("return, = |")
+    points += ["athrow, = | java/lang/Throwable"] * HANDLERS
+    return Given(2, points)
+
+
+def broad(uses, count):
+    others = " ".join(["I"] * (count - 2))
+    points = [f"new P, I T {others} |", "astore_1, = | P", f"nop, I P {others} |"]
+    points += ["aload_1, = |", "getfield P x I, = | P", "istore_0, = | I"] * ((8000 - len(points) - 1) // 3)
+    points.append("return, = |")
+    return Given(count, points)
+
+
+def sunk(uses, count):
+    points = ["new P, I T |", "astore_1, = | P", "nop, I P |"]
+    points += ["nop, = | " + "I " * count + "T"] * 200
+    points.append("return, = |")
+    return Given(2, points)
+
+
 SHAPES = {
     "straight": (straight, "ints"),
     "linked": (straight, "objects"),
@@ -138,6 +183,9 @@ SHAPES = {
     "caught": (straight, "divisions"),
     "nested": (nested, "ints"),
     "looped": (nested, "objects"),
+    "thrown": (thrown, "divisions"),
+    "broad": (broad, "ints"),
+    "sunk": (sunk, "ints"),
 }
 
 make, used = SHAPES[sys.argv[1]]

@@ -2,8 +2,8 @@
 # Tries the greatest legal sizes. bench/size_folders.py, hierarchy_sizes.py, expansion_folders.py and machine_folders.py make folders of
 # one shape each: they are verified, the flat code of their methods is made (pea plan), or a script runs with them. The shapes are classes with the
 # most and the largest methods, tables, frames, handlers, members, constants and texts; many classes; deep trees of calls, many callees and
-# hosts, chains of classes; millions of objects, frames and stores, long scripts. Plans are made of 8,000 points with 256 sites, which
-# bench/plan_cases.py writes as cases for the program of crates/cases_expand.
+# hosts, chains of classes; millions of objects, frames and stores, long scripts. Plans are made of 8,000 points with 256 sites, of code
+# with the most handlers, and below a Top, which bench/plan_cases.py writes as cases for the program of crates/cases_expand.
 # A row of a table has a shape and how often or how large it is made, then the processor's milliseconds and the megabytes at the peak that
 # are wanted at most, then the answer. "-" is what the input allows: a second and one more for each 5 MB, with 3 microseconds for each
 # point of flat code and half a microsecond for each step; 64 MB and 16 bytes for each byte. Prints what is wanted and what came, the
@@ -214,6 +214,25 @@ looped 8000 3000 64
 joined 8000 1500 64
 caught 8000 12000 64
 PLANS
+
+# A plan of code with 65,535 handlers, and of points with 5,000 stack entries below a Top: the milliseconds and megabytes that a row states, of the
+# whole program. (`broad`, of points with 65,000 local units, still takes three times as long as is wanted: docs/MEASURES.md.)
+while read -r word count most_ms most_mb; do
+    is_tried judged "$word" || continue
+    python3 "$root/bench/plan_cases.py" "$word" "$count" 1 >"$word.cases"
+    for _ in $(seq 1 "$runs"); do turn "$word" "$cases" "$word.cases"; done
+    kb=$(peak "$cases" "$word.cases")
+    if [ "$("$cases" "$word.cases")" != "$word.cases: 1" ]; then
+        echo "  FAILED: the plan saves something"
+        failed=1
+    fi
+    echo "$word $count: a plan in ${least_ms[$word]} ms, $((kb / 1024)) MB"
+    wanted "${least_ms[$word]} ms (at most $most_ms is wanted)" "${least_ms[$word]} <= $most_ms"
+    wanted "$((kb / 1024)) MB (at most $most_mb is wanted)" "$kb <= $most_mb * 1024"
+done <<'LARGE_PLANS'
+thrown 65535 2000 256
+sunk 5000 2000 256
+LARGE_PLANS
 
 # What costs more than in proportion to its size: how it is tried, its shape and number, and the steps of a run.
 while read -r way shape number steps; do
