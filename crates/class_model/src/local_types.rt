@@ -1,5 +1,5 @@
 //! The verification types of local units.
-ghost use Rattle.std.specs.Prelude.{◌≡◌, ◌-◌, ◌<◌, ◌≤◌, ◌/◌, ◌%◌, ◌++◌, ◌∷◌, [], ◌==◌, length, take, drop, replicate, get_or, slice_get, slice_set, OnOk, OnErr, IfOk};
+ghost use Rattle.std.specs.Prelude.{◌≡◌, ◌^◌, ◌-◌, ◌<◌, ◌≤◌, ◌/◌, ◌%◌, ◌++◌, ◌∷◌, [], ◌==◌, length, take, drop, replicate, get_or, slice_get, slice_set, OnOk, OnErr, IfOk};
 ghost use Rattle.std.specs.Cmp.Lexicographic.{pointwise, lists_per, lists_equiv};
 ghost use Rattle.std.specs.Option.{option_copied};
 ghost use Rattle.class_model.specs.contracts.frame.VTypePartialEq.TheImpl.{ghosts as comparison};
@@ -112,14 +112,12 @@ impl LocalTypeList {
 
     /// Appends a unit. Where memory runs out, the list stays as it was.
     pub fn push(&mut self, unit: VType) -> Result<(), NoMemory>
+        requires { length self.old < 2 ^ 64 - 1 }
         ensures ok { OnOk result (self.new ≡ self.old ++ unit ∷ []) }
         ensures err { OnErr result (self.new ≡ self.old) }
     {
-        let Some(len) = self.len.checked_add(1) else {
-            return Err(NoMemory);
-        };
         put(&mut self.parts, self.len, unit)?;
-        self.len = len;
+        self.len += 1;
         Ok(())
     }
 
