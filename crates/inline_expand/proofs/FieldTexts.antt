@@ -34,8 +34,8 @@ use Rattle.expanded_code.specs.Laws.SuperChains.{chain_is, has_superclass}
 use Rattle.inline_expand.proofs.AloneFlat.{all-append}
 use Rattle.inline_expand.proofs.FolderNames.{of_folder}
 use Rattle.inline_expand.specs.Inner.FieldTypes.{IsShortDescriptor}
-use Rattle.materialise.specs.Constructors.{field_descs}
-use Rattle.materialise.specs.Laws.JoinedTexts.{joined}
+use Rattle.field_constructors.specs.Constructors.{field_descs}
+use Rattle.field_constructors.specs.Laws.JoinedTexts.{joined}
 use Rattle.member_link.specs.Laws.ResultTexts.{type_of_spelled}
 
 -- ---- the type that a text spells

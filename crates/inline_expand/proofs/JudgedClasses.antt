@@ -19,7 +19,7 @@ use Rattle.inline_expand.proofs.FolderNames.{in_folder_at, of_folder}
 use Rattle.inline_expand.proofs.SoundClasses.{fields_are, sound_above, sound_fit, sound_free, sound_narrow, there_judged}
 use Rattle.inline_expand.specs.Inner.CandidateWords.{AreKept, IsFileOf, IsFitAt, IsJudged, IsKept, IsSound, own_descs, units_of_all}
 use Rattle.inline_expand.specs.declared.candidates.Judged.{Judged}
-use Rattle.materialise.specs.Constructors.{field_descs}
+use Rattle.field_constructors.specs.Constructors.{field_descs}
 use Rattle.member_link.specs.FieldConstructors.{HasFieldConstructor}
 
 -- the class of a name stands in the folder

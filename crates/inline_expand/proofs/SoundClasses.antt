@@ -34,7 +34,7 @@ use Rattle.inline_expand.proofs.StoredClasses.{before_stored, stored_before}
 use Rattle.inline_expand.specs.Inner.CandidateWords.{IsFileOf, IsFit, IsFitAt, IsJudged, IsSound, own_descs, units_of_all}
 use Rattle.inline_expand.specs.Inner.QuietWords.{IsQuietItself}
 use Rattle.inline_expand.specs.Inner.StoreWords.{IsStored}
-use Rattle.materialise.specs.Constructors.{field_descs}
+use Rattle.field_constructors.specs.Constructors.{field_descs}
 use Rattle.member_link.specs.Scope.{Scope, is_init}
 
 -- ---- lists

@@ -18,7 +18,7 @@ use class_model::{
     has,
 };
 use class_tree::{OBJECT, Place, Tree, a_tree_is_a_hierarchy};
-use materialise::{Constructors, folder_number};
+use field_constructors::{Constructors, folder_number};
 use std::alloc::Global;
 use std::marker::Model;
 

@@ -1,15 +1,10 @@
 mod BareLaws
 mod CodeLaws
 mod ConstantLaws
-mod ConstructorLaws
-mod ConstructorTexts
 mod CopyLaws
 mod DepthLaws
 mod EntryLaws
-mod FieldTextLaws
 mod FitLaws
-mod FreeConstructors
-mod HandledLists
 mod MadeLaws
 mod NextSites
 mod ObjectCode

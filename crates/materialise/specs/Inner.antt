@@ -2,8 +2,6 @@
 -- definitions may pass them over.
 pub mod CodeWords
 pub mod ConstantWords
-pub mod ConstructorWords
-pub mod FieldWords
 pub mod OrderWords
 pub mod StackWords
 pub mod UnitWords

@@ -11,7 +11,7 @@ use Rattle.flow_code.specs.declared.point.Point.{Point}
 use Rattle.making_code.specs.IndexedMaking.{all_making_needs, made_instr}
 use Rattle.making_code.specs.MakeCode.{make_code}
 use Rattle.making_code.specs.MakeOrder.{IsMakeOrder}
-use Rattle.materialise.specs.Constructors.{IsConstructor}
+use Rattle.field_constructors.specs.Constructors.{IsConstructor}
 use Rattle.materialise.specs.Growing.{Grows}
 use Rattle.member_link.specs.FieldConstructors.{HasFieldConstructor}
 use Rattle.pool_edit.specs.Edits.{Edit, grown}

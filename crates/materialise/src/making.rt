@@ -12,7 +12,7 @@ ghost use Rattle.materialise.specs.Inner.StackWords.{copying, saving};
 ghost use Rattle.materialise.specs.MadeCode.{CanMake, DescribesConstructors, HasFewLocals, HaveConstructors, IsMakeCode};
 ghost use Rattle.pool_edit.specs.Edits.{Continues};
 
-use crate::constructors::Constructors;
+use field_constructors::Constructors;
 use crate::copies::{copy_to_fields, copy_to_locals, load_entries, save_entries};
 use crate::objects::make_objects;
 use crate::ordering::make_order;

@@ -17,7 +17,7 @@ ghost use Rattle.materialise.specs.MadeCode.{DescribesConstructors, HaveConstruc
 ghost use Rattle.pool_edit.specs.Edits.{Continues};
 
 use crate::constants::{Reference, add_class, add_member};
-use crate::constructors::Constructors;
+use field_constructors::Constructors;
 use crate::units::Units;
 use class_model::opcodes::{DUP, INVOKESPECIAL};
 use class_model::{FieldType, INIT, Imm, Instr, Kind, NoMemory, Text};

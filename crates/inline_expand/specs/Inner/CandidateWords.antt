@@ -15,7 +15,7 @@ use Rattle.class_tree.specs.Subtype.{IsChain}
 use Rattle.class_tree.specs.declared.place.Place.{Place}
 use Rattle.class_tree.specs.declared.place.Place.TheVariants.{Folder}
 use Rattle.expanded_code.specs.Candidates.{HasNoFinalizer, HasRoom, declares_finalizer}
-use Rattle.materialise.specs.Constructors.{field_descs}
+use Rattle.field_constructors.specs.Constructors.{field_descs}
 use Rattle.inline_expand.specs.Inner.QuietWords.{IsQuietItself}
 use Rattle.inline_expand.specs.Inner.StoreWords.{IsStored, StoredBefore}
 use Rattle.inline_expand.specs.declared.candidates.Judged.{Judged}

@@ -3,7 +3,7 @@ use Rattle.class_tree.specs.Headers.{Classes, headers_of}
 use Rattle.class_tree.specs.Order.{place_of}
 use Rattle.class_tree.specs.declared.place.Place.TheVariants.{Folder}
 use Rattle.cases_rewrite.proofs.making.has_constructor.Goals as goal
-use Rattle.materialise.specs.Constructors.{IsConstructor}
+use Rattle.field_constructors.specs.Constructors.{IsConstructor}
 
 pub returns-in-Some-2 : goal.returns-in-Some-2
 returns-in-Some-2 c = λ yes.

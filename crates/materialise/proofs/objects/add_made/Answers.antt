@@ -1,7 +1,7 @@
 use Rattle.std.proofs.Common.{ℕ, List, sym, subst}
 use Rattle.materialise.proofs.ConstantLaws.{if_ok, on_ok}
 use Rattle.materialise.proofs.objects.add_made.Goals as goal
-use Rattle.materialise.specs.Constructors.{IsConstructor}
+use Rattle.field_constructors.specs.Constructors.{IsConstructor}
 use Rattle.materialise.specs.Growing.{Grows, IsFull}
 use Rattle.materialise.specs.Inner.ConstantWords.{AreIndices, made_needs}
 

@@ -11,7 +11,7 @@ use Rattle.class_tree.specs.Names.{object}
 use Rattle.inline_expand.proofs.FolderNames.{folder_name, object_outside}
 use Rattle.inline_expand.proofs.JudgedClasses.{all_fields, header_named, not_fit, not_free, not_narrow, number_within, sound_there}
 use Rattle.inline_expand.specs.Inner.CandidateWords.{own_descs, units_of_all}
-use Rattle.materialise.specs.Constructors.{IsConstructor, IsConstructorAt, field_descs}
+use Rattle.field_constructors.specs.Constructors.{IsConstructor, IsConstructorAt, field_descs}
 use Rattle.member_link.specs.FieldConstructors.{HasFieldConstructor}
 use Rattle.inline_expand.proofs.candidates.Candidates.judge_class.Goals as goal
 

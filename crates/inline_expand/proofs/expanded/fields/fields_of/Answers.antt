@@ -7,7 +7,7 @@ use Rattle.inline_expand.proofs.FolderNames.{object_outside, of_folder}
 use Rattle.inline_expand.proofs.SoundClasses.{candidate_is}
 use Rattle.inline_expand.proofs.expanded.fields.fields_of.Goals as goal
 use Rattle.inline_expand.specs.Inner.CandidateWords.{IsJudged, IsSound}
-use Rattle.materialise.specs.Constructors.{field_descs}
+use Rattle.field_constructors.specs.Constructors.{field_descs}
 use Rattle.inline_expand.specs.Inner.FieldTypes.{IsShortDescriptor}
 
 pub fields_of-requires : goal.fields_of-requires

@@ -1,0 +1,5 @@
+mod ConstructorLaws
+mod ConstructorTexts
+mod FieldTextLaws
+mod FreeConstructors
+mod HandledLists

@@ -1,0 +1,4 @@
+-- Words for private functions: no public contract cites them. What the code is proved to do is said without them, so a reader of the
+-- definitions may pass them over.
+pub mod ConstructorWords
+pub mod FieldWords

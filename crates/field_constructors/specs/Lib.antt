@@ -1,0 +1,3 @@
+pub mod Constructors
+pub mod Inner
+pub mod Laws

@@ -1,6 +1,0 @@
-use Rattle.std.proofs.Common.{◌≡◌, ◌++◌}
-use Rattle.materialise.proofs.FieldTextLaws.{instance_taken}
-use Rattle.materialise.proofs.field_texts.add_instance_fields.Given as goal
-
-abbrev pub invariant-loop-field : goal.invariant-loop-field
-invariant-loop-field l = l.fields.items ≡ l.fn.fields.items ++ instance_taken l.header.fields l.field-index
