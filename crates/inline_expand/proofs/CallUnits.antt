@@ -25,7 +25,7 @@ use Rattle.class_tree.specs.Headers.{Classes, IsClassFile}
 use Rattle.code_bytes.specs.Codes.{HasReadMethods}
 use Rattle.expanded_code.specs.Laws.CutMethods.{AreRaw, class_cut}
 use Rattle.inline_expand.proofs.ReadMethods.{method_was_read}
-use Rattle.inline_expand.proofs.ScopeParts.{scope-parts}
+use Rattle.member_link.specs.Laws.Scopes.{scope_is_at}
 use Rattle.inline_expand.specs.Inner.Steps.{IsCallable}
 use Rattle.member_link.specs.Scope.{Scope, own_descriptor, scope_at}
 
@@ -91,10 +91,10 @@ HasUnitsAtCall s = IfSome (utf8_at s.class.pool s.method.desc) (λ text. units_a
 
 units_there : (classes : Classes) → AllByRecursion IsClassFile classes.folder → (at : MethodAt) (s : Scope) → scope_at classes at ≡ Some s → HasUnitsAtCall s
 units_there classes files at s is =
-    let parts = scope-parts classes at s is in
-    let methods = class_has (class_bytes s.class) s.class (at_index IsClassFile classes.folder at.class s.class files parts.class) in
+    let parts = scope_is_at classes at s is in
+    let methods = class_has (class_bytes s.class) s.class (at_index IsClassFile classes.folder at.class s.class files parts.of_folder) in
     code_has (HasCallUnits s.class.pool s.method.flags s.method.desc) (λ (p : CodePart). IfSome (utf8_at s.class.pool s.method.desc) (λ text. units_at_call s.method.flags text ≤ p.max_locals)) (λ name p h. h) s.method.attrs s.part
-    (at_index (MethodHas s.class.pool) s.class.methods at.method s.method methods parts.method) parts.code
+    (at_index (MethodHas s.class.pool) s.class.methods at.method s.method methods parts.of_class) parts.has_code
 
 fits_call : (s : Scope) → IsSome (utf8_at s.class.pool s.method.desc) → HasUnitsAtCall s → units_at_call s.method.flags (own_descriptor s) ≤ s.part.max_locals
 fits_call s there has = by (utf8_at s.class.pool s.method.desc) there has where

@@ -21,7 +21,7 @@ use Rattle.inline_expand.proofs.Founding.{needed_is_founded, no_circle, then_nee
 use Rattle.inline_expand.proofs.MethodLists.{among_front}
 use Rattle.inline_expand.proofs.OwnCallees.{PlacedThere, on_this_there}
 use Rattle.inline_expand.proofs.ReadyCalls.{from_callee, need_here, on_this_or_not, one_callee, one_list, one_scope, to_callee}
-use Rattle.inline_expand.proofs.StoredClasses.{scope_parts}
+use Rattle.member_link.specs.Laws.Scopes.{scope_is_at}
 use Rattle.inline_expand.proofs.Walking.{same_method}
 use Rattle.inline_expand.specs.Inner.Founded.{Leads, founded, leads_at_once}
 use Rattle.inline_expand.specs.Inner.Ready.{CallsAtMost, CallsOnThis, Fits, IsReady, Needs}
@@ -262,7 +262,7 @@ module _ (classes : Classes) (typed : FolderFrames) (is_answered : IsAnswered cl
     stands_decided at framed =
         some_decided (slice_get classes.folder host) (λ host_class. MayStandIn classes host_class framed.scope framed.frames)
         (λ host_class is. stand_decided classes is_answered.hierarchy is_answered.answers is_answered.fields_once is_answered.laws.looks_up host_class framed.scope
-        (scope_parts classes at framed.scope framed.has.is_scope).headers framed.frames)
+        (scope_is_at classes at framed.scope framed.has.is_scope).headers framed.frames)
 
     calls_all_decided : (at : MethodAt) (framed : Framed at) → Decision (CallsAll at framed.scope framed.frames)
     calls_all_decided at framed =
@@ -336,9 +336,9 @@ module _ (classes : Classes) (typed : FolderFrames) (is_answered : IsAnswered cl
 
     covers_all : Covers [] (all_methods 0 classes.folder)
     covers_all at fits =
-        let parts = scope_parts classes at fits.scope fits.is.is_scope in
+        let parts = scope_is_at classes at fits.scope fits.is.is_scope in
         let e : 0 + at.class ≡ at.class = omega arith in
-        inr (subst (λ (n : ℕ). IsAmong (all_methods 0 classes.folder) (numbered n at.method)) e (among_all 0 classes.folder at.class at.method fits.scope.class fits.scope.method parts.class parts.method))
+        inr (subst (λ (n : ℕ). IsAmong (all_methods 0 classes.folder) (numbered n at.method)) e (among_all 0 classes.folder at.class at.method fits.scope.class fits.scope.method parts.of_folder parts.of_class))
 
     pub ready_decided : (at : MethodAt) → Decision (IsReady classes typed host at)
     ready_decided at = ready_by (length (all_methods 0 classes.folder)) [] (all_methods 0 classes.folder) (omega arith) covers_all at (λ other among. elim among [ ])

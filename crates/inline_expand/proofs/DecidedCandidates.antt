@@ -25,7 +25,7 @@ use Rattle.inline_expand.proofs.DecidedOpen.{FindsOneField}
 use Rattle.inline_expand.proofs.DecidedStanding.{quiet_decided}
 use Rattle.inline_expand.proofs.DecidedWords.{HasAnswers, same_reference}
 use Rattle.inline_expand.proofs.SoundClasses.{finals_are, initialises_decided}
-use Rattle.inline_expand.proofs.StoredClasses.{scope_parts}
+use Rattle.member_link.specs.Laws.Scopes.{scope_is_at}
 use Rattle.inline_expand.specs.Inner.StoreWords.{IsStored}
 use Rattle.member_link.specs.DeclaredMembers.{Declared, own_method}
 use Rattle.member_link.specs.FieldConstructors.{HandlesNone, HasDimensions, HasFieldConstructor, IsFree, constructor_descriptor, constructor_reference, field_types, handled}
@@ -140,7 +140,7 @@ module _ (classes : Classes) (answers : HasAnswers (headers_of classes)) (fields
       let has = one.holds.holds in
       let store = has.holds.holds in
       let field = store.holds.holds in
-      let parts = scope_parts classes (record { class = one.number; method = one.holds.number }) has.item has.is in
+      let parts = scope_is_at classes (record { class = one.number; method = one.holds.number }) has.item has.is in
       record {
         at = record { class = one.number; method = one.holds.number };
         scope = has.item;
@@ -166,16 +166,16 @@ module _ (classes : Classes) (answers : HasAnswers (headers_of classes)) (fields
 
   from_stored : IsStored classes class → OneStores
   from_stored stored =
-      let parts = scope_parts classes stored.at stored.scope stored.is_scope in
+      let parts = scope_is_at classes stored.at stored.scope stored.is_scope in
       let r = stored.stores.reference in
       record {
         number = stored.at.class;
         item = stored.scope.class;
-        is = parts.class;
+        is = parts.of_folder;
         holds = record {
           number = stored.at.method;
           item = stored.scope.method;
-          is = parts.method;
+          is = parts.of_class;
           holds = record {
             item = stored.scope;
             is = stored.is_scope;

@@ -22,7 +22,7 @@ use Rattle.flow_code.specs.declared.reason.Reason.TheVariants as reasons
 use Rattle.inline_expand.proofs.ExpandedFlat.{expanded-is-flat}
 use Rattle.inline_expand.proofs.ExpandedPoints.{points-length, sites-are-candidates}
 use Rattle.inline_expand.proofs.OneExpansion.{coded_once}
-use Rattle.inline_expand.proofs.ScopeParts.{scope-parts}
+use Rattle.member_link.specs.Laws.Scopes.{scope_is_at}
 use Rattle.inline_expand.specs.Inner.Growths.{IsHostExpansion, IsWhole}
 use Rattle.inline_expand.specs.Inner.Measures.{host_expansion}
 use Rattle.inline_expand.specs.Inner.Steps.{IsBody, coded_of}
@@ -197,7 +197,7 @@ module _ (classes : Classes) (typed : FolderFrames)
     whole-code own =
         let code = its-code (coded_of bodies.body) own found.whole.stands its-expansion body-expands in
         record {
-          headers = (scope-parts classes bodies.body.at bodies.body.host found.whole.stands.is_scope).headers;
+          headers = (scope_is_at classes bodies.body.at bodies.body.host found.whole.stands.is_scope).headers;
           host = whole-body bodies.body found.whole;
           callees = AllByRecursion-weaker (IsWhole classes typed) IsBody whole-body bodies.callees.items found.callees;
           flat = expanded-is-flat classes typed each (coded_of bodies.body) its-expansion found.whole.stands body-expands;

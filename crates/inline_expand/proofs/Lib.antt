@@ -49,7 +49,6 @@ mod QuietLaws
 mod ReadMethods
 mod ReadyCalls
 mod ReplacedCalls
-mod ScopeParts
 mod Seeing
 mod SettingParts
 mod ShallowCalls

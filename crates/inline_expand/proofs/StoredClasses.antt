@@ -26,6 +26,7 @@ use Rattle.class_tree.specs.Order.{place_of}
 use Rattle.class_tree.specs.declared.place.Place.TheVariants.{Folder}
 use Rattle.member_link.specs.Fields.{FindsField}
 use Rattle.member_link.specs.References.{Reference}
+use Rattle.member_link.specs.Laws.Scopes.{scope_is_at}
 use Rattle.member_link.specs.Scope.{Scope, instructions, is_init, scope_at, scope_of}
 use Rattle.member_link.specs.Signatures.{reference_of}
 use Rattle.inline_expand.proofs.MethodInstrs.{no_instrs}
@@ -75,38 +76,6 @@ is_a_store index placed is = ap (λ (instr : Instr). is_store index (record plac
 
 -- ---- methods with code
 
--- the scope of a method, and where it stands
-pub record ScopeParts (classes : Classes) (at : MethodAt) (scope : Scope) : Type 0 where
-  pub class : slice_get classes.folder at.class ≡ Some scope.class
-  pub method : slice_get scope.class.methods at.method ≡ Some scope.method
-  pub part : code_of scope.method.attrs ≡ Some scope.part
-  pub headers : scope.headers ≡ headers_of classes
-
-pub scope_parts : (classes : Classes) (at : MethodAt) (scope : Scope) → scope_at classes at ≡ Some scope → ScopeParts classes at scope
-scope_parts classes at scope is = of_class (slice_get classes.folder at.class) refl is
-  where
-    of_part : (class : ClassFile) (method : Method) → slice_get classes.folder at.class ≡ Some class → slice_get class.methods at.method ≡ Some method
-        → (part : Option CodePart) → code_of method.attrs ≡ part
-        → option_map (λ (part : CodePart). let s : Scope = record { headers = headers_of classes; class = class; method = method; part = part } in s) part ≡ Some scope
-        → ScopeParts classes at scope
-    of_part class method class_is method_is None part_is e = absurd (none-some scope e)
-    of_part class method class_is method_is (Some part) part_is e =
-        subst (ScopeParts classes at) (same_Some (record { headers = headers_of classes; class = class; method = method; part = part }) scope e)
-        (record { class = class_is; method = method_is; part = part_is; headers = refl })
-
-    of_method : (class : ClassFile) → slice_get classes.folder at.class ≡ Some class
-        → (method : Option Method) → slice_get class.methods at.method ≡ method
-        → option_and_then (scope_of (headers_of classes) class) method ≡ Some scope
-        → ScopeParts classes at scope
-    of_method class class_is None method_is e = absurd (none-some scope e)
-    of_method class class_is (Some method) method_is e = of_part class method class_is method_is (code_of method.attrs) refl e
-
-    of_class : (class : Option ClassFile) → slice_get classes.folder at.class ≡ class
-        → option_and_then (λ (class : ClassFile). option_and_then (scope_of (headers_of classes) class) (slice_get class.methods at.method)) class ≡ Some scope
-        → ScopeParts classes at scope
-    of_class None class_is e = absurd (none-some scope e)
-    of_class (Some class) class_is e = of_method class class_is (slice_get class.methods at.method) refl e
-
 same_instrs : (scope : Scope) → code_of scope.method.attrs ≡ Some scope.part → method_instrs scope.method ≡ instructions scope
 same_instrs scope is = by (decoded scope.part.code) refl
   where
@@ -152,7 +121,7 @@ module _ (classes : Classes) (hierarchy : IsHierarchy (headers_of classes)) (nam
 
   pub stored_before : IsStored classes name → StoredBefore (headers_of classes) classes.folder (length classes.folder) number
   stored_before stored =
-      let parts = scope_parts classes stored.at stored.scope stored.is_scope in
+      let parts = scope_is_at classes stored.at stored.scope stored.is_scope in
       let class = stored.scope.class in
       let index = stored.stores.index in
       let finds : FindsFinal (headers_of classes) class.pool index number = record {
@@ -164,22 +133,22 @@ module _ (classes : Classes) (hierarchy : IsHierarchy (headers_of classes)) (nam
         stands = ap (place_of (headers_of classes)) stored.own ∙ placed;
       } in
       let instr = any_passes (is_store index) (method_instrs stored.scope.method) stored.number stored.placed
-      (ap (λ (l : List Placed). slice_get l stored.number) (same_instrs stored.scope parts.part) ∙ stored.there) (is_a_store index stored.placed stored.stores.stores) in
+      (ap (λ (l : List Placed). slice_get l stored.number) (same_instrs stored.scope parts.has_code) ∙ stored.there) (is_a_store index stored.placed stored.stores.stores) in
       let by : (of_init : Bool) → is_init stored.scope ≡ of_init → IsTrue (is_stored_by class of_init index) =
-      λ of_init is. any_passes (stores_into class of_init index) class.methods stored.at.method stored.scope.method parts.method
+      λ of_init is. any_passes (stores_into class of_init index) class.methods stored.at.method stored.scope.method parts.of_class
       (and_both (is_wanted class of_init stored.scope.method) (list_any (is_store index) (method_instrs stored.scope.method)) (wanted_of class stored.scope.method of_init is) instr) in
       record {
         from = stored.at.class;
-        before = slice_get_within classes.folder stored.at.class class parts.class;
+        before = slice_get_within classes.folder stored.at.class class parts.of_folder;
         class = class;
-        there = parts.class;
+        there = parts.of_folder;
         stores = (
           index,
           index_within class.pool index stored.stores.reference stored.stores.names,
           record {
             finds = finds;
             stored = elim (cases_Bool (is_init stored.scope)) [
-              | inl is ↦ inr (by true is, λ same. stored.other (record { is_init = is; own = (name_at stored.at.class class parts.class).1 same }))
+              | inl is ↦ inr (by true is, λ same. stored.other (record { is_init = is; own = (name_at stored.at.class class parts.of_folder).1 same }))
               | inr other ↦ inl (by false other)
             ];
           },

@@ -11,3 +11,4 @@ pub mod TranslatedOps
 pub mod OwnMethods
 pub mod ProgramHeaders
 pub mod ProgramMembers
+pub mod Scopes

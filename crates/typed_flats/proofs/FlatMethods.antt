@@ -20,7 +20,8 @@ use Rattle.member_link.specs.Machine.Programs.{Links, name_of_class}
 use Rattle.member_link.specs.Scope.{Scope}
 use Rattle.same_runs.specs.FlatBodies.{flat_entry}
 use Rattle.same_runs.specs.Flats.{flat_code}
-use Rattle.same_runs.specs.Laws.Scopes.{IsScopeAt, class_there}
+use Rattle.member_link.specs.Laws.Scopes.{IsScopeAt}
+use Rattle.same_runs.specs.Laws.Scopes.{class_there}
 use Rattle.typed_runs.specs.TypedPrograms.{entry}
 
 -- ---- the method in the program

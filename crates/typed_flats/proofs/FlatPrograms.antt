@@ -20,7 +20,8 @@ use Rattle.same_runs.specs.ClearedFields.{ReplacesByFlats}
 use Rattle.same_runs.specs.Flats.{Flats, flat_body, flat_code, flat_point, flat_points}
 use Rattle.same_runs.specs.Laws.Numbered.{from_zero, length_numbered}
 use Rattle.same_runs.specs.Laws.ReplacedPrograms.{body_is}
-use Rattle.same_runs.specs.Laws.Scopes.{IsScopeAt, own_run, program_headers, scope_is_at}
+use Rattle.member_link.specs.Laws.Scopes.{IsScopeAt, scope_is_at}
+use Rattle.same_runs.specs.Laws.Scopes.{own_run, program_headers}
 use Rattle.same_runs.specs.ReadyCode.{IsReadyCode}
 use Rattle.typed_flats.proofs.FlatMethods.{entry_is, own_class, own_name}
 use Rattle.typed_flats.proofs.FlatPoints.{flat_point_typed, goes_leads}

@@ -40,7 +40,7 @@ use Rattle.flow_code.specs.declared.point.Point.{Point}
 use Rattle.member_link.specs.Scope.{Scope, instructions}
 use Rattle.plan_flow.specs.Narrow.{IsNarrow, IsNarrowPoint}
 use Rattle.plan_flow.specs.Plans.{FlowsInside}
-use Rattle.same_runs.specs.Laws.Scopes.{scope_is_at}
+use Rattle.member_link.specs.Laws.Scopes.{scope_is_at}
 use Rattle.type_rules.specs.MethodBodies.{body_of}
 use Rattle.type_rules.specs.Typed.{TypesBody}
 use Rattle.type_rules.specs.Verified.{TypesFolder, TypesMethod}

@@ -44,7 +44,7 @@ use Rattle.member_link.specs.FieldConstructors.{field_types}
 use Rattle.member_link.specs.Fields.{FindsField}
 use Rattle.member_link.specs.Scope.{instructions, is_init}
 use Rattle.member_link.specs.Signatures.{reference_of}
-use Rattle.same_runs.specs.Laws.Scopes.{scope_is_at}
+use Rattle.member_link.specs.Laws.Scopes.{scope_is_at}
 
 -- ---- stores
 

@@ -64,7 +64,7 @@ use Rattle.plan_flow.specs.PlanScope.{PlanScope, pool_of, scope_of as plan_scope
 use Rattle.plan_flow.specs.PlanTable.{edges_of}
 use Rattle.plan_flow.specs.ReadyForPlans.{KeepsAlong}
 use Rattle.same_runs.specs.Laws.KeptFinals.{never}
-use Rattle.same_runs.specs.Laws.Scopes.{scope_is_at}
+use Rattle.member_link.specs.Laws.Scopes.{scope_is_at}
 use Rattle.type_rules.specs.MethodBodies.{body_of, point_of}
 use Rattle.typed_runs.specs.TypedPoints.{IsLinkedOp}
 

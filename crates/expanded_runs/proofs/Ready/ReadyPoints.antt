@@ -51,7 +51,7 @@ use Rattle.member_link.specs.Scope.{Scope, instructions, own_descriptor}
 use Rattle.member_link.specs.Targets.{HasForm, pair_to}
 use Rattle.member_link.specs.Uses.{instr_use_checks}
 use Rattle.same_runs.specs.Laws.ComeFirst.{all_appended}
-use Rattle.same_runs.specs.Laws.Scopes.{IsScopeAt, scope_is_at}
+use Rattle.member_link.specs.Laws.Scopes.{IsScopeAt, scope_is_at}
 use Rattle.same_runs.specs.ReadyCode.{IsReadyItem}
 use Rattle.expanded_runs.proofs.Types.StoredUnits.{last_reversed}
 use Rattle.std.specs.Int.{w32}

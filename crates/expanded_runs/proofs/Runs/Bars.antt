@@ -48,7 +48,8 @@ use Rattle.same_runs.specs.Laws.InstrOps.{OwnBars}
 use Rattle.same_runs.specs.Laws.FoundMembers.{FieldLaws}
 use Rattle.same_runs.specs.Laws.KeptFinals.{ClearsKept, FieldFound, StandsAtNumbers, barred, field_found, field_is, final_kept, inside, inside_is, never, own_bars, stands_at_numbers, static_final}
 use Rattle.same_runs.specs.Laws.ReplacedPrograms.{final_gone, final_stays}
-use Rattle.same_runs.specs.Laws.Scopes.{program_headers, scope_is_at}
+use Rattle.member_link.specs.Laws.Scopes.{scope_is_at}
+use Rattle.same_runs.specs.Laws.Scopes.{program_headers}
 use Rattle.same_runs.specs.SamePrograms.{SameBar}
 use Rattle.typed_runs.specs.TypedPoints.{HasField}
 

@@ -21,7 +21,7 @@ use Rattle.member_link.specs.Scope.{Scope, is_clinit, is_init, scope_at}
 use Rattle.member_link.specs.Selection.{Choice, Selects, abstract_choice, choice_of, chosen_method, of_initialiser, of_special}
 use Rattle.member_link.specs.declared.selection.CallForm.TheVariants.{Special}
 use Rattle.same_runs.specs.Laws.NoInitLinks.{method_name, selects_name}
-use Rattle.same_runs.specs.Laws.Scopes.{scope_is_at}
+use Rattle.member_link.specs.Laws.Scopes.{scope_is_at}
 
 -- ---- the method that runs
 

@@ -40,7 +40,8 @@ use Rattle.member_link.specs.References.{Reference}
 use Rattle.member_link.specs.Scope.{Scope, class_of_new, instructions, row_scope, scope_at}
 use Rattle.member_link.specs.Signatures.{reference_of}
 use Rattle.same_runs.specs.Laws.FoundMembers.{initialiser_there}
-use Rattle.same_runs.specs.Laws.Scopes.{own_run, scope_is_at}
+use Rattle.member_link.specs.Laws.Scopes.{scope_is_at}
+use Rattle.same_runs.specs.Laws.Scopes.{own_run}
 use Rattle.type_rules.specs.Laws.InstructionOrder.{Ascend, ascend}
 use Rattle.type_rules.specs.MethodBodies.{body_of}
 use Rattle.typed_runs.specs.TypedPoints.{IsLinkedOp, TypedPoint}

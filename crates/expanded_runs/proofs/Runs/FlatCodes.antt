@@ -22,7 +22,8 @@ use Rattle.same_runs.specs.Flats.{flat_body, flat_code}
 use Rattle.same_runs.specs.Laws.FlatRuns.{BeginWithin, flat_points_are, flat_run_point}
 use Rattle.same_runs.specs.Laws.InstrOps.{own_point as numbered_point, own_points_are as numbered_points_are}
 use Rattle.same_runs.specs.Laws.Numbered.{replaced_run}
-use Rattle.same_runs.specs.Laws.Scopes.{own_code_at, own_method_code, own_run, runs_in_place, scope_is_at}
+use Rattle.member_link.specs.Laws.Scopes.{scope_is_at}
+use Rattle.same_runs.specs.Laws.Scopes.{own_code_at, own_method_code, own_run, runs_in_place}
 
 -- ---- points of a method's own code
 

@@ -51,7 +51,8 @@ use Rattle.member_link.specs.Scope.{instructions, is_clinit, is_init, row_scope}
 use Rattle.member_link.specs.Signatures.{reference_of}
 use Rattle.same_runs.specs.Flats.{flat_points, host_scope, pool_of}
 use Rattle.same_runs.specs.Laws.FlatRuns.{number_stays}
-use Rattle.same_runs.specs.Laws.Scopes.{own_run, scope_is_at}
+use Rattle.member_link.specs.Laws.Scopes.{scope_is_at}
+use Rattle.same_runs.specs.Laws.Scopes.{own_run}
 use Rattle.same_runs.specs.SameMoves.{moved}
 use Rattle.same_runs.specs.SamePrograms.{SameBar, SameOp, same_initialiser, same_op, same_store}
 

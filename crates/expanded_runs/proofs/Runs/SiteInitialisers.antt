@@ -41,7 +41,7 @@ use Rattle.member_link.specs.Machine.Programs.{RunClass, number_of_first}
 use Rattle.member_link.specs.References.{Reference}
 use Rattle.member_link.specs.Rows.MemberRows.{MayInitialise, receiver}
 use Rattle.member_link.specs.Scope.{Scope, class_of_new, instructions, is_clinit, is_init, row_scope, scope_at}
-use Rattle.same_runs.specs.Laws.Scopes.{scope_is_at}
+use Rattle.member_link.specs.Laws.Scopes.{scope_is_at}
 
 -- ---- chains
 

@@ -31,7 +31,7 @@ use Rattle.flow_code.specs.TypedFrames.{FolderFrames}
 use Rattle.member_link.specs.BodyTyping.{FlowsInto, Reaches, begins_at}
 use Rattle.member_link.specs.Rows.FrameAssignability.{IsFrameAssignable}
 use Rattle.member_link.specs.Scope.{Scope, instructions, scope_at}
-use Rattle.same_runs.specs.Laws.Scopes.{scope_is_at}
+use Rattle.member_link.specs.Laws.Scopes.{scope_is_at}
 use Rattle.type_rules.specs.MethodBodies.{body_of, point_of}
 use Rattle.type_rules.specs.Stated.{entry}
 use Rattle.type_rules.specs.Verified.{TypesFolder}

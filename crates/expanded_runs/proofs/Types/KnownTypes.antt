@@ -56,7 +56,7 @@ use Rattle.member_link.specs.References.{DescriptorNames, IsNamedThere, TypeName
 use Rattle.member_link.specs.Rows.Table.{row_of}
 use Rattle.member_link.specs.Scope.{Scope, instructions, own_descriptor, row_scope, scope_at}
 use Rattle.member_link.specs.Uses.{frame_checks, instr_use_checks}
-use Rattle.same_runs.specs.Laws.Scopes.{IsScopeAt, scope_is_at}
+use Rattle.member_link.specs.Laws.Scopes.{IsScopeAt, scope_is_at}
 use Rattle.type_rules.specs.MethodBodies.{point_of}
 use Rattle.type_rules.specs.Stated.{entry, stated, stated_at}
 use Rattle.type_rules.specs.Verified.{TypesFolder}

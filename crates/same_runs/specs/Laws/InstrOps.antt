@@ -31,7 +31,8 @@ use Rattle.member_link.specs.Scope.{Scope, instructions, is_clinit, is_init, row
 use Rattle.member_link.specs.Signatures.{reference_of}
 use Rattle.same_runs.specs.SamePrograms.{IsInBoth, SameBar}
 use Rattle.same_runs.specs.Laws.MethodPoints.{code_of_point}
-use Rattle.same_runs.specs.Laws.Scopes.{code_is_own, scope_is_at, scope_there}
+use Rattle.member_link.specs.Laws.Scopes.{scope_is_at}
+use Rattle.same_runs.specs.Laws.Scopes.{code_is_own, scope_there}
 
 -- ---- what is asked of methods' own instructions
 

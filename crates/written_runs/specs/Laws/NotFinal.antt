@@ -62,7 +62,8 @@ use Rattle.same_runs.specs.Laws.KeptFinals.{FieldFound, StandsAtNumbers, field_f
 use Rattle.same_runs.specs.Laws.MethodPoints.{method_of_code}
 use Rattle.same_runs.specs.Laws.Programs.{same_name, same_number, same_static_field}
 use Rattle.same_runs.specs.Laws.ReplacedPrograms.{final_gone, final_stays}
-use Rattle.same_runs.specs.Laws.Scopes.{class_there, scope_is_at}
+use Rattle.member_link.specs.Laws.Scopes.{scope_is_at}
+use Rattle.same_runs.specs.Laws.Scopes.{class_there}
 use Rattle.same_runs.specs.TypedFlats.{reading_of}
 use Rattle.typed_runs.specs.Conforming.{AllConform, Conforms, and_value, of_this}
 use Rattle.typed_runs.specs.FolderTypings.{HasFlatTypings}

@@ -30,7 +30,8 @@ use Rattle.same_runs.specs.Laws.InstrOps.{DeclaresInitialisers, OwnBars, folder_
 use Rattle.same_runs.specs.Laws.KeptFinals.{ClearsKept, KeepsField, StoresStatics, own_bars}
 use Rattle.same_runs.specs.Laws.MethodPoints.{code_of_point, method_of_code}
 use Rattle.same_runs.specs.Laws.Operations.{WorksOnOperands}
-use Rattle.same_runs.specs.Laws.Scopes.{code_is_own, program_headers, scope_is_at}
+use Rattle.member_link.specs.Laws.Scopes.{scope_is_at}
+use Rattle.same_runs.specs.Laws.Scopes.{code_is_own, program_headers}
 use Rattle.same_runs.specs.SamePrograms.{SameOp, same_op}
 use Rattle.typed_runs.specs.TypedPoints.{HasField, HasMethod, IsLinkedOp}
 use Rattle.written_runs.specs.Inner.Setup.{IsSetup, Setup, first, second}

@@ -8,7 +8,8 @@ use Rattle.member_link.specs.Scope.{Scope, scope_at}
 use Rattle.plan_flow.specs.Written.WrittenCode.{written_code}
 use Rattle.plan_flow.specs.Written.WrittenPrograms.{WrittenMethod}
 use Rattle.same_runs.specs.Flats.{flat_code}
-use Rattle.same_runs.specs.Laws.Scopes.{IsScopeAt, runs_in_place, scope_is_at}
+use Rattle.member_link.specs.Laws.Scopes.{IsScopeAt, scope_is_at}
+use Rattle.same_runs.specs.Laws.Scopes.{runs_in_place}
 use Rattle.written_runs.specs.Inner.PlannedFrames.{blocks_in, scope_in}
 use Rattle.written_runs.specs.Inner.Setup.{IsSetup, Setup, first, second}
 
