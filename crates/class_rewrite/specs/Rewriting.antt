@@ -1,5 +1,4 @@
 -- The rewriting of a folder by least plans: what becomes of each method, and the folder that is written.
-pub mod Constructors
 pub mod Methods
 pub mod Folders
 pub mod Lines

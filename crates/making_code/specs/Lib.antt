@@ -7,3 +7,5 @@ pub mod Constants
 pub mod FieldConstructor
 pub mod Opposites
 pub mod IndexedMaking
+pub mod ConstructorCode
+pub mod Laws

@@ -12,6 +12,7 @@ use Rattle.class_tree.specs.Headers.{Name}
 use Rattle.flow_code.specs.declared.reason.Reason.{Reason}
 use Rattle.flow_code.specs.declared.reason.Reason.TheVariants.{PoolFull}
 use Rattle.making_code.specs.Constants.{MemberKind, Need, constant_of, grow, index_from, index_in, index_of, index_or_zero, name_and_type_index, needs_class, needs_itself, needs_member, needs_name_and_type, reference_of_kind, text_index, with_constant}
+use Rattle.making_code.specs.Laws.GrownPools.{grow_both}
 use Rattle.materialise.specs.Growing.{Grows, IsFull}
 use Rattle.materialise.specs.Inner.ConstantWords.{IsIndex, Means}
 use Rattle.pool_edit.specs.Edits.{Adds, Appends, Continues, Edit, IsAbsent, IsFirstIndex, IsPast, grown}
@@ -186,17 +187,6 @@ added_index same old new need constant index means so_far first = record {
 }
 
 -- ---- growth, part by part
-
-grow_both : (limit : ℕ) (pool : Constants) (front back : List Need)
-    → grow limit pool (front ++ back) ≡ option_and_then (λ more. grow limit more back) (grow limit pool front)
-grow_both limit pool [] back = refl
-grow_both limit pool (need ∷ front) back = by (with_constant limit pool (constant_of pool need)) (λ more. grow_both limit more front back) where
-  by : (found : Option Constants)
-      → ((more : Constants) → grow limit more (front ++ back) ≡ option_and_then (λ last. grow limit last back) (grow limit more front))
-      → option_and_then (λ more. grow limit more (front ++ back)) found
-      ≡ option_and_then (λ last. grow limit last back) (option_and_then (λ more. grow limit more front) found)
-  by None rest = refl
-  by (Some more) rest = rest more
 
 pub grows_none : (edit : Edit) → Grows edit [] edit
 grows_none edit = record { base = refl; limit = refl; grown_by = refl }

@@ -7,7 +7,8 @@ use Rattle.class_model.specs.declared.class_file.ClassFile.{ClassFile}
 use Rattle.class_model.specs.declared.class_file.Field.{Field}
 use Rattle.class_model.specs.declared.class_file.Method.{Method}
 use Rattle.class_model.specs.declared.class_file.MethodAt.{MethodAt}
-use Rattle.class_rewrite.specs.Laws.GrownPools.{Begins, begins_itself, begins_through, grow_begins, pool_begins}
+use Rattle.class_rewrite.specs.Laws.GrownPools.{pool_begins}
+use Rattle.making_code.specs.Laws.GrownPools.{Begins, begins_itself, begins_through, grow_begins}
 use Rattle.class_rewrite.specs.Optimised.{with_folder}
 use Rattle.class_rewrite.specs.Rewriting.Folders.{AddsMethods, AreClassesWritten, AreMethodsWritten, IsClassWritten, IsFolderWritten, IsMethodWritten, adds_none, adds_one, field_written, is_kept, is_rewritten}
 use Rattle.class_rewrite.specs.Rewriting.Methods.{Rewriting}

@@ -1,10 +1,8 @@
 -- The folder that is written: the constant pools as methods leave them, the methods, the field constructors and the flags of fields. It is this
 -- project's profile.
-use Rattle.std.specs.Prelude.{◌≡◌, ◌≢◌, ◌+◌, ℕ, zero, suc, List, [], ◌∷◌, ◌++◌, bytes_eq, codes, length, slice_get, Some, IsTrue}
+use Rattle.std.specs.Prelude.{◌≡◌, ◌≢◌, ℕ, zero, suc, List, [], ◌∷◌, ◌++◌, bytes_eq, length, slice_get, Some, IsTrue}
 use Rattle.std.specs.List.{list_any}
 use Rattle.class_model.specs.Header.{header_of}
-use Rattle.class_model.specs.Members.{PUBLIC}
-use Rattle.class_model.specs.Names.{init}
 use Rattle.class_model.specs.Pool.{Constants}
 use Rattle.class_model.specs.declared.class_file.Attr.{Attr}
 use Rattle.class_model.specs.declared.class_file.Attr.TheVariants as attrs
@@ -13,16 +11,16 @@ use Rattle.class_model.specs.declared.class_file.CodePart.{CodePart}
 use Rattle.class_model.specs.declared.class_file.Field.{Field}
 use Rattle.class_model.specs.declared.class_file.Method.{Method}
 use Rattle.class_model.specs.declared.class_file.MethodAt.{MethodAt}
-use Rattle.class_rewrite.specs.Rewriting.Constructors.{IsConstructorPart}
 use Rattle.class_rewrite.specs.Rewriting.Methods.{HasReasonIn, IsRewritten, Rewriting, Rewritten}
 use Rattle.class_tree.specs.Headers.{Name, headers_of}
 use Rattle.class_tree.specs.Layouts.{chain}
 use Rattle.flow_code.specs.declared.reason.Reason.{Reason}
 use Rattle.flow_code.specs.declared.reason.Reason.TheVariants as reasons
-use Rattle.making_code.specs.Constants.{grow, text_index}
+use Rattle.making_code.specs.Constants.{grow}
+use Rattle.making_code.specs.ConstructorCode.{IsConstructorMethod}
 use Rattle.making_code.specs.FieldConstructor.{constructor_method_needs}
 use Rattle.member_link.specs.Machine.Replaced.{Replacement, map_numbered, without_flags}
-use Rattle.plan_flow.specs.Written.WrittenPrograms.{GivesConstructors, MakesClass, ReplacesByWritten, SYNTHETIC, WrittenMethod, WrittenMethods}
+use Rattle.plan_flow.specs.Written.WrittenPrograms.{GivesConstructors, MakesClass, ReplacesByWritten, WrittenMethod, WrittenMethods}
 
 -- ---- the pool before each method
 
@@ -96,16 +94,6 @@ pub record IsMade (r : Rewriting) (written : WrittenMethods) (name : Name) : Typ
   pub makes : MakesClass r.classes r.links written class
   pub of_chain : IsTrue (list_any (bytes_eq name) (chain (headers_of r.classes) class))
 
--- The field constructor of a class as a method of its file, in the pool that has its constants: its code is that of its instructions.
-pub record IsConstructorMethod (r : Rewriting) (file : ClassFile) (pool : Constants) (method : Method)
-    : Type 0 where
-  pub flags : method.flags ≡ PUBLIC + SYNTHETIC
-  pub name : method.name ≡ text_index pool init
-  pub desc : method.desc ≡ text_index pool (r.constructor (header_of file).name)
-  pub part : CodePart
-  pub attrs : method.attrs ≡ attrs.Code (text_index pool (codes "Code")) part ∷ []
-  pub is_part : IsConstructorPart (headers_of r.classes) r.constructor (header_of file).name pool part
-
 -- the class has its field constructor as its last method, or none
 pub data AddsMethods (r : Rewriting) (written : WrittenMethods) (file : ClassFile) (pool : Constants)
     : Constants → List Method → Type 0 where
@@ -114,7 +102,7 @@ pub data AddsMethods (r : Rewriting) (written : WrittenMethods) (file : ClassFil
   adds_one : {grown : Constants} {method : Method}
       → IsMade r written (header_of file).name
       → grow 65535 pool (constructor_method_needs (headers_of r.classes) r.constructor (header_of file).name) ≡ Some grown
-      → IsConstructorMethod r file grown method
+      → IsConstructorMethod (headers_of r.classes) r.constructor (header_of file).name grown method
       → AddsMethods r written file pool grown (method ∷ [])
 
 -- ---- classes

@@ -15,6 +15,7 @@ use Rattle.class_tree.specs.Layouts.{chain, instance_fields}
 use Rattle.class_tree.specs.Names.{object}
 use Rattle.flow_code.specs.FlatCode.{FlatCode}
 use Rattle.flow_code.specs.declared.point.Site.{Site}
+use Rattle.making_code.specs.ConstructorCode.{SYNTHETIC}
 use Rattle.making_code.specs.FieldConstructor.{CInstr, calls_constructor, calls_object, constructor_items, puts_field, simple, units_of_fields}
 use Rattle.making_code.specs.Items.{WInstr, WItem, carried, makes}
 use Rattle.member_link.specs.FieldConstructors.{HasDimensions, constructor_descriptor}
@@ -74,9 +75,6 @@ constructor_code classes links constructor file = record {
 }
 
 -- it is public and synthetic (JVM Specification SE 8, 4.6)
-abbrev pub SYNTHETIC : ℕ
-SYNTHETIC = 0x1000
-
 abbrev pub constructor_method : Classes → Links → (Name → List ℕ) → ClassFile → RunMethod
 constructor_method classes links constructor file = record {
   member = record {

@@ -2,8 +2,11 @@
 use Rattle.std.specs.Prelude.{◌≡◌, ◌+◌, ◌++◌, ℕ, List, [], ◌∷◌, bytes_eq, codes, length, map, max, Option, Some, None, if◌then◌else◌}
 use Rattle.class_model.specs.Descriptors.{kind_of, type_of, units_of}
 use Rattle.class_model.specs.Names.{init}
+use Rattle.class_model.specs.Members.{PUBLIC}
 use Rattle.class_model.specs.Pool.{Constants}
+use Rattle.class_model.specs.declared.class_file.Attr.TheVariants.{Code}
 use Rattle.class_model.specs.declared.class_file.CodePart.{CodePart}
+use Rattle.class_model.specs.declared.class_file.Method.{Method}
 use Rattle.class_model.specs.declared.header.Member.{Member}
 use Rattle.class_model.specs.declared.instr.Instr.{Instr}
 use Rattle.class_model.specs.declared.instr.Instr.TheVariants.{Invoke, PutField}
@@ -12,7 +15,7 @@ use Rattle.class_tree.specs.Headers.{Name, Headers}
 use Rattle.class_tree.specs.Layouts.{instance_fields, own_fields}
 use Rattle.class_tree.specs.Names.{object}
 use Rattle.code_bytes.specs.Forms.{instr_bytes}
-use Rattle.making_code.specs.Constants.{index_in, needs_member, of_field, of_method}
+use Rattle.making_code.specs.Constants.{index_in, needs_member, of_field, of_method, text_index}
 use Rattle.making_code.specs.FieldConstructor.{CInstr, calls_constructor, calls_object, constructor_items, puts_field, simple, superclass_of, units_of_fields}
 
 -- an instruction by the indices of its constants
@@ -69,3 +72,20 @@ pub record IsConstructorPart (headers : Headers) (constructor : Name → List �
   pub code : part.code ≡ bytes_from 0 (constructor_instrs headers pool constructor class)
   pub handlers : part.handlers ≡ []
   pub attrs : part.attrs ≡ []
+
+-- ---- the method
+
+-- it is in no source file (JVM Specification SE 8, 4.6)
+abbrev pub SYNTHETIC : ℕ
+SYNTHETIC = 0x1000
+
+-- The field constructor of a class as a method of its file, in the pool that has its constants: its code is that of its instructions.
+pub record IsConstructorMethod (headers : Headers) (constructor : Name → List ℕ) (class : Name)
+    (pool : Constants) (method : Method)
+    : Type 0 where
+  pub flags : method.flags ≡ PUBLIC + SYNTHETIC
+  pub name : method.name ≡ text_index pool init
+  pub desc : method.desc ≡ text_index pool (constructor class)
+  pub part : CodePart
+  pub attrs : method.attrs ≡ Code (text_index pool (codes "Code")) part ∷ []
+  pub is_part : IsConstructorPart headers constructor class pool part
