@@ -8,4 +8,5 @@ pub mod FieldConstructor
 pub mod Opposites
 pub mod IndexedMaking
 pub mod ConstructorCode
+pub mod StateFrames
 pub mod Laws

@@ -15,7 +15,7 @@ use Rattle.member_link.specs.Rows.FrameAssignability.{AreAssignable}
 use Rattle.member_link.specs.Rows.LocalRows.{HasRoom, cut_before, stored, with_units}
 use Rattle.member_link.specs.Rows.Operands.{IsOfKind}
 use Rattle.plan_flow.specs.PlanScope.{PlanScope}
-use Rattle.plan_flow.specs.Written.WrittenFrames.{local_types_from, type_of_slot}
+use Rattle.making_code.specs.StateFrames.{local_types_from, type_of_slot}
 use Rattle.virtual_state.specs.States.{is_unusable}
 use Rattle.virtual_state.specs.declared.slot.Slot.{Slot}
 use Rattle.virtual_state.specs.declared.slot.Slot.TheVariants.{Plain, Virt, Unusable}

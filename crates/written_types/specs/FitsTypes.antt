@@ -19,7 +19,7 @@ use Rattle.plan_flow.specs.Plans.{unusable_places}
 use Rattle.plan_flow.specs.ReadyForPlans.{place_types}
 use Rattle.plan_flow.specs.Written.Blocks.{state_written}
 use Rattle.plan_flow.specs.Written.Routes.{Route, RouteEdge, Routes}
-use Rattle.plan_flow.specs.Written.WrittenFrames.{local_types_from}
+use Rattle.making_code.specs.StateFrames.{local_types_from}
 use Rattle.virtual_state.specs.States.{State, is_unusable, object_of}
 use Rattle.virtual_state.specs.declared.slot.Slot.{Slot}
 use Rattle.virtual_state.specs.declared.slot.Slot.TheVariants.{Plain, Virt, Unusable}

@@ -8,7 +8,8 @@ use Rattle.class_model.specs.declared.instr.Instr.TheVariants.{Goto, Nop}
 use Rattle.flow_code.specs.FlatCode.{FlatCode}
 use Rattle.making_code.specs.Items.{WItem, item, plain, to_point}
 use Rattle.plan_flow.specs.Written.Blocks.{Block, BlockOf, before_point, handler_pad, jump_pad, of_point, on_next_edge}
-use Rattle.plan_flow.specs.Written.WrittenFrames.{differ, written_frame}
+use Rattle.making_code.specs.StateFrames.{differ}
+use Rattle.plan_flow.specs.Written.WrittenFrames.{written_frame}
 
 -- what a block ends with
 pub data End : Type 0 where

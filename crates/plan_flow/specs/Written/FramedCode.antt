@@ -28,7 +28,8 @@ use Rattle.plan_flow.specs.Written.Blocks.{BlockOf, before_point, handler_pad, j
 use Rattle.plan_flow.specs.Written.Finish.{Finished, is_empty}
 use Rattle.plan_flow.specs.Written.WrittenCode.{Form, block_items, start_of}
 use Rattle.making_code.specs.IndexedItems.{IndexedItem}
-use Rattle.plan_flow.specs.Written.WrittenFrames.{differ, written_frame}
+use Rattle.making_code.specs.StateFrames.{differ}
+use Rattle.plan_flow.specs.Written.WrittenFrames.{written_frame}
 
 -- ---- the frames of blocks, by the numbers of items
 

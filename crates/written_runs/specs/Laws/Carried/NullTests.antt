@@ -57,7 +57,8 @@ use Rattle.member_link.specs.Rows.Readings.{row_by}
 use Rattle.plan_flow.specs.Written.Blocks.{Block, leaves_to}
 use Rattle.plan_flow.specs.Written.Finish.{end_of, is_empty}
 use Rattle.plan_flow.specs.Written.WrittenCode.{Form, in_form, short, wide}
-use Rattle.plan_flow.specs.Written.WrittenFrames.{differ, written_frame}
+use Rattle.making_code.specs.StateFrames.{differ}
+use Rattle.plan_flow.specs.Written.WrittenFrames.{written_frame}
 use Rattle.same_runs.specs.Flats.{flat_catch}
 use Rattle.same_runs.specs.TypedFlats.{reading_of}
 use Rattle.same_runs.specs.Laws.Names.{names_themselves}

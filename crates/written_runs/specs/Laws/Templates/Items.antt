@@ -21,7 +21,8 @@ use Rattle.plan_flow.specs.Written.Finish.{End, Finished, empty_end, end_items, 
 use Rattle.plan_flow.specs.Written.Routes.{Route}
 use Rattle.plan_flow.specs.Written.Templates.{items_at}
 use Rattle.plan_flow.specs.Written.WrittenCode.{Form, block_items, in_form, short, wide, written_code, written_op, written_point}
-use Rattle.plan_flow.specs.Written.WrittenFrames.{differ, written_frame}
+use Rattle.making_code.specs.StateFrames.{differ}
+use Rattle.plan_flow.specs.Written.WrittenFrames.{written_frame}
 use Rattle.plan_flow.specs.Written.WrittenPrograms.{WrittenMethod}
 use Rattle.same_runs.specs.Laws.QuietMoves.{moves_in_method}
 use Rattle.same_runs.specs.QuietMoves.{kept, moved_at, moved_by, moves, popped, pushed}

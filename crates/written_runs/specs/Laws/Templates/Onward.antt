@@ -15,7 +15,8 @@ use Rattle.plan_flow.specs.Written.Blocks.{Block, BlockOf, before_point, blocks_
 use Rattle.plan_flow.specs.Written.Finish.{Finished, begins_point, comes_to, empty_end, end_of, finish, finished_items, goto_end, is_empty, no_end, nop_end}
 use Rattle.plan_flow.specs.Written.Routes.{Route, RouteEdge, Routes, edge_by}
 use Rattle.plan_flow.specs.Written.WrittenCode.{Form, block_items, written_items}
-use Rattle.plan_flow.specs.Written.WrittenFrames.{differ, written_frame}
+use Rattle.making_code.specs.StateFrames.{differ}
+use Rattle.plan_flow.specs.Written.WrittenFrames.{written_frame}
 use Rattle.plan_flow.specs.declared.edge.EdgeKind.{EdgeKind}
 use Rattle.plan_flow.specs.declared.edge.EdgeKind.TheVariants as edges
 use Rattle.written_runs.specs.Laws.Templates.Stacks.{get_dropped, get_left, split_place}
