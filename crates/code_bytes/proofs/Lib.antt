@@ -30,3 +30,4 @@ pub mod ReadMethods
 pub mod ConsecutiveInstrs
 pub mod StatedAtStarts
 pub mod PushedItems
+pub mod ParameterUnits

@@ -1,5 +1,5 @@
 //! The frame that the code of a method begins with (JVM Specification SE 8, 4.10.1.6).
-ghost use Rattle.std.specs.Prelude.{◌≡◌, ◌-◌, ◌++◌, length, map, replicate, IfOk, OnOk};
+ghost use Rattle.std.specs.Prelude.{◌≡◌, ◌^◌, ◌-◌, ◌<◌, ◌++◌, length, map, replicate, IfOk, OnOk};
 ghost use Rattle.std.specs.Option.{option_copied};
 ghost use Rattle.class_model.specs.Code.{verification_type};
 ghost use Rattle.class_model.specs.Descriptors.{parameters_of};
@@ -92,6 +92,7 @@ fn push_this(
     flags: u16,
     name: u16,
 ) -> Result<(), NoMemory>
+    requires { length locals.old < 2 ^ 64 - 1 }
     ensures { OnOk result (locals.new ≡ locals.old
         ++ this_entries flags (utf8_at pool.now name) (option_copied class.entry)) }
 {
@@ -139,6 +140,7 @@ pub fn verification_type(field_type: &FieldType) -> Result<VType, NoMemory>
 
 // Appends the local units of an entry: a long or double is followed by `Top`.
 fn push_units(locals: &mut LocalTypeList, entry: VType) -> Result<(), NoMemory>
+    requires { length locals.old < 2 ^ 64 - 2 }
     ensures { OnOk result (locals.new ≡ locals.old ++ units entry) }
 {
     let is_wide = matches!(&entry, VType::Long | VType::Double);

@@ -1,5 +1,5 @@
 -- The table can be read where its frames are.
-use Rattle.std.proofs.Common.{◌≡◌, ap, sym, ◌∙◌, subst, List, Result}
+use Rattle.std.proofs.Common.{◌≡◌, ap, sym, subst, List, Result}
 use Rattle.std.proofs.lemmas.Result.{err_from_is_err_and}
 use Rattle.class_model.specs.Checks.{Fault}
 use Rattle.class_model.specs.Frames.{Setting, stack_map_table_at}
