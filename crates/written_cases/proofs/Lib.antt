@@ -1,1 +1,2 @@
 mod FramedItems
+mod RefusedForms

@@ -25,3 +25,5 @@ pub mod Decided
 pub mod NopBetweenFrames
 pub mod MadeForAHandlerFrames
 pub mod TopOnStack
+pub mod NullAtUninit
+pub mod FieldInATry

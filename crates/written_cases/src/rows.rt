@@ -23,6 +23,11 @@ ghost use Rattle.written_cases.specs.Decided as decided;
 ghost use Rattle.written_cases.specs.NopBetweenFrames as nop_between_frames;
 ghost use Rattle.written_cases.specs.TopOnStack as top_on_stack;
 ghost use Rattle.written_cases.specs.MadeForAHandlerFrames as made_for_a_handler_frames;
+ghost use Rattle.written_cases.specs.NullAtUninit as null_at_uninit;
+ghost use Rattle.written_cases.specs.FieldInATry as field_in_a_try;
+ghost use Rattle.plan_flow.specs.Narrow.{IsNarrow};
+ghost use Rattle.plan_flow.specs.Plans.{FlowsInside};
+ghost use Rattle.plan_flow.specs.ReadyForPlans.{KeepsUninit};
 
 /// The fields of an object that never escapes are read: nothing is made, and the code has neither its `new` nor its calls.
 pub fn sum_of_fields_is_written()
@@ -141,4 +146,21 @@ pub fn decided_comparisons_are_written()
 pub fn object_under_top_is_written()
     ensures written { IsWritten top_on_stack.this top_on_stack.wanted }
     ensures bytes { bytes_of top_on_stack.items ≡ top_on_stack.bytes }
+{}
+
+/// Where null could be at an uninitialised object of a site, what is written would not raise as the flat code does. Such a flat code is not
+/// ready for plans, and for no other reason.
+pub fn null_at_an_uninitialised_object_is_refused()
+    ensures written { IsWritten null_at_uninit.this null_at_uninit.wanted }
+    ensures flows { FlowsInside null_at_uninit.scope.flat }
+    ensures narrow { IsNarrow null_at_uninit.scope.flat }
+    ensures refused { ¬ KeepsUninit null_at_uninit.scope }
+{}
+
+/// A static field that is read in a try has no handler in the written code, and one in the flat code. So of frames below an initialiser's
+/// nothing is asked when an object is thrown.
+pub fn field_in_a_try_has_no_handler()
+    ensures written { IsWritten field_in_a_try.this field_in_a_try.wanted }
+    ensures none { field_in_a_try.NoneThroughBoth }
+    ensures alike { field_in_a_try.InitialisersAlike }
 {}
