@@ -98,9 +98,11 @@ impl ThrownPlan {
     fn by_kind(&self, by: EdgeKind) -> Option<PlanEdge<'_>>
         ensures { option_map made_edge_meant result ≡ find (λ edge. is_kind edge.by by) self.now }
     {
+        let _ = &self.handlers;
         match by {
             EdgeKind::Handler(number) => self.get(number as usize),
-            EdgeKind::Next | EdgeKind::Jump(_) => None,
+            EdgeKind::Next => None,
+            EdgeKind::Jump(_) => None,
         }
     }
 }
@@ -222,7 +224,10 @@ fn counted_by(edges: &[EdgePlan], by: EdgeKind) -> Option<PlanEdge<'_>>
     let falls = begins_with_next(edges);
     match by {
         EdgeKind::Next => { if falls { own_at(edges, 0) } else { None } }
-        EdgeKind::Jump(number) => own_at(edges, first_jump(falls) + number as usize),
+        EdgeKind::Jump(number) => {
+            let at = first_jump(falls) + number as usize;
+            own_at(edges, at)
+        }
         EdgeKind::Handler(_) => None,
     }
 }
@@ -231,12 +236,14 @@ fn counted_by(edges: &[EdgePlan], by: EdgeKind) -> Option<PlanEdge<'_>>
 fn first_by(edges: &[EdgePlan], by: EdgeKind) -> Option<PlanEdge<'_>>
     ensures { option_map made_edge_meant result ≡ find (λ edge. is_kind edge.by by) edges.now }
 {
-    let edge = edges.iter().find(|edge| is_kind(edge.by, by))?;
-    Some(PlanEdge {
-        by: edge.by,
-        to: edge.to,
-        made: &edge.made,
-    })
+    let mut number = 0;
+    while let Some(edge) = own_at(edges, number) {
+        if is_kind(edge.by, by) {
+            return Some(edge);
+        }
+        number += 1;
+    }
+    None
 }
 
 // Whether edges are counted.
@@ -245,8 +252,8 @@ fn are_counted(edges: &[EdgePlan]) -> bool
 {
     let first = first_jump(begins_with_next(edges));
     let mut at = first;
-    while let Some(edge) = edges.get(at) {
-        if !is_jump(edge.by, at - first) {
+    while let Some(edge) = own_at(edges, at) {
+        if !is_jump(edge.by, behind(at, first)) {
             return false;
         }
         at += 1;
@@ -258,8 +265,8 @@ fn are_counted(edges: &[EdgePlan]) -> bool
 fn begins_with_next(edges: &[EdgePlan]) -> bool
     ensures { result ≡ begins_with_next edges.now }
 {
-    match edges.first() {
-        Some(edge) => matches!(edge.by, EdgeKind::Next),
+    match own_at(edges, 0) {
+        Some(edge) => is_kind(edge.by, EdgeKind::Next),
         None => false,
     }
 }
