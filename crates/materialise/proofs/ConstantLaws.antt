@@ -7,14 +7,15 @@ use Rattle.std.proofs.lemmas.Option.{none-some, same_Some}
 use Rattle.class_model.specs.Pool.{Constants, entries_of}
 use Rattle.class_model.specs.contracts.pool.ConstPartialEq.TheImpl.{ghosts as comparison}
 use Rattle.class_model.specs.declared.pool.Const.{Const}
-use Rattle.class_model.specs.declared.pool.Const.TheVariants.{Class, NameAndType, Utf8}
+use Rattle.class_model.specs.declared.pool.Const.TheVariants.{Class, NameAndType, String, Utf8}
 use Rattle.class_tree.specs.Headers.{Name}
 use Rattle.flow_code.specs.declared.reason.Reason.{Reason}
 use Rattle.flow_code.specs.declared.reason.Reason.TheVariants.{PoolFull}
-use Rattle.making_code.specs.Constants.{MemberKind, Need, constant_of, grow, index_from, index_in, index_of, index_or_zero, name_and_type_index, needs_class, needs_itself, needs_member, needs_name_and_type, reference_of_kind, text_index, with_constant}
+use Rattle.making_code.specs.Constants.{MemberKind, Need, constant_of, grow, index_from, index_in, index_of, index_or_zero, name_and_type_index, needs_class, needs_itself, needs_member, needs_name_and_type, needs_string, reference_of_kind, text_index, with_constant}
 use Rattle.making_code.specs.Laws.GrownPools.{grow_both}
 use Rattle.materialise.specs.Growing.{Grows, IsFull}
-use Rattle.materialise.specs.Inner.ConstantWords.{IsIndex, Means}
+use Rattle.materialise.specs.Indices.{IsIndex}
+use Rattle.materialise.specs.Inner.ConstantWords.{Means}
 use Rattle.pool_edit.specs.Edits.{Adds, Appends, Continues, Edit, IsAbsent, IsFirstIndex, IsPast, grown}
 
 -- the comparison of constants tells whether they are the same
@@ -230,6 +231,9 @@ text_means edit text copy same = record { is = λ more. ap (λ (bytes : List ℕ
 
 pub class_means : (edit : Edit) (name : Name) (text : ℕ) → IsIndex edit (needs_itself (Utf8 name)) text → Means edit (needs_class name) (Class text)
 class_means edit name text known = record { is = λ more. ap (λ (index : ℕ). Class index) (known.is more) }
+
+pub string_means : (edit : Edit) (text : List ℕ) (index : ℕ) → IsIndex edit (needs_itself (Utf8 text)) index → Means edit (needs_string text) (String index)
+string_means edit text index known = record { is = λ more. ap (λ (at : ℕ). String at) (known.is more) }
 
 pub pair_means : (edit : Edit) (name desc : List ℕ) (one other : ℕ)
     → IsIndex edit (needs_itself (Utf8 name)) one
