@@ -1,9 +1,9 @@
 //! What constants of another class's pool mean, added to a constant pool.
-ghost use Rattle.std.specs.Prelude.{Some, IfOk, OnOk};
+ghost use Rattle.std.specs.Prelude.{[], ◌∷◌, Some, IfOk, OnOk};
 ghost use Rattle.std.specs.Result.{IsErrOf};
 ghost use Rattle.class_model.specs.PoolChecks.{class_at, descriptor_at, name_at, utf8_at};
 ghost use Rattle.flow_code.specs.declared.reason.Reason.{Reason};
-ghost use Rattle.making_code.specs.Constants.{needs_at, needs_of_class, needs_of_constant, needs_of_reference, needs_of_string};
+ghost use Rattle.making_code.specs.Constants.{needs_at, needs_itself, needs_of_class, needs_of_constant, needs_of_reference, needs_of_string};
 ghost use Rattle.materialise.specs.Growing.{Grows, IsFull};
 ghost use Rattle.materialise.specs.Indices.{IsIndexOfLast, kind_needed};
 ghost use Rattle.pool_edit.specs.Edits.{Continues};
@@ -57,16 +57,29 @@ fn add_meant_constant(pool: &mut PoolEdit, from: &Pool, constant: &Const) -> Res
         Const::InterfaceMethodref(class, member) => {
             add_member_of(pool, from, Reference::InterfaceMethod, *class, *member)
         }
-        Const::Integer(number) => add(pool, Const::Integer(*number)),
-        Const::Float(bits) => add(pool, Const::Float(*bits)),
-        Const::Long(number) => add(pool, Const::Long(*number)),
-        Const::Double(bits) => add(pool, Const::Double(*bits)),
+        Const::Integer(number) => add_itself(pool, Const::Integer(*number)),
+        Const::Float(bits) => add_itself(pool, Const::Float(*bits)),
+        Const::Long(number) => add_itself(pool, Const::Long(*number)),
+        Const::Double(bits) => add_itself(pool, Const::Double(*bits)),
         Const::Utf8(_) => Ok(0),
         Const::NameAndType(_, _) => Ok(0),
         Const::MethodHandle(_, _) => Ok(0),
         Const::MethodType(_) => Ok(0),
         Const::InvokeDynamic(_, _) => Ok(0),
     }
+}
+
+// Adds a constant that names no other one.
+fn add_itself(pool: &mut PoolEdit, value: Const) -> Result<u16, KeptFault>
+    ensures ok { OnOk result (Grows pool.old (needs_itself value ∷ []) pool.new) }
+    ensures index { IfOk result (IsIndexOfLast pool.new (needs_itself value ∷ [])) }
+    ensures full { (reason : Reason)
+        → IsErrOf result (KeptFault.Kept reason)
+        → IsFull pool.old (needs_itself value ∷ []) reason }
+    ensures more { Continues pool.old pool.new }
+{
+    an_edit_goes_back_to_what_it_was();
+    add(pool, value)
 }
 
 // Adds a class, by the index that another class's pool has of its name.
