@@ -21,7 +21,7 @@ pub fn type_of(alloc: Global, word: &str) -> Option<VType> {
     })
 }
 
-/// The frame that a text says.
+/// The frame that a text says. None also where there is no room in a list for more locals.
 pub fn frame_of(alloc: Global, text: &str) -> Option<Frame> {
     let mut locals = LocalTypeList::new(alloc);
     let mut stack = ListOf::new(alloc);
@@ -32,10 +32,19 @@ pub fn frame_of(alloc: Global, text: &str) -> Option<Frame> {
         } else if is_stack {
             stack.push(type_of(alloc, word)?).ok()?;
         } else if !word.is_empty() {
-            locals.push(type_of(alloc, word)?).ok()?;
+            push_local(&mut locals, type_of(alloc, word)?)?;
         }
     }
     Some(Frame { locals, stack })
+}
+
+// Appends a local, if there is room for one.
+fn push_local(locals: &mut LocalTypeList, local: VType) -> Option<()> {
+    if locals.len() < usize::MAX {
+        locals.push(local).ok()
+    } else {
+        None
+    }
 }
 
 /// The text of a frame.

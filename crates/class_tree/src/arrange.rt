@@ -151,7 +151,7 @@ fn text_or_empty(alloc: Global, text: Option<&Text>) -> Result<Text, NoMemory>
 {
     match text {
         Some(text) => text.copy(),
-        None => Text::of_bytes(alloc, &[]).map_err(|_| NoMemory),
+        None => Text::of_plain(alloc, &[]),
     }
 }
 

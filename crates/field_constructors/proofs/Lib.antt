@@ -3,3 +3,4 @@ mod ConstructorTexts
 mod FieldTextLaws
 mod FreeConstructors
 mod HandledLists
+mod Outcomes

@@ -7,14 +7,15 @@ use Rattle.std.proofs.lemmas.Option.{none-some, same_Some}
 use Rattle.class_model.specs.Pool.{Constants, entries_of}
 use Rattle.class_model.specs.contracts.pool.ConstPartialEq.TheImpl.{ghosts as comparison}
 use Rattle.class_model.specs.declared.pool.Const.{Const}
-use Rattle.class_model.specs.declared.pool.Const.TheVariants.{Class, NameAndType, Utf8}
+use Rattle.class_model.specs.declared.pool.Const.TheVariants.{Class, NameAndType, String, Utf8}
 use Rattle.class_tree.specs.Headers.{Name}
 use Rattle.flow_code.specs.declared.reason.Reason.{Reason}
 use Rattle.flow_code.specs.declared.reason.Reason.TheVariants.{PoolFull}
-use Rattle.making_code.specs.Constants.{MemberKind, Need, constant_of, grow, index_from, index_in, index_of, index_or_zero, name_and_type_index, needs_class, needs_itself, needs_member, needs_name_and_type, reference_of_kind, text_index, with_constant}
+use Rattle.making_code.specs.Constants.{MemberKind, Need, constant_of, grow, index_from, index_in, index_of, index_or_zero, name_and_type_index, needs_class, needs_itself, needs_member, needs_name_and_type, needs_of_class, needs_of_reference, needs_of_string, needs_string, reference_of_kind, text_index, with_constant}
 use Rattle.making_code.specs.Laws.GrownPools.{grow_both}
 use Rattle.materialise.specs.Growing.{Grows, IsFull}
-use Rattle.materialise.specs.Inner.ConstantWords.{IsIndex, Means}
+use Rattle.materialise.specs.Indices.{IsIndex, IsIndexOfLast}
+use Rattle.materialise.specs.Inner.ConstantWords.{Means}
 use Rattle.pool_edit.specs.Edits.{Adds, Appends, Continues, Edit, IsAbsent, IsFirstIndex, IsPast, grown}
 
 -- the comparison of constants tells whether they are the same
@@ -231,6 +232,9 @@ text_means edit text copy same = record { is = λ more. ap (λ (bytes : List ℕ
 pub class_means : (edit : Edit) (name : Name) (text : ℕ) → IsIndex edit (needs_itself (Utf8 name)) text → Means edit (needs_class name) (Class text)
 class_means edit name text known = record { is = λ more. ap (λ (index : ℕ). Class index) (known.is more) }
 
+pub string_means : (edit : Edit) (text : List ℕ) (index : ℕ) → IsIndex edit (needs_itself (Utf8 text)) index → Means edit (needs_string text) (String index)
+string_means edit text index known = record { is = λ more. ap (λ (at : ℕ). String at) (known.is more) }
+
 pub pair_means : (edit : Edit) (name desc : List ℕ) (one other : ℕ)
     → IsIndex edit (needs_itself (Utf8 name)) one
     → IsIndex edit (needs_itself (Utf8 desc)) other
@@ -252,6 +256,40 @@ member_means edit kind class name desc one other constant first second is = reco
       ∙ ap (λ (index : ℕ). reference_of_kind kind one index) (second.is more)
       ∙ is;
 }
+
+pub itself_means : (edit : Edit) (constant : Const) → Means edit (needs_itself constant) constant
+itself_means edit constant = record { is = λ more. refl }
+
+-- ---- the last of what is needed
+
+pub last_itself : (edit : Edit) (constant : Const) (index : ℕ) → IsIndex edit (needs_itself constant) index → IsIndexOfLast edit (needs_itself constant ∷ []) index
+last_itself edit constant index known = record { is = known.is }
+
+pub last_of_class : (edit : Edit) (found : Option Name) (name : Name) (index : ℕ)
+    → found ≡ Some name
+    → IsIndex edit (needs_class name) index
+    → IsIndexOfLast edit (needs_of_class found) index
+last_of_class edit found name index is known =
+    subst (λ (one : Option Name). IsIndexOfLast edit (needs_of_class one) index) (sym is) (record { is = known.is })
+
+pub last_of_string : (edit : Edit) (found : Option (List ℕ)) (text : List ℕ) (index : ℕ)
+    → found ≡ Some text
+    → IsIndex edit (needs_string text) index
+    → IsIndexOfLast edit (needs_of_string found) index
+last_of_string edit found text index is known =
+    subst (λ (one : Option (List ℕ)). IsIndexOfLast edit (needs_of_string one) index) (sym is) (record { is = known.is })
+
+pub last_of_member : (edit : Edit) (kind : MemberKind) (class_found name_found desc_found : Option (List ℕ)) (class name desc : List ℕ) (index : ℕ)
+    → class_found ≡ Some class
+    → name_found ≡ Some name
+    → desc_found ≡ Some desc
+    → IsIndex edit (needs_member kind class name desc) index
+    → IsIndexOfLast edit (needs_of_reference kind class_found name_found desc_found) index
+last_of_member edit kind class_found name_found desc_found class name desc index class_is name_is desc_is known =
+    subst (λ (one : Option (List ℕ)). IsIndexOfLast edit (needs_of_reference kind one name_found desc_found) index) (sym class_is)
+    (subst (λ (one : Option (List ℕ)). IsIndexOfLast edit (needs_of_reference kind (Some class) one desc_found) index) (sym name_is)
+    (subst (λ (one : Option (List ℕ)). IsIndexOfLast edit (needs_of_reference kind (Some class) (Some name) one) index) (sym desc_is)
+    (record { is = known.is })))
 
 -- ---- answers
 

@@ -1,4 +1,5 @@
 pub mod Growing
+pub mod Indices
 pub mod MadeCode
 pub mod Restacking
 pub mod Inner

@@ -12,8 +12,8 @@ use crate::progress::show_linking;
 use crate::reading::{Input, ReadStop};
 use crate::script::ScriptStop;
 use class_bytes::read_class;
-use class_model::NoMemory;
-use class_tree::{ClassFileList, LinkFault, Tree};
+use class_model::{NoMemory, Text};
+use class_tree::{ClassFileList, LinkFault, LinkRule, Tree};
 use explain::{
     Folders, Outlines, Side, class_counts, explain_absent, explain_hierarchy, explain_line,
     explain_links, explain_malformed, explain_no_file, explain_usage, explain_verification,
@@ -67,10 +67,6 @@ pub(crate) fn explain_reading<H: Host>(alloc: Global, host: &mut H, stop: &ReadS
     ensures printed { IsTrue H.tells → H.printed host.new ≡ H.printed host.old }
     ensures counts { (call : HostCall) → H.faults host.new call ≡ H.faults host.old call }
 {
-    show(host, lines_of_reading(alloc, stop));
-}
-
-fn lines_of_reading(alloc: Global, stop: &ReadStop) -> Result<String, NoMemory> {
     match stop {
         ReadStop::Malformed {
             name,
@@ -79,15 +75,20 @@ fn lines_of_reading(alloc: Global, stop: &ReadStop) -> Result<String, NoMemory> 
             file,
         } => {
             let bytes = file.bytes.as_slice();
-            explain_malformed(alloc, file.side, name.as_str(), bytes, *at, *rule)
+            let lines = explain_malformed(alloc, file.side, name.as_str(), bytes, *at, *rule);
+            show(host, lines);
         }
         ReadStop::Version {
             name,
             major,
             minor,
             side,
-        } => explain_version(alloc, *side, name.as_str(), *major, *minor),
-        ReadStop::Fault(_) | ReadStop::NoMemory => Err(NoMemory),
+        } => show(
+            host,
+            explain_version(alloc, *side, name.as_str(), *major, *minor),
+        ),
+        // the host has explained it, or there is no memory for lines
+        ReadStop::Fault(_) | ReadStop::NoMemory => {}
     }
 }
 
@@ -97,14 +98,13 @@ pub(crate) fn explain_script<H: Host>(alloc: Global, host: &mut H, stop: &Script
     ensures printed { IsTrue H.tells → H.printed host.new ≡ H.printed host.old }
     ensures counts { (call : HostCall) → H.faults host.new call ≡ H.faults host.old call }
 {
-    show(host, lines_of_script(alloc, stop));
-}
-
-fn lines_of_script(alloc: Global, stop: &ScriptStop) -> Result<String, NoMemory> {
     match stop {
-        ScriptStop::Absent { name } => explain_absent(alloc, name.as_str()),
-        ScriptStop::Outside { line, bytes } => explain_line(alloc, bytes.as_slice(), *line),
-        ScriptStop::Fault | ScriptStop::NoMemory => Err(NoMemory),
+        ScriptStop::Absent { name } => show(host, explain_absent(alloc, name.as_str())),
+        ScriptStop::Outside { line, bytes } => {
+            show(host, explain_line(alloc, bytes.as_slice(), *line));
+        }
+        // the host has explained it, or there is no memory for lines
+        ScriptStop::Fault | ScriptStop::NoMemory => {}
     }
 }
 
@@ -114,29 +114,24 @@ pub(crate) fn explain_listing<H: Host>(alloc: Global, host: &mut H, folder: &str
     ensures printed { IsTrue H.tells → H.printed host.new ≡ H.printed host.old }
     ensures counts { (call : HostCall) → H.faults host.new call ≡ H.faults host.old call }
 {
-    show(host, lines_of_listing(alloc, folder, stop));
-}
-
-fn lines_of_listing(alloc: Global, folder: &str, stop: &ListStop) -> Result<String, NoMemory> {
     match stop {
-        ListStop::Absent { name } => explain_no_file(alloc, folder, name.as_str()),
+        ListStop::Absent { name } => show(host, explain_no_file(alloc, folder, name.as_str())),
         ListStop::Malformed {
             name,
             at,
             rule,
             bytes,
-        } => explain_malformed(
-            alloc,
-            Side::Input,
-            name.as_str(),
-            bytes.as_slice(),
-            *at,
-            *rule,
-        ),
-        ListStop::Version { name, major, minor } => {
-            explain_version(alloc, Side::Input, name.as_str(), *major, *minor)
+        } => {
+            let bytes = bytes.as_slice();
+            let lines = explain_malformed(alloc, Side::Input, name.as_str(), bytes, *at, *rule);
+            show(host, lines);
         }
-        ListStop::Fault | ListStop::NoMemory => Err(NoMemory),
+        ListStop::Version { name, major, minor } => show(
+            host,
+            explain_version(alloc, Side::Input, name.as_str(), *major, *minor),
+        ),
+        // the host has explained it, or there is no memory for lines
+        ListStop::Fault | ListStop::NoMemory => {}
     }
 }
 
@@ -161,28 +156,38 @@ fn lines_of_linking(
     library: &Result<Outlines, NoMemory>,
     stop: &LinkStop,
 ) -> Result<String, NoMemory> {
-    let LinkFault::Unlinked {
-        class,
-        member,
-        rule,
-    } = &stop.fault
-    else {
-        return Err(NoMemory);
-    };
-    match &stop.tree {
-        Some(tree) => explain_links(alloc, tree, class, member, *rule),
-        None => {
-            let Ok(library) = library else {
-                return Err(NoMemory);
-            };
+    match &stop.fault {
+        LinkFault::Unlinked {
+            class,
+            member,
+            rule,
+        } => match &stop.tree {
+            Some(tree) => explain_links(alloc, tree, class, member, *rule),
+            None => lines_of_hierarchy(alloc, files, library, class, *rule),
+        },
+        LinkFault::NoMemory => Err(NoMemory),
+    }
+}
+
+// The lines of a rule of the hierarchy.
+fn lines_of_hierarchy(
+    alloc: Global,
+    files: &[NamedFile],
+    library: &Result<Outlines, NoMemory>,
+    class: &Text,
+    rule: LinkRule,
+) -> Result<String, NoMemory> {
+    match library {
+        Ok(library) => {
             let (input, names) = class_files(alloc, files)?;
             let folders = Folders {
                 input: input.as_slice(),
                 names: names.as_slice(),
                 library,
             };
-            explain_hierarchy(alloc, &folders, class, *rule)
+            explain_hierarchy(alloc, &folders, class, rule)
         }
+        Err(NoMemory) => Err(NoMemory),
     }
 }
 

@@ -39,9 +39,11 @@ pub mod SharedPlans
 pub mod ThrownStacks
 pub mod OwnPlans
 pub mod PlanEdges
+pub mod EdgeKinds
 pub mod TargetLists
 pub mod Rounds
 pub mod Cleaning
 pub mod DoneEdges
+pub mod AlikeEdges
 pub mod Narrows
 pub mod PlanGains

@@ -2,6 +2,7 @@ pub mod Asking
 pub mod Blocks
 pub mod Doing
 pub mod EdgeViews
+pub mod EdgeKinds
 pub mod FieldWords
 pub mod Fitting
 pub mod Fronts

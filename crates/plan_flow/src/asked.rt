@@ -154,8 +154,8 @@ fn fails_cast(tree: &Tree, flat: &Flat, slot: Slot, class: &Text) -> bool
     }
 }
 
-// Whether the objects of a site are of a class or one below it.
-fn is_site_below(tree: &Tree, flat: &Flat, site: u16, class: &Text) -> bool
+/// Whether the objects of a site are of a class or one below it, by the site's number. False, where there is no such site.
+pub fn is_site_below(tree: &Tree, flat: &Flat, site: u16, class: &Text) -> bool
     ensures { (links : Links)
         → AreLinksOf (headers_of tree.now) links
         → result ≡ is_site_below (scope_of tree.now links flat.now) site class.now }

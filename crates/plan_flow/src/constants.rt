@@ -12,15 +12,12 @@ use class_model::{Const, NoMemory, Pool, Text};
 use class_tree::Tree;
 use member_link::{Reference, descriptor_at, reference_of};
 
-/// The member that a constant of a class refers to, by the class's number, if it is one of a field or method.
+/// The member that a constant of a class refers to, by the class's number, if it is one of a field or
+/// method.
 ///
 /// # Errors
 /// `NoMemory`, where memory runs out.
-pub(crate) fn member_of(
-    tree: &Tree,
-    class: usize,
-    index: u16,
-) -> Result<Option<Reference>, NoMemory>
+pub fn member_of(tree: &Tree, class: usize, index: u16) -> Result<Option<Reference>, NoMemory>
     ensures { IfOk result (λ member. (links : Links) (flat : FlatCode)
         → member ≡ member_of (scope_of tree.now links flat) class index) }
 {
@@ -30,8 +27,8 @@ pub(crate) fn member_of(
     }
 }
 
-/// The class or array that a constant of a class names, by the class's number.
-pub(crate) fn class_named(tree: &Tree, class: usize, index: u16) -> Option<&Text>
+/// The class or array that a constant of a class names, by the class's number, if it is a Class constant. It does not allocate.
+pub fn class_named(tree: &Tree, class: usize, index: u16) -> Option<&Text>
     ensures { (links : Links) (flat : FlatCode)
         → option_copied result ≡ class_at (pool_of (scope_of tree.now links flat) class) index }
 {

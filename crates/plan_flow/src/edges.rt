@@ -277,8 +277,8 @@ fn falls_through(instr: &Instr) -> bool
     )
 }
 
-/// The target of a number, counted from 0; of a switch the default is the first.
-pub(crate) fn target(instr: &FlatInstr, number: u32) -> Option<u32>
+/// The jump target of an instruction of a number, counted from 0, if there is one; of a switch the default is the first.
+pub fn target(instr: &FlatInstr, number: u32) -> Option<u32>
     ensures { result ≡ slice_get (targets_at instr.now) number }
 {
     match instr {

@@ -1,5 +1,5 @@
 //! What an instruction leaves, edge by edge, in a state in which it asks for no object.
-ghost use Rattle.std.specs.Prelude.{◌≡◌, [], Some, IfOk, map, option_map};
+ghost use Rattle.std.specs.Prelude.{◌≡◌, [], Some, IfOk, IfSome, map, option_map};
 ghost use Rattle.std.specs.Option.{option_copied, option_map_or};
 ghost use Rattle.class_tree.specs.Headers.{headers_of};
 ghost use Rattle.flow_code.specs.FlatCode.{point_at};
@@ -7,8 +7,8 @@ ghost use Rattle.flow_code.specs.declared.point.Point.{Point};
 ghost use Rattle.member_link.specs.Machine.Links.{AreLinksOf};
 ghost use Rattle.member_link.specs.Machine.Programs.{Links};
 ghost use Rattle.plan_flow.specs.Effect.{AreEdges, IsEffect, IsStateBehind};
-ghost use Rattle.plan_flow.specs.Inner.Doing.{IsRowOf, MayBeDone};
-ghost use Rattle.plan_flow.specs.Inner.EdgeViews.{row_edge};
+ghost use Rattle.plan_flow.specs.Inner.Doing.{HaveStates, IsRowOf, MayBeDone};
+ghost use Rattle.plan_flow.specs.Inner.EdgeViews.{IsAlikeIn, row_edge};
 ghost use Rattle.plan_flow.specs.Inner.Sharing.{open_by, targets_in};
 ghost use Rattle.plan_flow.specs.Must.{IsMust};
 ghost use Rattle.plan_flow.specs.Narrow.{HasFewLocals, IsNarrow};
@@ -21,6 +21,7 @@ use crate::edges::{GuardedEdge, edge_at, open_edges};
 use crate::fronts::{locals_behind, stored_by};
 use crate::handler_targets::HandlerTargets;
 use crate::rows::Row;
+use crate::saving::is_normal;
 use crate::sources::edge_stack;
 use crate::table::row_at;
 use class_model::{Frame, LocalTypeList, NoMemory, VTypeList};
@@ -28,6 +29,7 @@ use class_tree::Tree;
 use flow_code::{Flat, FlatInstr};
 use member_link::a_tree_has_links;
 use std::alloc::Global;
+use std::collections::BTreeMap;
 use virtual_state::VState;
 
 /// The edges that control may take from a point in a state in which its instruction asks for no object, with the states behind
@@ -156,7 +158,7 @@ fn edges_by(
     Ok(edges)
 }
 
-// These edges, with the states behind them.
+// These edges, with the states behind them. Edges to handlers that lead to one point share theirs.
 fn edges_over(
     alloc: Global,
     tree: &Tree,
@@ -176,9 +178,14 @@ fn edges_over(
         (map row_edge taken.now) edges) }
 {
     let mut edges = EdgeList::new(alloc);
+    let mut caught = BTreeMap::new(alloc);
     let mut number = 0;
     while let Some(edge) = edge_at(taken, number) {
-        let behind = state_over(alloc, tree, flat, at, types, row, edge, state)?;
+        let done = edges.as_slice();
+        let behind = state_by(
+            alloc, tree, flat, at, types, row, done, &caught, edge, state,
+        )?;
+        note(&mut caught, edge, number)?;
         let made = Edge {
             to: edge.to,
             by: edge.by,
@@ -188,6 +195,76 @@ fn edges_over(
         number += 1;
     }
     Ok(edges)
+}
+
+// The state behind an edge: that behind an edge by a handler to the same point, if one is noted among these.
+fn state_by(
+    alloc: Global,
+    tree: &Tree,
+    flat: &Flat,
+    at: usize,
+    types: &Frame,
+    row: &Row,
+    done: &[Edge],
+    caught: &BTreeMap<usize, usize>,
+    edge: GuardedEdge,
+    state: &VState,
+) -> Result<VState, NoMemory>
+    requires narrow { IsNarrow flat.now }
+    requires types { HasFewLocals types.now }
+    requires done { MayBeDone tree.now flat.now at types.now row.now state.now }
+    requires edges { HaveStates tree.now flat.now at types.now row.now state.now done.now }
+    ensures { IfOk result (λ behind. (links : Links) (point : Point)
+        → IsRowOf (scope_of tree.now links flat.now) at point types.now row.now
+        → IsStateBehind (scope_of tree.now links flat.now) point at state.now (row_edge edge)
+        behind) }
+{
+    match alike(done, caught, edge) {
+        Some(other) => {
+            let same = other.state.copy()?;
+            Ok(same)
+        }
+        None => {
+            let behind = state_over(alloc, tree, flat, at, types, row, edge, state)?;
+            Ok(behind)
+        }
+    }
+}
+
+// Notes the number of an edge, if it is the first by a handler to its target.
+fn note(
+    caught: &mut BTreeMap<usize, usize>,
+    edge: GuardedEdge,
+    number: usize,
+) -> Result<(), NoMemory> {
+    if is_normal(edge.by) {
+        return Ok(());
+    }
+    if caught.get(&edge.to).is_some() {
+        return Ok(());
+    }
+    caught.insert(edge.to, number)?;
+    Ok(())
+}
+
+// The edge by a handler to the same point, if one is noted among edges and this one is by a handler.
+fn alike<'e>(
+    edges: &'e [Edge],
+    caught: &BTreeMap<usize, usize>,
+    edge: GuardedEdge,
+) -> Option<&'e Edge>
+    ensures { IfSome result (λ other. IsAlikeIn edges.now edge other.now) }
+{
+    if is_normal(edge.by) {
+        return None;
+    }
+    let number = *caught.get(&edge.to)?;
+    let other = edges.get(number)?;
+    if other.to == edge.to && !is_normal(other.by) {
+        Some(other)
+    } else {
+        None
+    }
 }
 
 // The state behind an edge.

@@ -16,11 +16,12 @@ use class_tree::{Place, Tree, a_tree_is_a_hierarchy};
 use flow_code::Flat;
 use member_link::{Found, Reference, a_look_up_finds_one_field, find_field, slot_number};
 
-/// The field that a constant of a class names, by the class's number, as the class that declares it does.
+/// The field that a constant of a class names, by the class's number, as the class that declares it does. None, where the
+/// constant names none, or look-up finds none (JVM Specification SE 8, 5.4.3.2).
 ///
 /// # Errors
 /// `NoMemory`, where memory runs out.
-pub(crate) fn field_of(tree: &Tree, class: usize, index: u16) -> Result<Option<Reference>, NoMemory>
+pub fn field_of(tree: &Tree, class: usize, index: u16) -> Result<Option<Reference>, NoMemory>
     ensures { IfOk result (λ field. (links : Links) (flat : FlatCode)
         → AreLinksOf (headers_of tree.now) links
         → field ≡ field_of (scope_of tree.now links flat) class index) }
@@ -70,7 +71,7 @@ fn declared_at(tree: &Tree, found: Found) -> Result<Reference, NoMemory>
 
 /// The number of a field among those of a site's object, or `usize::MAX` where it is as great or greater. It does not
 /// allocate, and goes up the superclasses of the site's class.
-pub(crate) fn field_number(tree: &Tree, flat: &Flat, site: u16, field: &Reference) -> Option<usize>
+pub fn field_number(tree: &Tree, flat: &Flat, site: u16, field: &Reference) -> Option<usize>
     ensures { (links : Links) → result
         ≡ capped usize.MAX (field_number (scope_of tree.now links flat.now) site field.now) }
 {

@@ -35,10 +35,17 @@ mod table;
 mod targets;
 mod work_list;
 
+pub use asked::is_site_below;
+pub use constants::{class_named, member_of};
 pub use edge::{Edge, EdgeKind, EdgeList};
+pub use edges::target;
 pub use effects::effect;
+pub use fields::{field_number, field_of};
 pub use laws::{effect_grows, flat_code_has_one_least_plan, must_grows, no_valid_plan_keeps_more};
 pub use least::least_plan;
 pub use needs::must;
 pub use plan::{Plan, PlanEdge};
+pub use rows::operand;
 pub use saving::gain;
+pub use slots::held;
+pub use table::site_at;

@@ -1,9 +1,13 @@
 //! Plans of flat code.
-ghost use Rattle.std.specs.Prelude.{◌≡◌, ◌<◌, ◌-◌, ◌^◌, ◌++◌, [], length, slice_get, option_and_then, option_map};
+ghost use Rattle.std.specs.Prelude.{◌≡◌, ◌<◌, ◌-◌, ◌^◌, ◌++◌, [], true, length, slice_get, option_and_then, option_map};
+ghost use Rattle.std.specs.List.{find};
 ghost use Rattle.std.specs.Option.{option_copied};
+ghost use Rattle.plan_flow.specs.Inner.EdgeKinds.{AreMarked, begins_with_next, first_jump};
 ghost use Rattle.plan_flow.specs.Inner.Sharing.{AreOwnOf, AreThrown, caught_made, made_in, or_no_edge};
 ghost use Rattle.plan_flow.specs.PlanEdges.{made_edge_meant};
 ghost use Rattle.plan_flow.specs.Plans.{planned};
+ghost use Rattle.plan_flow.specs.Written.Routes.{is_kind};
+ghost use Rattle.plan_flow.specs.declared.edge.EdgeKind.TheVariants as kinds;
 
 use crate::edge::EdgeKind;
 use flow_code::FlatHandlerList;
@@ -89,6 +93,18 @@ impl ThrownPlan {
             made: made_for(&self.made, &self.none, handler.to),
         })
     }
+
+    // The edge of a kind, if there is one.
+    fn by_kind(&self, by: EdgeKind) -> Option<PlanEdge<'_>>
+        ensures { option_map made_edge_meant result ≡ find (λ edge. is_kind edge.by by) self.now }
+    {
+        let _ = &self.handlers;
+        match by {
+            EdgeKind::Handler(number) => self.get(number as usize),
+            EdgeKind::Next => None,
+            EdgeKind::Jump(_) => None,
+        }
+    }
 }
 
 // A number of 32 bits.
@@ -110,15 +126,18 @@ fn made_for<'p>(made: &'p BTreeMap<usize, SiteSet>, none: &'p SiteSet, to: usize
     }
 }
 
-/// The edges of a point that is reached, those to handlers apart from the others. Contracts see all, in order.
+/// The edges of a point that is reached, those to handlers apart from the others, of which it is known whether they are counted:
+/// first the one to the next point, if there is one, and then those to targets, from target 0 on. Contracts see all, in order.
 #[derive(Drop)]
 pub(crate) struct EdgePlans {
     own: Vec<EdgePlan>,
+    counted: bool,
     thrown: Option<ThrownPlan>,
 }
 
 impl Model for EdgePlans {
     ghost use Rattle.std.specs.Prelude.{◌++◌, List};
+    ghost use Rattle.plan_flow.specs.Inner.EdgeKinds.{AreMarked};
     ghost use Rattle.plan_flow.specs.Inner.Sharing.{AreThrown, or_no_edge};
     ghost use Rattle.plan_flow.specs.Plans.{MadeEdge};
 
@@ -126,7 +145,8 @@ impl Model for EdgePlans {
 
     ghost view = { λ edges. edges.own.items ++ or_no_edge edges.thrown };
 
-    ghost invariant = { λ edges. AreThrown (or_no_edge edges.thrown) };
+    ghost invariant = { λ edges.
+        AreThrown (or_no_edge edges.thrown) × AreMarked edges.counted edges.own.items };
 }
 
 impl EdgePlans {
@@ -135,7 +155,12 @@ impl EdgePlans {
         requires { AreThrown (or_no_edge thrown) }
         ensures { result ≡ own.items ++ or_no_edge thrown }
     {
-        EdgePlans { own, thrown }
+        let counted = are_counted(own.as_slice());
+        EdgePlans {
+            own,
+            counted,
+            thrown,
+        }
     }
 
     /// The edge of a number, if there is one.
@@ -146,6 +171,16 @@ impl EdgePlans {
         match own_at(own, number) {
             Some(edge) => Some(edge),
             None => thrown_at(&self.thrown, behind(number, own.len())),
+        }
+    }
+
+    /// The edge of a kind, if there is one: by its number, unless those before it are not counted.
+    fn by_kind(&self, by: EdgeKind) -> Option<PlanEdge<'_>>
+        ensures { option_map made_edge_meant result ≡ find (λ edge. is_kind edge.by by) self.now }
+    {
+        match own_by(self.own.as_slice(), self.counted, by) {
+            Some(edge) => Some(edge),
+            None => thrown_by(&self.thrown, by),
         }
     }
 
@@ -169,6 +204,107 @@ fn own_at(edges: &[EdgePlan], number: usize) -> Option<PlanEdge<'_>>
     })
 }
 
+// The edge of a kind, if there is one, of edges of which it is known whether they are counted.
+fn own_by(edges: &[EdgePlan], counted: bool, by: EdgeKind) -> Option<PlanEdge<'_>>
+    requires { AreMarked counted edges.now }
+    ensures { option_map made_edge_meant result ≡ find (λ edge. is_kind edge.by by) edges.now }
+{
+    if counted {
+        counted_by(edges, by)
+    } else {
+        first_by(edges, by)
+    }
+}
+
+// The edge of a kind, if there is one, of edges that are counted.
+fn counted_by(edges: &[EdgePlan], by: EdgeKind) -> Option<PlanEdge<'_>>
+    requires { AreMarked true edges.now }
+    ensures { option_map made_edge_meant result ≡ find (λ edge. is_kind edge.by by) edges.now }
+{
+    let falls = begins_with_next(edges);
+    match by {
+        EdgeKind::Next => { if falls { own_at(edges, 0) } else { None } }
+        EdgeKind::Jump(number) => {
+            let at = first_jump(falls) + number as usize;
+            own_at(edges, at)
+        }
+        EdgeKind::Handler(_) => None,
+    }
+}
+
+// The first edge of a kind, if there is one.
+fn first_by(edges: &[EdgePlan], by: EdgeKind) -> Option<PlanEdge<'_>>
+    ensures { option_map made_edge_meant result ≡ find (λ edge. is_kind edge.by by) edges.now }
+{
+    let mut number = 0;
+    while let Some(edge) = own_at(edges, number) {
+        if is_kind(edge.by, by) {
+            return Some(edge);
+        }
+        number += 1;
+    }
+    None
+}
+
+// Whether edges are counted.
+fn are_counted(edges: &[EdgePlan]) -> bool
+    ensures { AreMarked result edges.now }
+{
+    let first = first_jump(begins_with_next(edges));
+    let mut at = first;
+    while let Some(edge) = own_at(edges, at) {
+        if !is_jump(edge.by, behind(at, first)) {
+            return false;
+        }
+        at += 1;
+    }
+    true
+}
+
+// Whether the first edge is the one to the next point.
+fn begins_with_next(edges: &[EdgePlan]) -> bool
+    ensures { result ≡ begins_with_next edges.now }
+{
+    match own_at(edges, 0) {
+        Some(edge) => is_kind(edge.by, EdgeKind::Next),
+        None => false,
+    }
+}
+
+// The number of the first edge to a target.
+fn first_jump(falls: bool) -> usize
+    ensures { result ≡ first_jump falls }
+{
+    if falls { 1 } else { 0 }
+}
+
+// Whether an edge leads to the target of a number.
+fn is_jump(by: EdgeKind, number: usize) -> bool
+    ensures { result ≡ is_kind by (kinds.Jump number) }
+{
+    match by {
+        EdgeKind::Jump(target) => target as usize == number,
+        EdgeKind::Next | EdgeKind::Handler(_) => false,
+    }
+}
+
+// Whether two edges are of one kind.
+fn is_kind(one: EdgeKind, other: EdgeKind) -> bool
+    ensures { result ≡ is_kind one other }
+{
+    match one {
+        EdgeKind::Next => matches!(other, EdgeKind::Next),
+        EdgeKind::Jump(number) => match other {
+            EdgeKind::Jump(also) => number == also,
+            EdgeKind::Next | EdgeKind::Handler(_) => false,
+        },
+        EdgeKind::Handler(number) => match other {
+            EdgeKind::Handler(also) => number == also,
+            EdgeKind::Next | EdgeKind::Jump(_) => false,
+        },
+    }
+}
+
 // The number of an edge behind so many others.
 fn behind(number: usize, count: usize) -> usize
     ensures { result ≡ number - count }
@@ -182,6 +318,17 @@ fn thrown_at(thrown: &Option<ThrownPlan>, number: usize) -> Option<PlanEdge<'_>>
 {
     match thrown {
         Some(plan) => plan.get(number),
+        None => None,
+    }
+}
+
+// The edge of a kind to a handler, if there is one.
+fn thrown_by(thrown: &Option<ThrownPlan>, by: EdgeKind) -> Option<PlanEdge<'_>>
+    ensures { option_map made_edge_meant result
+        ≡ find (λ edge. is_kind edge.by by) (or_no_edge thrown.now) }
+{
+    match thrown {
+        Some(plan) => plan.by_kind(by),
         None => None,
     }
 }
@@ -255,6 +402,15 @@ impl Plan {
             ≡ option_and_then (λ point. slice_get point.edges number) (planned self.now at) }
     {
         self.point(at)?.edges.get(number)
+    }
+
+    /// The edge of a kind of a point, if the point is reached and control may take such an edge there. It takes constant time.
+    pub fn edge_by(&self, at: usize, by: EdgeKind) -> Option<PlanEdge<'_>>
+        ensures { option_map made_edge_meant result
+            ≡ option_and_then (λ point. find (λ edge. is_kind edge.by by) point.edges)
+            (planned self.now at) }
+    {
+        self.point(at)?.edges.by_kind(by)
     }
 
     /// What is planned for a point, if it is reached.

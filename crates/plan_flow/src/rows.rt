@@ -118,8 +118,8 @@ impl Row {
     }
 }
 
-/// The place of a stack entry, counted from the top, which is 0.
-pub(crate) fn operand(types: &Frame, number: usize) -> usize
+/// The place of a stack entry before a point with these types, by its number counted from the top, which is 0.
+pub fn operand(types: &Frame, number: usize) -> usize
     requires { HasFewLocals types.now }
     ensures { result ≡ operand types.now number }
 {

@@ -11,8 +11,9 @@ use class_model::{Frame, ListOf, NoMemory, VType};
 use std::alloc::Global;
 use virtual_state::{Slot, SlotList, VState};
 
-/// What a place of a state holds. An unusable place is read as a plain one: no code that types reads it.
-pub(crate) fn held(state: &VState, place: usize) -> Slot
+/// What a place of a state holds: the places are the local units, counted from 0, and behind them the stack entries, the lowest
+/// first. An unusable place, or one that the state does not have, is read as a plain one: no code that types reads it.
+pub fn held(state: &VState, place: usize) -> Slot
     ensures { result ≡ held_slot state.now place }
 {
     match state.slot(place) {

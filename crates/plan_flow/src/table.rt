@@ -267,8 +267,8 @@ fn new_row(types: &Frame, site: Option<u16>) -> Row
     }
 }
 
-// The site of the new at a point, by its number.
-fn site_at(flat: &Flat, at: usize) -> Option<u16>
+/// The number of the site of the new at a point, if there is one. It goes over the sites.
+pub fn site_at(flat: &Flat, at: usize) -> Option<u16>
     requires { IsNarrow flat.now }
     ensures { result ≡ site_of_point flat.now at }
 {

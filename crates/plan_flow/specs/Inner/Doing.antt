@@ -5,11 +5,13 @@ use Rattle.class_tree.specs.Headers.{Classes}
 use Rattle.flow_code.specs.FlatCode.{FlatCode}
 use Rattle.flow_code.specs.declared.point.Point.{Point}
 use Rattle.member_link.specs.Machine.Programs.{Links}
+use Rattle.plan_flow.specs.Effect.{AreEdges}
 use Rattle.plan_flow.specs.Inner.RowViews.{plan_row}
 use Rattle.plan_flow.specs.Must.{IsMustOf, row_of_point}
-use Rattle.plan_flow.specs.PlanRows.{Change, enter_monitor}
+use Rattle.plan_flow.specs.PlanRows.{Change, RowEdge, enter_monitor}
 use Rattle.plan_flow.specs.PlanScope.{PlanScope, scope_of}
 use Rattle.plan_flow.specs.PlanSlots.{changed, held}
+use Rattle.plan_flow.specs.declared.edge.Edge.{Edge}
 use Rattle.plan_flow.specs.declared.edge.EdgeKind.{EdgeKind}
 use Rattle.plan_flow.specs.declared.edge.EdgeKind.TheVariants as kinds
 use Rattle.plan_flow.specs.declared.rows.Row.{Row}
@@ -43,3 +45,12 @@ pub record MayBeDone (classes : Classes) (flat : FlatCode) (at : ℕ) (types : F
   pub point : Point
   pub row_of : IsRowOf (scope_of classes links flat) at point types row
   pub asks_none : IsMustOf (scope_of classes links flat) at point state []
+
+-- These are edges of the row, with the states behind them.
+pub record HaveStates (classes : Classes) (flat : FlatCode) (at : ℕ) (types : Frame) (row : Row)
+    (state : State) (edges : List Edge)
+    : Type 0 where
+  pub rows : List RowEdge
+  pub each : (links : Links) (point : Point)
+      → IsRowOf (scope_of classes links flat) at point types row
+      → AreEdges (scope_of classes links flat) point at state rows edges

@@ -2,7 +2,7 @@ use Rattle.std.proofs.Common.{[], ◌∷◌, ◌++◌}
 use Rattle.making_code.specs.Constants.{needs_name_and_type, needs_text}
 use Rattle.materialise.proofs.ConstantLaws.{full_then, grows_both, index_later, on_ok, pair_means}
 use Rattle.materialise.proofs.constants.add_name_and_type.Goals as goal
-use Rattle.materialise.specs.Inner.ConstantWords.{need_of_text}
+use Rattle.materialise.specs.Indices.{need_of_text}
 
 pub returns-clause-ok : goal.returns-clause-ok
 returns-clause-ok c =

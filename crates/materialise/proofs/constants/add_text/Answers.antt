@@ -1,6 +1,6 @@
 use Rattle.materialise.proofs.ConstantLaws.{on_ok, text_means}
 use Rattle.materialise.proofs.constants.add_text.Goals as goal
-use Rattle.materialise.specs.Inner.ConstantWords.{need_of_text}
+use Rattle.materialise.specs.Indices.{need_of_text}
 
 pub returns-clause-ok : goal.returns-clause-ok
 returns-clause-ok c =

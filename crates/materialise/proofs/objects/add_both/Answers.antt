@@ -5,7 +5,7 @@ use Rattle.making_code.specs.Constants.{class_needs, constructor_needs, member_n
 use Rattle.materialise.proofs.ConstantLaws.{full_then, grows_both, index_later}
 use Rattle.materialise.proofs.objects.add_both.Goals as goal
 use Rattle.materialise.specs.Growing.{Grows, IsFull}
-use Rattle.materialise.specs.Inner.ConstantWords.{IsIndex}
+use Rattle.materialise.specs.Indices.{IsIndex}
 
 pub returns-in_err-constructor-clause-full : goal.returns-in_err-constructor-clause-full
 returns-in_err-constructor-clause-full c = λ reason is.

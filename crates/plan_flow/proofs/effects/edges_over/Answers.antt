@@ -1,4 +1,7 @@
-use Rattle.std.proofs.Common.{◌+◌, List, sym, subst, ◌∙◌, refl, arith, rules}
+use Rattle.std.proofs.Common.{◌+◌, List, map, take, sym, subst, ◌∙◌, refl, arith, rules}
+use Rattle.plan_flow.specs.Effect.{AreEdges}
+use Rattle.plan_flow.specs.Inner.EdgeViews.{row_edge}
+use Rattle.plan_flow.specs.PlanScope.{scope_of}
 use Rattle.plan_flow.specs.declared.edge.Edge.{Edge}
 use Rattle.plan_flow.proofs.DoneEdges.{EdgesDone, done_none, done_more, done_all}
 use Rattle.plan_flow.proofs.Opening.{got_inside}
@@ -8,6 +11,14 @@ pub loop-edge-init : goal.loop-edge-init
 loop-edge-init c =
     subst (λ (list : List Edge). EdgesDone c.args.tree.now c.args.flat.now c.args.at c.args.types.now c.args.row.now c.args.state.now c.args.taken.now list 0) (sym c.new-edges.ensures)
     (done_none c.args.tree.now c.args.flat.now c.args.at c.args.types.now c.args.row.now c.args.state.now c.args.taken.now)
+
+pub state_by-requires-clause-edges : goal.state_by-requires-clause-edges
+state_by-requires-clause-edges c = record {
+  rows = map row_edge (take c.loop-edge.number c.args.taken.now);
+  each = λ links point row_of.
+      subst (λ (list : List Edge). AreEdges (scope_of c.args.tree.now links c.args.flat.now) point c.args.at c.args.state.now (map row_edge (take c.loop-edge.number c.args.taken.now)) list)
+      (sym c.as_slice-done.ensures) (c.loop-edge.invariant.each links point row_of);
+}
 
 pub loop-edge-smaller : goal.loop-edge-smaller
 loop-edge-smaller c =

@@ -4,7 +4,7 @@ use Rattle.class_model.specs.declared.header.Member.{Member}
 use Rattle.class_tree.specs.Headers.{headers_of}
 use Rattle.class_tree.specs.Order.{place_of}
 use Rattle.class_tree.specs.declared.place.Place.TheVariants.{Folder}
-use Rattle.field_constructors.proofs.ConstantLaws.{on_ok}
+use Rattle.field_constructors.proofs.Outcomes.{on_ok}
 use Rattle.field_constructors.proofs.FieldTextLaws.{folder_fields, library_fields}
 use Rattle.field_constructors.proofs.field_texts.add_own.Goals as goal
 
