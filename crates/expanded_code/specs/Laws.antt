@@ -7,3 +7,6 @@ pub mod CutMethods
 pub mod Searches
 pub mod CodedMethods
 pub mod QuietInert
+pub mod RowUnits
+pub mod StatedUnits
+pub mod EntryUnits

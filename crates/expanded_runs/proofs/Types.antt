@@ -29,7 +29,6 @@ mod RowConditions
 pub mod InstrStarts
 mod SitesThere
 pub mod StandingPlaces
-pub mod RowUnits
 mod PlainPoints
 pub mod ReturnPoints
 pub mod Returns
@@ -43,7 +42,6 @@ mod HostBegins
 mod PlainCalls
 mod InitCalls
 mod InitCallees
-mod StatedUnits
 mod EachFrame
 mod TypedUnits
 mod StandingUnits

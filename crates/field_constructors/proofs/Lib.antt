@@ -1,6 +1,6 @@
+mod AnsweredLaws
 mod ConstructorLaws
 mod ConstructorTexts
 mod FieldTextLaws
 mod FreeConstructors
 mod HandledLists
-mod Outcomes

@@ -6,10 +6,10 @@ ghost use Rattle.class_tree.specs.Order.{place_of};
 ghost use Rattle.class_tree.specs.declared.place.Place.TheVariants.{Folder};
 ghost use Rattle.field_constructors.specs.Constructors.{IsConstructor, IsConstructorAt, field_descs};
 
-use crate::free::constructor;
-use crate::field_texts::field_texts;
 use crate::folder_numbers::folder_number;
+use crate::free::constructor;
 use crate::handles::handled_initialisers;
+use crate::object_fields::field_texts;
 use class_model::{NoMemory, Text, TextList};
 use class_tree::{Place, Tree, a_tree_is_a_hierarchy};
 use std::alloc::Global;
@@ -56,6 +56,13 @@ impl<'t> Constructors<'t> {
     {
         let handles = handled_initialisers(alloc, tree)?;
         Ok(Constructors { tree, handles })
+    }
+
+    /// The tree.
+    pub fn tree(&self) -> &'t Tree
+        ensures { result.now ≡ self.now }
+    {
+        self.tree
     }
 
     /// The descriptor of the field constructor of the class of this number in the folder, by the descriptors of the instance

@@ -3,10 +3,11 @@
 #![tactic(auto)]
 
 mod constructors;
-mod field_texts;
 mod folder_numbers;
 mod free;
 mod handles;
+mod object_fields;
 
 pub use constructors::Constructors;
 pub use folder_numbers::folder_number;
+pub use object_fields::field_texts;

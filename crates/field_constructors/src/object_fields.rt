@@ -11,7 +11,10 @@ use class_tree::{Place, Tree, a_tree_is_a_hierarchy, chain};
 use std::alloc::Global;
 
 /// The descriptors of the fields of an object of a class, those of the highest class first.
-pub(crate) fn field_texts(alloc: Global, tree: &Tree, class: &Text) -> Result<Vec<Text>, NoMemory>
+///
+/// # Errors
+/// `NoMemory`, where memory runs out.
+pub fn field_texts(alloc: Global, tree: &Tree, class: &Text) -> Result<Vec<Text>, NoMemory>
     requires { IsThere (headers_of tree.now) class.now }
     ensures { IfOk result (λ fields. fields.items ≡ field_descs (headers_of tree.now) class.now) }
 {

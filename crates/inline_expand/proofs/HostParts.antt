@@ -184,7 +184,7 @@ module _ (classes : Classes) (typed : FolderFrames)
   whole-body : (body : Body) → IsWhole classes typed body → IsBody body
   whole-body body is =
       let method = each body.at body.host body.frames.now is.stands in
-      record { typed = method.typed; one_each = method.one_each; steps = is.steps; units = method.units; callable = method.callable }
+      record { typed = method.typed; one_each = method.one_each; long = method.long; steps = is.steps; units = method.units; callable = method.callable }
 
   module _ (method : CodedMethod) (bodies : HostBodies) (found : IsHostExpansion classes typed method bodies) where
     abbrev its-expansion : Expansion

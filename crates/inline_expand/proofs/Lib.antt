@@ -65,3 +65,4 @@ mod TypedMethods
 mod Walking
 mod WholeParts
 mod WideParts
+mod FrameUnits

@@ -16,6 +16,7 @@ use Rattle.code_bytes.specs.Codes.{HasOperands, HasReadMethods, HasReadOperands}
 use Rattle.expanded_code.specs.Sites.{HasFrames}
 use Rattle.flow_code.specs.TypedFrames.{FolderFrames, typed_frames_at}
 use Rattle.inline_expand.proofs.CallUnits.{is_callable}
+use Rattle.inline_expand.proofs.FrameUnits.{have_its_units}
 use Rattle.inline_expand.proofs.HostCodes.{read-units}
 use Rattle.member_link.specs.Laws.Scopes.{scope_is_at}
 use Rattle.inline_expand.specs.Inner.TypedMethods.{GoesWithin, IsTypedMethod}
@@ -59,13 +60,15 @@ typed-method classes typed laws at s frames has =
     let parts = scope_is_at classes at s has.is_scope in
     let types : Typed s frames =
     subst (λ (found : Option (List Frame)). TypesMethod (Some s) found) has.are_frames (subst (λ (found : Option Scope). TypesMethod found (typed_frames_at typed at)) has.is_scope (laws.types at)) in
+    let callable = is_callable classes laws.files laws.methods at s has.is_scope in
     let operands = laws.operands (class_bytes s.class) s.class (at_index IsClassFile classes.folder at.class s.class laws.files parts.of_folder) in
     record {
       typed = types;
+      long = have_its_units s callable frames types;
       one_each = laws.count (body_of s) frames types ∙ length-map (instructions s) (point_of s);
       order = laws.in_order s;
       goes = all-within s frames (laws.states s) (instructions s) (laws.edges (body_of s) frames (laws.in_order s) (laws.states s) types);
       units =
           read-units s (at_index (λ (m : Method). AllByRecursion (HasOperands s.class.pool s.class.major) m.attrs) s.class.methods at.method s.method operands parts.of_class) parts.has_code;
-      callable = is_callable classes laws.files laws.methods at s has.is_scope;
+      callable = callable;
     }

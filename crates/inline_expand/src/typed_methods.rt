@@ -15,8 +15,8 @@ use type_rules::{
     a_typed_method_types_each_instruction,
 };
 
-/// A law: frames type each method with code, its instructions name instructions and local units that it has, and these units
-/// hold its arguments.
+/// A law: frames type each method with code, each with as many local units as the code, its instructions name instructions and
+/// local units that it has, and these units hold its arguments.
 pub(crate) fn each_method_is_typed(tree: &Tree, typed: &KnownFrames<'_>)
     requires { TypesFolder tree.now typed.now }
     ensures { (at : MethodAt) (s : Scope) (frames : List Frame)

@@ -39,7 +39,7 @@ use Rattle.expanded_runs.proofs.Types.FlatParts.{IsOwn, own_remains, own_site}
 use Rattle.expanded_runs.proofs.Types.FlatPlaces.{ThisIs, host_this, no_this_there, site_this}
 use Rattle.expanded_runs.proofs.Types.FrameFacts.{FrameFacts, frame_fits}
 use Rattle.expanded_runs.proofs.Types.OwnPoints.{TypingLaws, edges_at, falls_set, flows_to, next_at, next_is, one_frame, own_headers, own_point, row_at, scope_headers, targets_set}
-use Rattle.expanded_runs.proofs.Types.RowUnits.{row_keeps_units}
+use Rattle.expanded_code.specs.Laws.RowUnits.{row_keeps_units}
 use Rattle.expanded_runs.proofs.Types.StandingPlaces.{start_number}
 use Rattle.expanded_runs.proofs.Types.StandingRows.{row_conditions}
 use Rattle.expanded_runs.proofs.Types.ThisWithin.{NoThisStanding}

@@ -17,7 +17,7 @@ use Rattle.expanded_runs.proofs.Runs.Standings.{IsStanding, Stands, callee_stand
 use Rattle.expanded_runs.proofs.Types.FlatPlaces.{HasUnits}
 use Rattle.expanded_runs.proofs.Types.FrameFacts.{FrameFacts, HasRoom, frame_fits, has_room}
 use Rattle.expanded_runs.proofs.Types.OwnPoints.{TypingLaws, typed_method}
-use Rattle.expanded_runs.proofs.Types.RowUnits.{ArePaired, NarrowBefore, narrow_end}
+use Rattle.expanded_code.specs.Laws.RowUnits.{ArePaired, NarrowBefore, narrow_end}
 use Rattle.expanded_runs.proofs.Types.TypedUnits.{typed_units}
 use Rattle.expanded_runs.proofs.Types.Units.{Where, get_inside, get_outside, inside, outside, where_is}
 use Rattle.flow_code.specs.TypedFrames.{FolderFrames}

@@ -5,8 +5,8 @@ use Rattle.class_model.specs.declared.frame.Frame.{Frame}
 use Rattle.class_model.specs.declared.instr.Placed.{Placed}
 use Rattle.expanded_runs.proofs.Types.EachFrame.{each_frame, framed_is}
 use Rattle.expanded_runs.proofs.Types.OwnPoints.{IsTyped}
-use Rattle.expanded_runs.proofs.Types.RowUnits.{ArePaired, filled_paired, row_keeps_units}
-use Rattle.expanded_runs.proofs.Types.StatedUnits.{stated_units}
+use Rattle.expanded_code.specs.Laws.RowUnits.{ArePaired, filled_paired, row_keeps_units}
+use Rattle.expanded_code.specs.Laws.StatedUnits.{stated_units}
 use Rattle.member_link.specs.Bodies.{falls_through, flows_on}
 use Rattle.member_link.specs.BodyTyping.{RowHolds}
 use Rattle.member_link.specs.Rows.Table.{row_of}

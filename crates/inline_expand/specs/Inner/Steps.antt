@@ -1,6 +1,7 @@
 -- Words of the tree of callees, as it is kept: bodies in one list, each behind those of its callees.
-use Rattle.std.specs.Prelude.{◌≡◌, ◌≤◌, List, [], ◌∷◌, ◌++◌, length, slice_get, Option, Some, None}
+use Rattle.std.specs.Prelude.{◌≡◌, ◌≤◌, ℕ, List, [], ◌∷◌, ◌++◌, length, slice_get, Option, Some, None}
 use Rattle.class_model.specs.Methods.{units_at_call}
+use Rattle.class_model.specs.declared.frame.Frame.{Frame}
 use Rattle.code_bytes.specs.Codes.{IsReadMethod}
 use Rattle.expanded_code.specs.Expansions.{Coded, Expansion, no_more, replaced, site, stays}
 use Rattle.inline_expand.specs.Inner.Hosts.{HasUnits}
@@ -54,10 +55,19 @@ pub record IsCallable (s : Scope) : Type 0 where
   pub read : IsReadMethod s.class.pool s.method
   pub fits : units_at_call s.method.flags (own_descriptor s) ≤ s.part.max_locals
 
--- Frames type its code, one for each instruction; it has a step for each instruction; its instructions name local units that it has; and it may be called.
+-- each frame has the local units of the method's code
+abbrev pub HaveItsUnits : Scope → List Frame → Type 0
+HaveItsUnits s frames =
+    (number : ℕ) (frame : Frame)
+    → slice_get frames number ≡ Some frame
+    → length frame.locals ≡ s.part.max_locals
+
+-- Frames type its code, one for each instruction, with its local units; it has a step for each instruction; its instructions name local units that it
+-- has; and it may be called.
 pub record IsBody (body : Body) : Type 0 where
   pub typed : Typed body.host body.frames.now
   pub one_each : length body.frames.now ≡ length (instructions body.host)
+  pub long : HaveItsUnits body.host body.frames.now
   pub steps : length body.steps ≡ length (instructions body.host)
   pub units : HasUnits body.host
   pub callable : IsCallable body.host

@@ -1,5 +1,5 @@
 //! Frames of methods in their places.
-ghost use Rattle.std.specs.Prelude.{◌≡◌, ◌≤◌, ◌+◌, ◌++◌, length, map, take, slice_set, IfOk, OnOk};
+ghost use Rattle.std.specs.Prelude.{◌≡◌, ◌≤◌, ◌<◌, ◌+◌, ◌-◌, ◌^◌, ◌++◌, length, map, take, slice_set, IfOk, OnOk};
 ghost use Rattle.class_model.specs.Frames.{is_wide};
 ghost use Rattle.class_model.specs.declared.frame.VType.{VType};
 ghost use Rattle.expanded_code.specs.Expanded.{Argument, frame_stored, overlaid, set_frame, set_type};
@@ -20,6 +20,7 @@ pub(crate) fn set_frame(
     setting: &Setting<'_, '_>,
     frame: &Frame,
 ) -> Result<Frame, NoMemory>
+    requires { setting.now.unit + length frame.now.locals ≤ 65535 }
     ensures { IfOk result (λ set. set ≡ set_frame (setting_of setting.now) frame.now) }
 {
     Ok(Frame {
@@ -34,6 +35,7 @@ fn set_locals(
     setting: &Setting<'_, '_>,
     own: &LocalTypeList,
 ) -> Result<LocalTypeList, NoMemory>
+    requires { setting.now.unit + length own.now ≤ 65535 }
     ensures { IfOk result (λ list. list ≡ overlaid setting.now.unit
         (map (set_type (setting_of setting.now)) own.now) setting.now.below.locals) }
 {
@@ -67,6 +69,7 @@ fn written_units(own: &LocalTypeList, below: &LocalTypeList, unit: usize) -> usi
 
 // Gives a unit behind another a type, or appends one where there is none.
 fn put(list: &mut LocalTypeList, unit: usize, at: usize, type_: VType) -> Result<(), NoMemory>
+    requires { unit + at < 2 ^ 64 - 1 }
     ensures { OnOk result (list.new ≡ put_at list.old (unit + at) type_) }
 {
     if at < list.len().saturating_sub(unit) {

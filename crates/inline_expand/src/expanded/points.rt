@@ -114,7 +114,8 @@ fn push_own(
     placed: &Placed,
     frame: &Frame,
 ) -> Result<(), NoMemory>
-    requires { CanStay setting.now placed.now }
+    requires stays { CanStay setting.now placed.now }
+    requires long { length frame.now.locals ≡ setting.now.body.now.host.part.max_locals }
     ensures { OnOk result (IsSpot (setting_of setting.now) placed.now.at spot.entry
         → points.new.items
         ≡ points.old.items ++ instr_points (setting_of setting.now) placed.now frame.now) }

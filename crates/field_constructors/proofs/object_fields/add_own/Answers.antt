@@ -4,9 +4,10 @@ use Rattle.class_model.specs.declared.header.Member.{Member}
 use Rattle.class_tree.specs.Headers.{headers_of}
 use Rattle.class_tree.specs.Order.{place_of}
 use Rattle.class_tree.specs.declared.place.Place.TheVariants.{Folder}
-use Rattle.field_constructors.proofs.Outcomes.{on_ok}
-use Rattle.field_constructors.proofs.FieldTextLaws.{folder_fields, library_fields}
-use Rattle.field_constructors.proofs.field_texts.add_own.Goals as goal
+use Rattle.field_constructors.proofs.AnsweredLaws.{on_ok}
+use Rattle.field_constructors.proofs.FieldTextLaws.{library_fields}
+use Rattle.field_constructors.specs.Laws.OwnFields.{folder_fields}
+use Rattle.field_constructors.proofs.object_fields.add_own.Goals as goal
 
 pub returns-in_default : goal.returns-in_default
 returns-in_default c =

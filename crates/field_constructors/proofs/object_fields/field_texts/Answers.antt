@@ -1,7 +1,7 @@
 use Rattle.std.proofs.Common.{◌≡◌, ℕ, List, [], take, sym, ap, ◌∙◌, arith}
 use Rattle.class_tree.specs.Headers.{Name, headers_of}
 use Rattle.field_constructors.proofs.FieldTextLaws.{chain_superclasses, descends_all, descs_down}
-use Rattle.field_constructors.proofs.field_texts.field_texts.Goals as goal
+use Rattle.field_constructors.proofs.object_fields.field_texts.Goals as goal
 
 pub returns : goal.returns
 returns c =

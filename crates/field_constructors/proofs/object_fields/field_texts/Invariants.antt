@@ -1,7 +1,7 @@
 use Rattle.std.proofs.Common.{◌≤◌, length, take}
 use Rattle.class_tree.specs.Headers.{headers_of}
 use Rattle.field_constructors.proofs.FieldTextLaws.{Descends, descs_down}
-use Rattle.field_constructors.proofs.field_texts.field_texts.Given as goal
+use Rattle.field_constructors.proofs.object_fields.field_texts.Given as goal
 
 abbrev pub invariant-loop-left : goal.invariant-loop-left
 invariant-loop-left l =

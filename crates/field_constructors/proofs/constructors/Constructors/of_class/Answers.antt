@@ -4,7 +4,7 @@ use Rattle.class_model.specs.declared.header.Header.{Header}
 use Rattle.class_tree.specs.Headers.{Classes, Name, headers_of}
 use Rattle.class_tree.specs.Order.{place_of}
 use Rattle.class_tree.specs.declared.place.Place.TheVariants.{Folder}
-use Rattle.field_constructors.proofs.Outcomes.{if_ok}
+use Rattle.field_constructors.proofs.AnsweredLaws.{if_ok}
 use Rattle.field_constructors.proofs.constructors.Constructors.of_class.Goals as goal
 use Rattle.field_constructors.specs.Constructors.{IsConstructor, field_descs}
 

@@ -8,6 +8,9 @@ use Rattle.inline_expand.proofs.expanded.frames.set_locals.Goals as goal
 use Rattle.inline_expand.specs.Inner.Frames.{put_at}
 use Rattle.inline_expand.specs.Inner.Settings.{setting_of}
 
+pub put-requires : goal.put-requires
+put-requires c = omega (arith, c.requires, c.loop-at-test.true, c.written_units-at-end.ensures.few, c.from-unit.ensures)
+
 pub loop-at-preserved : goal.loop-at-preserved
 loop-at-preserved c =
     let s = c.args.setting.now in

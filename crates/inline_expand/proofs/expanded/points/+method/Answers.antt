@@ -27,6 +27,28 @@ push_callee-returns t c =
 pub push_method-find-requires : goal.push_method-find-requires
 push_method-find-requires t c = length-layouts c.args.bodies.now c.args.layouts.now c.requires.ready.laid
 
+pub push_method-set_frame-requires : goal.push_method-set_frame-requires
+push_method-set_frame-requires t c =
+    let body = c.args.setting.now.body.now in
+    let instrs = c.instrs-instrs.result.now in
+    let at = c.loop-number.number in
+    let frame = c.index-frames-number.result in
+    let all-instrs = ap (λ (all : List Placed). length all) c.instrs-instrs.ensures in
+    let all-frames : length instrs ≡ length body.frames.now = omega (arith, all-instrs, c.requires.place.body.one_each) in
+    let frame-is = slice_get_read body.frames.now (length instrs) at frame all-frames (omega (arith, c.loop-number-test.true)) c.index-frames-number.is in
+    omega (arith, c.requires.place.body.long at frame frame-is, c.requires.place.units)
+
+pub push_method-push_own-requires-clause-long : goal.push_method-push_own-requires-clause-long
+push_method-push_own-requires-clause-long t c =
+    let body = c.args.setting.now.body.now in
+    let instrs = c.instrs-instrs.result.now in
+    let at = c.loop-number.number in
+    let frame = c.index-frames-number.result in
+    let all-instrs = ap (λ (all : List Placed). length all) c.instrs-instrs.ensures in
+    let all-frames : length instrs ≡ length body.frames.now = omega (arith, all-instrs, c.requires.place.body.one_each) in
+    let frame-is = slice_get_read body.frames.now (length instrs) at frame all-frames (omega (arith, c.loop-number-test.true)) c.index-frames-number.is in
+    c.requires.place.body.long at frame frame-is
+
 pub push_method-push_callee-requires : goal.push_method-push_callee-requires
 push_method-push_callee-requires t c =
     let s = c.args.setting.now in

@@ -1,10 +1,13 @@
-use Rattle.std.proofs.Common.{◌++◌, List, sym, ap, ◌∙◌}
+use Rattle.std.proofs.Common.{◌++◌, List, sym, ap, ◌∙◌, arith}
 use Rattle.std.proofs.lemmas.Result.{on_ok_weaker}
 use Rattle.class_model.specs.declared.frame.Frame.{Frame}
 use Rattle.flow_code.specs.declared.point.Point.{Point}
 use Rattle.inline_expand.proofs.MethodParts.{own-host}
 use Rattle.inline_expand.proofs.expanded.points.push_own.Goals as goal
 use Rattle.inline_expand.specs.Inner.Settings.{own_point, setting_of}
+
+pub set_frame-requires : goal.set_frame-requires
+set_frame-requires c = omega (arith, c.requires.stays.units, c.requires.long)
 
 pub returns-in-None : goal.returns-in-None
 returns-in-None c =

@@ -1,4 +1,4 @@
--- What follows for an answer that is Ok.
+-- What a clause says of an answer, where one thing follows from another.
 use Rattle.std.proofs.Common.{Result, Ok, Err, IfOk, OnOk}
 
 pub on_ok : {A E P Q : Type 0} (result : Result A E) → (P → Q) → OnOk result P → OnOk result Q

@@ -20,7 +20,7 @@ use Rattle.class_model.specs.declared.frame.Frame.{Frame}
 use Rattle.class_model.specs.declared.frame.PlacedFrame.{PlacedFrame}
 use Rattle.class_model.specs.declared.frame.VType.{VType}
 use Rattle.class_model.specs.declared.instr.Placed.{Placed}
-use Rattle.expanded_runs.proofs.Types.RowUnits.{ArePaired, filled_long, filled_paired}
+use Rattle.expanded_code.specs.Laws.RowUnits.{ArePaired, filled_long, filled_paired}
 
 -- locals of so many units, in pairs
 pub record HasUnitsOf (max_locals : ℕ) (locals : List VType) : Type 0 where
