@@ -34,11 +34,11 @@ use machine_step::{Acted, World, WorldState};
 use machine_values::Action;
 use std::alloc::Global;
 
-/// Takes an action of the library, whose frame is on top.
+/// Takes an action of the library, whose frame is on top, in a world that is not spent.
 ///
 /// # Errors
 ///
-/// `NoMemory` where memory runs out, and on a world that is spent; the world is then spent.
+/// `NoMemory` where memory runs out; the world is then spent.
 pub fn act(
     alloc: Global,
     tree: &Tree,
@@ -47,21 +47,21 @@ pub fn act(
 ) -> Result<Acted, NoMemory>
     requires few { world.old.world.steps < 2 ^ 64 - 1 }
     requires turn { is_library_turn world.old.world.frames ≡ true }
+    requires unspent { world.old.spent ≡ false }
     ensures acted { IfOk result (λ acted. (P : Program) → IsProgram tree.now P
         → ended (halt_behind acted) world.new.world ≡ act P action.now world.old.world) }
-    ensures unspent { OnOk result (world.old.spent ≡ false) }
-    ensures unspent_behind { OnOk result (world.new.spent ≡ false) }
+    ensures unspent { OnOk result (world.new.spent ≡ false) }
     ensures spent { OnErr result (world.new.spent ≡ true) }
 {
     let mut prepared = Prepared::new(alloc, tree);
     act_with(alloc, &mut prepared, world, action)
 }
 
-/// Takes an action with the methods that are prepared so far.
+/// Takes an action with the methods that are prepared so far, in a world that is not spent.
 ///
 /// # Errors
 ///
-/// `NoMemory` where memory runs out, and on a world that is spent; the world is then spent.
+/// `NoMemory` where memory runs out; the world is then spent.
 pub(crate) fn act_with(
     alloc: Global,
     prepared: &mut Prepared<'_>,
@@ -70,16 +70,13 @@ pub(crate) fn act_with(
 ) -> Result<Acted, NoMemory>
     requires few { world.old.world.steps < 2 ^ 64 - 1 }
     requires turn { is_library_turn world.old.world.frames ≡ true }
+    requires unspent { world.old.spent ≡ false }
     ensures same { prepared.new ≡ prepared.old }
     ensures acted { IfOk result (λ acted. (P : Program) → IsProgram prepared.old P
         → ended (halt_behind acted) world.new.world ≡ act P action.now world.old.world) }
-    ensures unspent { OnOk result (world.old.spent ≡ false) }
-    ensures unspent_behind { OnOk result (world.new.spent ≡ false) }
+    ensures unspent { OnOk result (world.new.spent ≡ false) }
     ensures spent { OnErr result (world.new.spent ≡ true) }
 {
-    if world.spent {
-        return Err(NoMemory);
-    }
     match act_on(alloc, prepared, &mut world.state, action) {
         Ok(acted) => Ok(acted),
         Err(NoMemory) => {

@@ -113,11 +113,13 @@ fn take_some(
     requires some { 0 < left }
     requires few { world.old.world.steps + left ≤ 2 ^ 64 - 1 }
     requires used { used.old ≤ length actions.now }
+    requires unspent { world.old.spent ≡ false }
     ensures same { prepared.new ≡ prepared.old }
     ensures turned { IfOk result (λ turned. (P : Program) → IsProgram prepared.old P
         → IsTurned P actions.now turned.count world.old.world used.old world.new.world used.new
         turned.end) }
     ensures used { OnOk result (used.new ≤ length actions.now) }
+    ensures unspent { OnOk result (world.new.spent ≡ false) }
     ensures some { IfOk result (λ turned. 0 < turned.count) }
     ensures few { IfOk result (λ turned. turned.count ≤ left) }
 {
@@ -144,10 +146,12 @@ fn take_next(
     requires few { world.old.world.steps < 2 ^ 64 - 1 }
     requires turn { is_library_turn world.old.world.frames ≡ true }
     requires used { used.old ≤ length actions.now }
+    requires unspent { world.old.spent ≡ false }
     ensures same { prepared.new ≡ prepared.old }
     ensures turned { IfOk result (λ end. (P : Program) → IsProgram prepared.old P
         → IsTurned P actions.now 1 world.old.world used.old world.new.world used.new end) }
     ensures used { OnOk result (used.new ≤ length actions.now) }
+    ensures unspent { OnOk result (world.new.spent ≡ false) }
 {
     a_world_goes_on(world);
     let items = actions.as_slice();

@@ -46,25 +46,22 @@ pub(crate) enum Operated {
     Works(Box<Completed>, usize),
 }
 
-/// One step of a run of a tree's folder: an instruction of the top frame, or one step of the beginning of a class. At the library's turn
-/// nothing is done.
+/// One step of a run of a tree's folder, in a world that is not spent: an instruction of the top frame, or one step of the beginning of a
+/// class. At the library's turn nothing is done.
 ///
 /// # Errors
 ///
-/// `NoMemory` where memory runs out, and on a world that is spent; the world is then spent.
+/// `NoMemory` where memory runs out; the world is then spent.
 pub fn step(alloc: Global, tree: &Tree, world: &mut World) -> Result<Outcome, NoMemory>
-    requires { world.old.world.steps < 2 ^ 64 - 1 }
+    requires few { world.old.world.steps < 2 ^ 64 - 1 }
+    requires unspent { world.old.spent ≡ false }
     ensures stepped { IfOk result (λ outcome. (P : Program) → IsProgram tree.now P
         → ended (halt_of outcome) world.new.world ≡ step P world.old.world) }
     ensures turn { IfOk result (λ outcome.
         (outcome ≡ Outcome.LibraryTurn) ↔ (is_library_turn world.old.world.frames ≡ true)) }
-    ensures unspent { OnOk result (world.old.spent ≡ false) }
-    ensures unspent_behind { OnOk result (world.new.spent ≡ false) }
+    ensures unspent { OnOk result (world.new.spent ≡ false) }
     ensures spent { OnErr result (world.new.spent ≡ true) }
 {
-    if world.spent {
-        return Err(NoMemory);
-    }
     a_world_goes_on(world);
     if is_library_turn(&world.state.frames) {
         return Ok(Outcome::LibraryTurn);
@@ -85,12 +82,12 @@ pub(crate) struct Stepped {
     pub(crate) outcome: Outcome,
 }
 
-/// Makes one step or more, so many at most, with the methods that are prepared so far: operations of the top frame, up to one that
-/// calls, returns, throws, begins a class or asks the library.
+/// Makes one step or more, so many at most, with the methods that are prepared so far, in a world that is not spent: operations of the top
+/// frame, up to one that calls, returns, throws, begins a class or asks the library.
 ///
 /// # Errors
 ///
-/// `NoMemory` where memory runs out, and on a world that is spent; the world is then spent.
+/// `NoMemory` where memory runs out; the world is then spent.
 pub(crate) fn steps_with(
     alloc: Global,
     prepared: &mut Prepared<'_>,
@@ -100,19 +97,16 @@ pub(crate) fn steps_with(
     requires some { 0 < left }
     requires few { world.old.world.steps + left ≤ 2 ^ 64 - 1 }
     requires turn { is_library_turn world.old.world.frames ≡ false }
+    requires unspent { world.old.spent ≡ false }
     ensures same { prepared.new ≡ prepared.old }
     ensures stepped { IfOk result (λ stepped. (P : Program) → IsProgram prepared.old P
         → Leads P stepped.count world.old.world (ended (halt_of stepped.outcome) world.new.world)) }
     ensures some { IfOk result (λ stepped. 0 < stepped.count) }
     ensures few { IfOk result (λ stepped. stepped.count ≤ left) }
     ensures runs { IfOk result (λ stepped. Steps stepped.outcome) }
-    ensures unspent { OnOk result (world.old.spent ≡ false) }
-    ensures unspent_behind { OnOk result (world.new.spent ≡ false) }
+    ensures unspent { OnOk result (world.new.spent ≡ false) }
     ensures spent { OnErr result (world.new.spent ≡ true) }
 {
-    if world.spent {
-        return Err(NoMemory);
-    }
     match step_state(alloc, prepared, &mut world.state, left) {
         Ok(stepped) => Ok(stepped),
         Err(NoMemory) => {

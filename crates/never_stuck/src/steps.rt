@@ -22,25 +22,26 @@ use type_rules::TypedFolder;
 use typed_programs::a_verified_folder_is_a_typed_program;
 use typed_runs::{a_step_stays_typed, an_action_stays_typed};
 
-/// One step of a run of a tree's folder, as `machine_run::step` makes it. A typed world stays typed, by whatever typing of the program, and
-/// from one the outcome is not `Stuck`. Where the frames `typed` type the folder and it has a class, they are those of such a typing.
+/// One step of a run of a tree's folder, as `machine_run::step` makes it, in a world that is not spent. A typed world stays typed, by whatever
+/// typing of the program, and from one the outcome is not `Stuck`. Where the frames `typed` type the folder and it has a class, they are those
+/// of such a typing.
 ///
 /// # Errors
 ///
-/// `NoMemory` where memory runs out, and on a world that is spent; the world is then spent.
+/// `NoMemory` where memory runs out; the world is then spent.
 pub fn stays_typed(
     alloc: Global,
     tree: &Tree,
     _typed: &TypedFolder,
     world: &mut World,
 ) -> Result<Outcome, NoMemory>
-    requires { world.old.world.steps < 2 ^ 64 - 1 }
+    requires few { world.old.world.steps < 2 ^ 64 - 1 }
+    requires unspent { world.old.spent ≡ false }
     ensures stepped { IfOk result (λ outcome. (P : Program) → IsProgram tree.now P
         → ended (halt_of outcome) world.new.world ≡ step P world.old.world) }
     ensures turn { IfOk result (λ outcome.
         (outcome ≡ Outcome.LibraryTurn) ↔ (is_library_turn world.old.world.frames ≡ true)) }
-    ensures unspent { OnOk result (world.old.spent ≡ false) }
-    ensures unspent_behind { OnOk result (world.new.spent ≡ false) }
+    ensures unspent { OnOk result (world.new.spent ≡ false) }
     ensures spent { OnErr result (world.new.spent ≡ true) }
     ensures typed { OnOk result ((P : Program) (T : Typings) → IsProgram tree.now P
         → TypedWorld P T world.old.world
@@ -62,13 +63,13 @@ pub fn stays_typed(
     step(alloc, tree, world)
 }
 
-/// Takes an action of the library, whose frame is on top, as `machine_run::act` does. A typed world stays typed, by whatever typing of the
-/// program, and from one the answer is not `Stuck`. Where the frames `typed` type the folder and it has a class, they are those of such a
-/// typing.
+/// Takes an action of the library, whose frame is on top, as `machine_run::act` does, in a world that is not spent. A typed world stays typed,
+/// by whatever typing of the program, and from one the answer is not `Stuck`. Where the frames `typed` type the folder and it has a class, they
+/// are those of such a typing.
 ///
 /// # Errors
 ///
-/// `NoMemory` where memory runs out, and on a world that is spent; the world is then spent.
+/// `NoMemory` where memory runs out; the world is then spent.
 pub fn acts_typed(
     alloc: Global,
     tree: &Tree,
@@ -78,10 +79,10 @@ pub fn acts_typed(
 ) -> Result<Acted, NoMemory>
     requires few { world.old.world.steps < 2 ^ 64 - 1 }
     requires turn { is_library_turn world.old.world.frames ≡ true }
+    requires unspent { world.old.spent ≡ false }
     ensures acted { IfOk result (λ acted. (P : Program) → IsProgram tree.now P
         → ended (halt_behind acted) world.new.world ≡ act P action.now world.old.world) }
-    ensures unspent { OnOk result (world.old.spent ≡ false) }
-    ensures unspent_behind { OnOk result (world.new.spent ≡ false) }
+    ensures unspent { OnOk result (world.new.spent ≡ false) }
     ensures spent { OnErr result (world.new.spent ≡ true) }
     ensures typed { OnOk result ((P : Program) (T : Typings) → IsProgram tree.now P
         → TypedWorld P T world.old.world

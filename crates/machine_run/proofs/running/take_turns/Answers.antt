@@ -39,6 +39,7 @@ loop-done-preserved c = record {
   same = c.in_ok-turned.ensures.same ∙ c.loop-done.invariant.same;
   few = c.in_ok-turned.ensures.used;
   within = omega (arith, c.loop-done-test.true, c.in_ok-turned.ensures.few);
+  unspent = c.in_ok-turned.ensures.unspent;
   turned = λ P is.
       let program : IsProgram c.loop-done.prepared P = subst (λ (classes : Classes). IsProgram classes P) c.in_ok-turned.ensures.same is in
       let actions = c.args.actions.now in

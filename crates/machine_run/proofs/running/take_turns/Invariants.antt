@@ -1,5 +1,5 @@
 -- How far the run is.
-use Rattle.std.proofs.Common.{◌≡◌, ◌≤◌, ◌-◌, length}
+use Rattle.std.proofs.Common.{◌≡◌, ◌≤◌, ◌-◌, length, false}
 use Rattle.member_link.specs.Machine.Programs.{Program}
 use Rattle.member_link.specs.Machine.Runs.{begins_with, turns}
 use Rattle.member_link.specs.TreePrograms.{IsProgram}
@@ -11,6 +11,7 @@ invariant-loop-done l = record {
   same : l.prepared ≡ l.fn.prepared;
   few : l.used ≤ length l.actions;
   within : l.done ≤ l.steps;
+  unspent : l.world.spent ≡ false;
   turned : (P : Program) → IsProgram l.prepared P
       → turns P l.done (begins_with l.actions) ≡ run_at l.world.world l.actions l.used;
 }
