@@ -51,7 +51,8 @@ module _ (s : Scope) where
         let point = point_of s placed in
         let rows = row_checks (row_scope s) frame (point_row point frame) in
         let targets = target_checks (body_of s) (frame_behind point frame) (item_targets point.item) in
-        first_holds rows targets (others_hold (handler_checks (body_of s) frame point.catches) (rows ++ targets) typed.holds.1)
+        let handlers = handler_checks (body_of s) frame point.catches in
+        others_hold handlers rows (first_holds (handlers ++ rows) targets typed.holds.1)
 
     behind_long : IsLong frame → (after : Frame) → flows_on (point_of s placed) frame ≡ Some after → IsLong after
     behind_long long after is =
