@@ -2,3 +2,4 @@ pub mod WrittenBlocks
 pub mod WrittenPads
 pub mod RoutedPlans
 pub mod OneRouting
+pub mod EdgesByKind

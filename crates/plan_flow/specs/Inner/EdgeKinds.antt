@@ -1,5 +1,5 @@
 -- Edges of plans that do not lead to handlers, by their kinds.
-use Rattle.std.specs.Prelude.{◌≡◌, ◌<◌, ◌+◌, ℕ, Bool, true, false, List, [], ◌∷◌, length, slice_get, Some, None, Option, IsTrue, if◌then◌else◌}
+use Rattle.std.specs.Prelude.{◌≡◌, ◌+◌, ℕ, Bool, false, List, [], ◌∷◌, slice_get, Some, IsTrue, if◌then◌else◌}
 use Rattle.plan_flow.specs.Plans.{MadeEdge}
 use Rattle.plan_flow.specs.Written.Routes.{is_kind}
 use Rattle.plan_flow.specs.declared.edge.EdgeKind.TheVariants as kinds

@@ -1,4 +1,4 @@
-use Rattle.std.proofs.Common.{◌≡◌, Some, None, slice_get, option_map, sym, ap, ◌∙◌, arith, rules}
+use Rattle.std.proofs.Common.{option_map, sym, ap, ◌∙◌, arith, rules}
 use Rattle.plan_flow.specs.PlanEdges.{made_edge_meant}
 use Rattle.plan_flow.proofs.EdgeKinds.{found_here, found_next, found_none}
 use Rattle.plan_flow.proofs.Opening.{got_inside}
