@@ -1,4 +1,5 @@
 pub mod PlacedFrames
 pub mod FrameConstants
 pub mod FramesAttribute
+pub mod Inner
 pub mod Laws

@@ -1,3 +1,9 @@
-//! The frames that written code states: which stand at which offsets, the constants that they need, and the attribute that they are. There is no
-//! code here so far.
+//! The frames that written code states: which stand at which offsets, the constants that they need, and the attribute that they are.
 #![tactic(auto)]
+
+mod attribute;
+mod classes;
+mod noting;
+mod placing;
+
+pub use attribute::frames_attribute;

@@ -1,0 +1,3 @@
+-- Words for private functions and the steps of the code: no public contract cites them.
+pub mod ClassIndices
+pub mod PlacedUnits

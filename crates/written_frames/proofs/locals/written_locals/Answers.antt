@@ -1,0 +1,24 @@
+use Rattle.std.proofs.Common.{◌≡◌, ◌+◌, ◌≤◌, ◌++◌, ◌∙◌, ℕ, List, ap, arith, length}
+use Rattle.flow_code.specs.declared.point.Site.{Site}
+use Rattle.making_code.specs.StateFrames.{local_types_from, site_types_from}
+use Rattle.written_frames.proofs.FieldUnits.{behind_fits, whole_locals}
+use Rattle.written_frames.proofs.locals.written_locals.Goals as goal
+
+pub overflow_add-len : goal.overflow_add-len
+overflow_add-len c =
+    let own = c.in_ok-locals.locals in
+    let state = c.args.state.now in
+    let few : length own ≤ 18446744073709486080 = omega (arith, c.if-len.false, c.len.ensures) in
+    let is : c.push_sites.new.locals ≡ own ++ site_types_from state 0 c.args.flat.now.sites =
+    c.in_ok-push_sites.ensures ∙ ap (λ (list : List Site). own ++ site_types_from state 0 list) (c.as_slice.ensures ∙ c.sites.ensures) in
+    let fits = behind_fits c.args.flat.now state c.args.behind own c.push_sites.new.locals c.requires few is in
+    omega (arith, fits, c.len-2.ensures)
+
+pub returns : goal.returns
+returns c =
+    let own = c.in_ok-locals.locals in
+    let state = c.args.state.now in
+    let is : c.push_sites.new.locals ≡ own ++ site_types_from state 0 c.args.flat.now.sites =
+    c.in_ok-push_sites.ensures ∙ ap (λ (list : List Site). own ++ site_types_from state 0 list) (c.as_slice.ensures ∙ c.sites.ensures) in
+    whole_locals c.args.flat.now state c.args.behind (c.len-2.result + c.args.behind) own (local_types_from c.args.flat.now c.args.types.now state.slots)
+    c.push_sites.new.locals c.fill.new.self c.requires c.in_ok-locals.ensures is (ap (λ (n : ℕ). n + c.args.behind) c.len-2.ensures) c.fill.ensures
