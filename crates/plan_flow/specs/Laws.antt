@@ -3,3 +3,7 @@ pub mod WrittenPads
 pub mod RoutedPlans
 pub mod OneRouting
 pub mod EdgesByKind
+pub mod OneEffect
+pub mod NextEdges
+pub mod OpenEdges
+pub mod SomeRouting

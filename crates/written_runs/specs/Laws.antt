@@ -34,10 +34,8 @@ pub mod MadeItems
 pub mod Making
 pub mod MethodsBegin
 pub mod NewOnTop
-pub mod NextEdges
 pub mod NotFinal
 pub mod ObjectInits
-pub mod OneEffect
 pub mod OverTurns
 pub mod OwnCodes
 pub mod OwnFrames

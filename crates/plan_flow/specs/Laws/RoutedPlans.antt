@@ -153,7 +153,7 @@ edge_leads s plan (first ∷ effect) (made ∷ plans) (one ∷ routes) (suc numb
     edge_leads s plan effect plans routes number edge states.1 are.1 lead.1 is
 
 -- the states behind edges are states
-edge_states : (s : PlanScope) (at : ℕ) (point : Point) (before : State) (rows : List RowEdge) (effect : List Edge)
+pub edge_states : (s : PlanScope) (at : ℕ) (point : Point) (before : State) (rows : List RowEdge) (effect : List Edge)
     → AreEdges s point at before rows effect
     → AllByRecursion (λ (one : Edge). IsState one.state) effect
 edge_states s at point before [] [] are = tt

@@ -4,6 +4,7 @@ use Rattle.std.specs.List.{AllByRecursion, list_any}
 use Rattle.std.proofs.lemmas.Bool.{and_from, and_parts, false≢true}
 use Rattle.std.proofs.lemmas.Option.{none-some, same_Some}
 use Rattle.std.proofs.lemmas.Slice.Eq.{bytes_eq-Decides}
+use Rattle.plan_flow.specs.Laws.OpenEdges.{all_still}
 use Rattle.class_model.specs.Checks.{AllHold}
 use Rattle.class_model.specs.ClassOf.{fields_checks}
 use Rattle.class_model.specs.Header.{field_member, header_of}
@@ -21,7 +22,6 @@ use Rattle.class_tree.specs.Headers.{IsClassFile}
 use Rattle.class_tree.specs.Names.{is_member}
 use Rattle.member_link.specs.DeclaredMembers.{declared}
 use Rattle.same_runs.specs.Laws.Objects.{get_new, get_old}
-use Rattle.written_runs.specs.Laws.LessVirtual.{all_still}
 
 -- ---- members
 

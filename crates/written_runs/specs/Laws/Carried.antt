@@ -25,7 +25,6 @@ pub mod MovesOn
 pub mod NopTurns
 pub mod NullTests
 pub mod NumberFits
-pub mod OpenEdges
 pub mod OperandFits
 pub mod Operands
 pub mod Planned

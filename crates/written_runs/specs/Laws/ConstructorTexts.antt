@@ -4,6 +4,7 @@ use Rattle.std.specs.List.{AllByRecursion, flat_map}
 use Rattle.std.proofs.lemmas.List.{append_assoc, length-append}
 use Rattle.std.proofs.lemmas.List.Sums.{sum_by-append}
 use Rattle.std.proofs.lemmas.Option.{none-some, same_Some, slice_get-map}
+use Rattle.plan_flow.specs.Laws.OpenEdges.{all_still}
 use Rattle.class_model.specs.Characters.{boolean_letter, left_bracket, left_parenthesis, right_parenthesis, void_letter}
 use Rattle.class_model.specs.Descriptors.{IsArrayType, IsReferenceName, descriptor_text, field_type_text, kind_of, named_text, parameter_units, parameters_of, type_of, units_of}
 use Rattle.class_model.specs.Header.{header_of}
@@ -26,7 +27,6 @@ use Rattle.member_link.specs.FieldConstructors.{constructor_descriptor, field_ty
 use Rattle.member_link.specs.Laws.FolderClasses.{folder_index}
 use Rattle.written_runs.specs.Laws.ApartFields.{fields_described}
 use Rattle.written_runs.specs.Laws.GivenValues.{types_of}
-use Rattle.written_runs.specs.Laws.LessVirtual.{all_still}
 
 -- what class_model says of method descriptors: its `parameters_of_bytes_are_spelled`
 pub record ReadsParameters : Type 0 where

@@ -4,6 +4,7 @@ use Rattle.std.proofs.Common.{◌≡◌, ◌≤◌, ◌<◌, ◌++◌, nat_le, �
 use Rattle.std.specs.List.{AllByRecursion}
 use Rattle.std.proofs.lemmas.Bool.{le-leb, leb-true}
 use Rattle.std.proofs.lemmas.List.{length-reverse, reverse-append}
+use Rattle.plan_flow.specs.Laws.OpenEdges.{still_in}
 use Rattle.machine_values.specs.Frames.{MethodState}
 use Rattle.machine_values.specs.Heaps.{Heap}
 use Rattle.machine_values.specs.declared.frame.RunFrame.{RunFrame}
@@ -15,7 +16,7 @@ use Rattle.same_runs.specs.Laws.Objects.{get_before, get_old}
 use Rattle.same_runs.specs.Renamings.{Names, NamesMore}
 use Rattle.same_runs.specs.SameMemories.{SameMemories, StaysApart}
 use Rattle.same_runs.specs.SameWorlds.{Comparison, Compares}
-use Rattle.written_runs.specs.Laws.LessVirtual.{WasIn, still_apart, still_in, was_in}
+use Rattle.written_runs.specs.Laws.LessVirtual.{WasIn, still_apart, was_in}
 use Rattle.written_runs.specs.Inner.PlannedFrames.{Known}
 use Rattle.written_runs.specs.Inner.Setup.{Setup, first}
 use Rattle.written_runs.specs.Inner.Standing.{HasNone, SameTop, Stands, apart, comparison, entered}

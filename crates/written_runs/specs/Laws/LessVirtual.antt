@@ -3,6 +3,7 @@ use Rattle.std.proofs.Common.{◌≡◌, ◌≢◌, ◌==◌, ◌&&◌, not, ℕ
 use Rattle.std.specs.List.{AllByRecursion}
 use Rattle.std.proofs.lemmas.Bool.{eqb-true}
 use Rattle.std.proofs.lemmas.Option.{none-some, same_Some}
+use Rattle.plan_flow.specs.Laws.OpenEdges.{all_still, still_in}
 use Rattle.virtual_state.specs.Sites.{has}
 use Rattle.written_runs.specs.Inner.MadeObjects.{left_of}
 use Rattle.written_runs.specs.VirtualObjects.{AreApart, HasVirtual, IsOther, Virtual, Virtuals}
@@ -37,31 +38,6 @@ was_in test (first ∷ items) number item is = by (test first) refl number is (�
       record { number = suc rest.number; is_there = rest.is_there; passes = rest.passes }
 
 -- an item that passes is one of the filtered list
-pub still_in : {A : Type 0} (test : A → Bool) (items : List A) (number : ℕ) (item : A)
-    → slice_get items number ≡ Some item
-    → test item ≡ true
-    → (place : ℕ) × (slice_get (filter test items) place ≡ Some item)
-still_in test [] number item is passes = absurd (none-some item is)
-still_in test (first ∷ items) zero item is passes =
-    let told = ap test (same_Some first item is) ∙ passes in (0, rw (told) is)
-still_in test (first ∷ items) (suc number) item is passes =
-    by (test first) refl (still_in test items number item is passes) where
-      by : (kept : Bool)
-          → test first ≡ kept
-          → (place : ℕ) × (slice_get (filter test items) place ≡ Some item)
-          → (place : ℕ) × (slice_get (filter test (first ∷ items)) place ≡ Some item)
-      by true told rest = (suc rest.0, rw (told) rest.1)
-      by false told rest = (rest.0, rw (told) rest.1)
-
-pub all_still : {A : Type 0} (P : A → Type 0) (test : A → Bool) (items : List A)
-    → AllByRecursion P items
-    → AllByRecursion P (filter test items)
-all_still P test [] all = tt
-all_still P test (first ∷ items) all = by (test first) refl (all_still P test items all.1) where
-  by : (kept : Bool) → test first ≡ kept → AllByRecursion P (filter test items) → AllByRecursion P (filter test (first ∷ items))
-  by true told rest = rw (told) (all.0, rest)
-  by false told rest = rw (told) rest
-
 -- ---- fewer virtual objects
 
 pub still_apart : (test : Virtual → Bool) (virtuals : Virtuals) → AreApart virtuals → AreApart (filter test virtuals)

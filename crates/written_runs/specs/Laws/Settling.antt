@@ -47,8 +47,8 @@ use Rattle.written_runs.specs.Laws.KnownClasses.{halfway_knowing, met_here, met_
 use Rattle.written_runs.specs.Laws.MadeItems.{AreOwn, HasSome, behind_made, length_made, made_at, made_in_form, made_some, make_code_some, own_make_code}
 use Rattle.written_runs.specs.Laws.Uncovered.{IsUncovered, can_be_saved}
 use Rattle.written_runs.specs.Laws.NewOnTop.{gives_on_top}
-use Rattle.written_runs.specs.Laws.NextEdges.{next_follows}
-use Rattle.written_runs.specs.Laws.OneEffect.{one_effect}
+use Rattle.plan_flow.specs.Laws.NextEdges.{next_follows}
+use Rattle.plan_flow.specs.Laws.OneEffect.{one_effect}
 use Rattle.written_runs.specs.Laws.WideFlats.{room_reached}
 use Rattle.written_runs.specs.Laws.WideLocals.{HasWideRoom}
 use Rattle.written_runs.specs.Laws.WrittenCodes.{written_code_at}

@@ -3,6 +3,7 @@ use Rattle.std.proofs.Common.{◌≡◌, ◌≢◌, ◌⊎◌, ◌≤◌, ◌<�
 use Rattle.std.proofs.lemmas.Bool.{cases_lt, eq-eqb, eqb-true, false≢true}
 use Rattle.std.proofs.lemmas.List.{length-map, length-take-le}
 use Rattle.std.proofs.lemmas.Option.{none-some, same_Some, slice_get_within}
+use Rattle.plan_flow.specs.Laws.OpenEdges.{still_in}
 use Rattle.class_model.specs.Frames.{is_top}
 use Rattle.class_model.specs.declared.descriptor.FieldType.{FieldType}
 use Rattle.class_model.specs.declared.frame.VType.{VType}
@@ -31,7 +32,7 @@ use Rattle.written_runs.specs.Inner.PlannedFrames.{KeepStack, Keeps, KeptIn}
 use Rattle.written_runs.specs.Laws.Carried.Slots.{FitsPlain, LeadsAlong, LeavesStack, edge_slots, fit_plain, fit_virtual, got_before, got_left, got_right, locals_are, stack_are}
 use Rattle.written_runs.specs.Laws.FewerVirtuals.{AreFewer}
 use Rattle.written_runs.specs.Laws.KnownClasses.{slot_names}
-use Rattle.written_runs.specs.Laws.LessVirtual.{still_in, was_in}
+use Rattle.written_runs.specs.Laws.LessVirtual.{was_in}
 use Rattle.written_runs.specs.Laws.StandingMore.{SameBelow}
 use Rattle.written_runs.specs.Laws.Templates.Stacks.{as_read, held_at, held_length, keep_join, keep_read, read_virtual}
 use Rattle.written_runs.specs.VirtualObjects.{HasVirtual, RefersTo, TellFields, Tells, TellsField, TellsObject, Virtual, Virtuals, local_slots, stack_slots, tells_plain, tells_virtual}

@@ -20,7 +20,7 @@ use Rattle.virtual_state.specs.Laws.Removals.{without_none}
 use Rattle.virtual_state.specs.Sites.{has}
 use Rattle.written_runs.specs.Inner.PlannedFrames.{IsBlock, IsReached, IsTold, blocks_in, of_first, of_handler, of_jump, of_next, scope_in}
 use Rattle.written_runs.specs.Inner.Setup.{Setup}
-use Rattle.written_runs.specs.Laws.NextEdges.{next_follows}
+use Rattle.plan_flow.specs.Laws.NextEdges.{next_follows}
 use Rattle.written_runs.specs.Laws.Settling.{Onwards, SettleLaws, onwards}
 use Rattle.written_runs.specs.WrittenRuns.{IsReadyMethod}
 

@@ -35,9 +35,9 @@ use Rattle.virtual_state.specs.declared.slot.Slot.{Slot}
 use Rattle.virtual_state.specs.declared.slot.Slot.TheVariants.{Unusable}
 use Rattle.written_runs.specs.Inner.PlannedFrames.{IsReached, scope_in}
 use Rattle.written_runs.specs.Inner.Setup.{Setup}
-use Rattle.written_runs.specs.Laws.Carried.OpenEdges.{OpenEdge, handler_open, jump_open, next_open}
+use Rattle.plan_flow.specs.Laws.OpenEdges.{OpenEdge, handler_open, jump_open, next_open}
 use Rattle.written_runs.specs.Laws.Carried.Slots.{got_left}
-use Rattle.written_runs.specs.Laws.OneEffect.{one_effect}
+use Rattle.plan_flow.specs.Laws.OneEffect.{one_effect}
 use Rattle.written_runs.specs.Laws.Settling.{SettleLaws, found_edge}
 use Rattle.written_runs.specs.VirtualObjects.{local_slots}
 use Rattle.written_runs.specs.WrittenRuns.{IsReadyMethod}

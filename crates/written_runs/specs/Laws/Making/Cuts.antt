@@ -2,6 +2,7 @@
 use Rattle.std.proofs.Common.{◌≡◌, ◌≢◌, ◌+◌, ℕ, zero, suc, Bool, true, false, List, [], ◌∷◌, ◌++◌, filter, length, map, reverse, slice_get, Some, IsTrue, refl, sym, ap, subst, ◌∙◌, arith}
 use Rattle.std.proofs.lemmas.List.{reverse-append}
 use Rattle.std.proofs.lemmas.Option.{none-some, same_Some}
+use Rattle.plan_flow.specs.Laws.OpenEdges.{still_in}
 use Rattle.class_model.specs.Frames.{depth}
 use Rattle.class_model.specs.declared.frame.VType.{VType}
 use Rattle.class_model.specs.declared.frame.VType.TheVariants.{Top}
@@ -19,7 +20,6 @@ use Rattle.virtual_state.specs.declared.slot.Slot.{Slot}
 use Rattle.virtual_state.specs.declared.slot.Slot.TheVariants.{Plain, Virt, Unusable}
 use Rattle.written_runs.specs.Inner.PlannedFrames.{KeepStack}
 use Rattle.written_runs.specs.Inner.Setup.{Setup}
-use Rattle.written_runs.specs.Laws.LessVirtual.{still_in}
 use Rattle.written_runs.specs.Laws.Making.Held.{Scene}
 use Rattle.written_runs.specs.Laws.Making.Saved.{AllUsable, AreMany, HasKinds, HasPlain, depth_cons, has_plain, no_entries, none_kept, one_entry, usable_behind}
 use Rattle.written_runs.specs.VirtualObjects.{stack_slots}

@@ -3,12 +3,13 @@ use Rattle.std.proofs.Common.{◌≡◌, ◌==◌, ◌+◌, ◌≤◌, ℕ, zero
 use Rattle.std.specs.List.{AllByRecursion}
 use Rattle.std.proofs.lemmas.Bool.{eq-eqb, false≢true}
 use Rattle.std.proofs.lemmas.Option.{none-some, same_Some}
+use Rattle.plan_flow.specs.Laws.OpenEdges.{still_in}
 use Rattle.machine_values.specs.declared.object.Object.{Object}
 use Rattle.same_runs.specs.Laws.Apart.{AreAmong}
 use Rattle.virtual_state.specs.Sites.{has}
 use Rattle.written_runs.specs.Inner.MadeObjects.{left_of}
 use Rattle.written_runs.specs.Inner.Standing.{apart, entered}
-use Rattle.written_runs.specs.Laws.LessVirtual.{is_left, left_of_site, still_in, was_in}
+use Rattle.written_runs.specs.Laws.LessVirtual.{is_left, left_of_site, was_in}
 use Rattle.written_runs.specs.VirtualObjects.{AreApart, HasVirtual, IsOther, Virtual, Virtuals}
 
 -- ---- sums

@@ -19,9 +19,9 @@ use Rattle.virtual_state.specs.Sites.{has}
 use Rattle.virtual_state.specs.States.{IsState}
 use Rattle.written_runs.specs.Inner.PlannedFrames.{IsBlock, IsReached, IsTold, blocks_in, of_first, of_next, scope_in}
 use Rattle.written_runs.specs.Inner.Setup.{Setup}
-use Rattle.written_runs.specs.Laws.OneEffect.{one_effect}
-use Rattle.written_runs.specs.Laws.NextEdges.{next_follows}
-use Rattle.written_runs.specs.Laws.OneEffect.{one_effect}
+use Rattle.plan_flow.specs.Laws.OneEffect.{one_effect}
+use Rattle.plan_flow.specs.Laws.NextEdges.{next_follows}
+use Rattle.plan_flow.specs.Laws.OneEffect.{one_effect}
 use Rattle.written_runs.specs.Laws.Settling.{Onwards, SettleLaws, found_edge, onwards}
 use Rattle.written_runs.specs.Laws.Templates.Stacks.{drop_at}
 use Rattle.written_runs.specs.WrittenRuns.{IsReadyMethod}

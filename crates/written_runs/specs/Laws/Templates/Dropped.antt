@@ -2,6 +2,7 @@
 use Rattle.std.proofs.Common.{◌≡◌, ◌≢◌, ◌==◌, ◌||◌, not, ℕ, zero, suc, Bool, true, false, List, [], ◌∷◌, filter, length, slice_get, Some, IsTrue, refl, sym, ap, ◌∙◌, arith}
 use Rattle.std.proofs.lemmas.Bool.{eq-eqb, eqb-true, false≢true}
 use Rattle.std.proofs.lemmas.Option.{none-some, same_Some}
+use Rattle.plan_flow.specs.Laws.OpenEdges.{still_in}
 use Rattle.class_model.specs.declared.descriptor.FieldType.{FieldType}
 use Rattle.flow_code.specs.declared.point.Point.{Point}
 use Rattle.machine_values.specs.Frames.{MethodState}
@@ -16,7 +17,7 @@ use Rattle.virtual_state.specs.declared.slot.Slot.{Slot}
 use Rattle.virtual_state.specs.declared.slot.Slot.TheVariants.{Plain, Virt, Unusable}
 use Rattle.virtual_state.specs.declared.slot.VObject.{VObject}
 use Rattle.written_runs.specs.Inner.PlannedFrames.{Keeps}
-use Rattle.written_runs.specs.Laws.LessVirtual.{still_in, was_in}
+use Rattle.written_runs.specs.Laws.LessVirtual.{was_in}
 use Rattle.written_runs.specs.Laws.StandingMore.{SameBelow}
 use Rattle.written_runs.specs.Laws.Templates.Stacks.{get_dropped, get_taken}
 use Rattle.written_runs.specs.VirtualObjects.{HasVirtual, RefersTo, TellFields, Tells, TellsField, TellsObject, Virtual, Virtuals, local_slots, stack_slots, tells_plain, tells_virtual}

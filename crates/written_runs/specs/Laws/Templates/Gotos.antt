@@ -48,7 +48,7 @@ use Rattle.virtual_state.specs.declared.slot.Slot.TheVariants.{Plain, Virt, Unus
 use Rattle.virtual_state.specs.declared.slot.VObject.{VObject}
 use Rattle.written_runs.specs.Inner.PlannedFrames.{KeepStack, scope_in}
 use Rattle.written_runs.specs.Inner.Setup.{Setup, first}
-use Rattle.written_runs.specs.Laws.Carried.OpenEdges.{IsOfRow, jump_edge}
+use Rattle.plan_flow.specs.Laws.OpenEdges.{IsOfRow, jump_edge}
 use Rattle.written_runs.specs.Laws.Carried.Standing.{AtOwn}
 use Rattle.written_runs.specs.Laws.MadeItems.{AreOwn}
 use Rattle.written_runs.specs.Laws.PlannedTurns.{AtPlanned, written_at}

@@ -40,7 +40,7 @@ use Rattle.written_runs.specs.Laws.WrittenCodes.{written_code_at}
 use Rattle.written_runs.specs.Inner.MadeObjects.{StandAt}
 use Rattle.written_runs.specs.Inner.PlannedFrames.{blocks_in, of_first, scope_in}
 use Rattle.written_runs.specs.Inner.Setup.{Setup, first, second}
-use Rattle.written_runs.specs.Laws.Carried.OpenEdges.{IsOfRow, jump_edge}
+use Rattle.plan_flow.specs.Laws.OpenEdges.{IsOfRow, jump_edge}
 use Rattle.written_runs.specs.Laws.Carried.Standing.{AtOwn, item_there, own_finished}
 use Rattle.written_runs.specs.Laws.Halfway.{GoesOn, Halfway, makes_on}
 use Rattle.written_runs.specs.Laws.MadeItems.{AreOwn, IsOwn, items_of_block, own_make_code}

@@ -20,7 +20,7 @@ use Rattle.plan_flow.specs.declared.edge.EdgeKind.TheVariants as edges
 use Rattle.same_runs.specs.Laws.QuietBeginnings.{standing}
 use Rattle.written_runs.specs.Inner.PlannedFrames.{blocks_in, scope_in}
 use Rattle.written_runs.specs.Inner.Setup.{Setup, second}
-use Rattle.written_runs.specs.Laws.Carried.OpenEdges.{IsOfRow, next_edge}
+use Rattle.plan_flow.specs.Laws.OpenEdges.{IsOfRow, next_edge}
 use Rattle.written_runs.specs.Laws.Carried.Standing.{AtOwn}
 use Rattle.written_runs.specs.Laws.MadeItems.{AreOwn}
 use Rattle.written_runs.specs.Laws.PlannedTurns.{AtPlanned}

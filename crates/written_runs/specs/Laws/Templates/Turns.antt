@@ -49,7 +49,7 @@ use Rattle.written_runs.specs.Inner.PlannedFrames.{IsBlock, IsTold, KeepStack, K
 use Rattle.written_runs.specs.Inner.Setup.{Setup, first}
 use Rattle.written_runs.specs.Inner.Standing.{Stands, apart, comparison, is_awaited, planned_stand}
 use Rattle.written_runs.specs.Inner.Together.{Along, AreKnown, AreOwned, weight}
-use Rattle.written_runs.specs.Laws.Carried.OpenEdges.{IsOfRow, next_edge}
+use Rattle.plan_flow.specs.Laws.OpenEdges.{IsOfRow, next_edge}
 use Rattle.written_runs.specs.Laws.Carried.Standing.{AtOwn, at_own}
 use Rattle.written_runs.specs.Laws.FewerVirtuals.{AreFewer, fewer_are_apart, memories_fewer}
 use Rattle.written_runs.specs.Laws.Halfway.{Halfway}

@@ -1,6 +1,6 @@
 -- Where control may go on from a reached point: each edge of the point's row that is open in the state there is one of its route, with the state
 -- behind it.
-use Rattle.std.proofs.Common.{◌≡◌, ◌+◌, ◌++◌, ℕ, zero, suc, Bool, true, false, List, [], ◌∷◌, slice_get, Option, Some, None, refl, sym, ap, subst, ◌∙◌, arith}
+use Rattle.std.proofs.Common.{◌≡◌, ◌+◌, ◌++◌, ℕ, zero, suc, Bool, true, false, List, [], ◌∷◌, filter, slice_get, Option, Some, None, refl, sym, ap, subst, ◌∙◌, arith}
 use Rattle.std.specs.List.{AllByRecursion, find}
 use Rattle.std.proofs.lemmas.Bool.{eq-eqb, eqb-true, false≢true}
 use Rattle.std.proofs.lemmas.Option.{none-some, same_Some}
@@ -19,7 +19,34 @@ use Rattle.plan_flow.specs.declared.edge.Edge.{Edge}
 use Rattle.plan_flow.specs.declared.edge.EdgeKind.{EdgeKind}
 use Rattle.plan_flow.specs.declared.edge.EdgeKind.TheVariants as edges
 use Rattle.virtual_state.specs.States.{State}
-use Rattle.written_runs.specs.Laws.LessVirtual.{all_still, still_in}
+
+-- ---- lists
+
+-- what passes a test stays where a list is filtered
+pub still_in : {A : Type 0} (test : A → Bool) (items : List A) (number : ℕ) (item : A)
+    → slice_get items number ≡ Some item
+    → test item ≡ true
+    → (place : ℕ) × (slice_get (filter test items) place ≡ Some item)
+still_in test [] number item is passes = absurd (none-some item is)
+still_in test (first ∷ items) zero item is passes =
+    let told = ap test (same_Some first item is) ∙ passes in (0, rw (told) is)
+still_in test (first ∷ items) (suc number) item is passes =
+    by (test first) refl (still_in test items number item is passes) where
+      by : (kept : Bool)
+          → test first ≡ kept
+          → (place : ℕ) × (slice_get (filter test items) place ≡ Some item)
+          → (place : ℕ) × (slice_get (filter test (first ∷ items)) place ≡ Some item)
+      by true told rest = (suc rest.0, rw (told) rest.1)
+      by false told rest = (rest.0, rw (told) rest.1)
+
+pub all_still : {A : Type 0} (P : A → Type 0) (test : A → Bool) (items : List A)
+    → AllByRecursion P items
+    → AllByRecursion P (filter test items)
+all_still P test [] all = tt
+all_still P test (first ∷ items) all = by (test first) refl (all_still P test items all.1) where
+  by : (kept : Bool) → test first ≡ kept → AllByRecursion P (filter test items) → AllByRecursion P (filter test (first ∷ items))
+  by true told rest = rw (told) (all.0, rest)
+  by false told rest = rw (told) rest
 
 -- ---- edges of routes are those of rows
 
