@@ -12,7 +12,6 @@ ghost use Rattle.materialise.specs.Inner.StackWords.{copying, saving};
 ghost use Rattle.materialise.specs.MadeCode.{CanMake, DescribesConstructors, HasFewLocals, HaveConstructors, IsMakeCode};
 ghost use Rattle.pool_edit.specs.Edits.{Continues};
 
-use field_constructors::Constructors;
 use crate::copies::{copy_to_fields, copy_to_locals, load_entries, save_entries};
 use crate::objects::make_objects;
 use crate::ordering::make_order;
@@ -20,6 +19,7 @@ use crate::stack::{StackEntry, entries_above, saved_entries};
 use crate::units::Units;
 use class_model::{Instr, ListOf, NoMemory};
 use class_tree::Tree;
+use field_constructors::Constructors;
 use flow_code::{Flat, KeptFault};
 use pool_edit::{PoolEdit, an_edit_goes_back_to_what_it_was};
 use std::alloc::Global;

@@ -17,10 +17,10 @@ ghost use Rattle.materialise.specs.MadeCode.{DescribesConstructors, HaveConstruc
 ghost use Rattle.pool_edit.specs.Edits.{Continues};
 
 use crate::constants::{Reference, add_class, add_member};
-use field_constructors::Constructors;
 use crate::units::Units;
 use class_model::opcodes::{DUP, INVOKESPECIAL};
 use class_model::{FieldType, INIT, Imm, Instr, Kind, NoMemory, Text};
+use field_constructors::Constructors;
 use flow_code::{KeptFault, Site};
 use pool_edit::{PoolEdit, an_edit_goes_back_to_what_it_was};
 use std::alloc::Global;
