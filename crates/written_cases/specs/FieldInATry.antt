@@ -1,7 +1,7 @@
 -- A static field is read in a try. What is written there has no handler, since the read throws nothing; the flat code has one. While the class of
 -- the field begins, its initialiser stands above both frames, and no object could be thrown through them as through two frames that are alike.
 -- None is: out of an initialiser no object goes further.
-use Rattle.std.specs.Prelude.{◌≡◌, ℕ, List, [], ◌∷◌, codes, Some, None, IsTrue}
+use Rattle.std.specs.Prelude.{◌≡◌, List, [], ◌∷◌, codes, Some, None, IsTrue}
 use Rattle.class_model.specs.Pool.{Constants}
 use Rattle.class_model.specs.declared.class_file.ClassFile.{ClassFile}
 use Rattle.class_model.specs.declared.descriptor.Kind.TheVariants as kinds
@@ -97,22 +97,24 @@ pub record StandThere (P Q : Program) (f g : MethodState) : Type 0 where
   pub has_one : catches_at P f ≡ catch ∷ []
   pub has_none : catches_at Q g ≡ []
 
+-- whatever frames stand or land together
+abbrev pub Any : Names → List RunFrame → List RunFrame → Type 0
+Any names ones others = Unit {0}
+
 -- no object is thrown through them as through two frames that are alike
-abbrev pub NoneThroughBoth : Type 1
+abbrev pub NoneThroughBoth : Type 0
 NoneThroughBoth =
-    (P Q : Program) (Frames Lands : Names → List RunFrame → List RunFrame → Type 0)
-    (names : Names) (f g : MethodState) (ones others : List RunFrame)
+    (P Q : Program) (names : Names) (f g : MethodState) (ones others : List RunFrame)
     → StandThere P Q f g
-    → ¬ Unwinds P Q Frames Lands names (Method f ∷ ones) (Method g ∷ others)
+    → ¬ Unwinds P Q Any Any names (Method f ∷ ones) (Method g ∷ others)
 
 -- two frames of an initialiser are alike, whatever stands below them
-abbrev pub InitialisersAlike : Type 1
+abbrev pub InitialisersAlike : Type 0
 InitialisersAlike =
-    (P Q : Program) (Frames Lands : Names → List RunFrame → List RunFrame → Type 0)
-    (names : Names) (f g : MethodState) (ones others : List RunFrame)
+    (P Q : Program) (names : Names) (f g : MethodState) (ones others : List RunFrame)
     (ends : EndSame P Q f g)
     → IsTrue (is_initialiser ends.method)
     → SameHeld names f.held g.held
-    → SameCatches Lands names f g ones others (catches_at P f) (catches_at Q g)
-    → Frames names ones others
-    → Unwinds P Q Frames Lands names (Method f ∷ ones) (Method g ∷ others)
+    → SameCatches Any names f g ones others (catches_at P f) (catches_at Q g)
+    → Any names ones others
+    → Unwinds P Q Any Any names (Method f ∷ ones) (Method g ∷ others)

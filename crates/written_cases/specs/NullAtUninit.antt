@@ -1,8 +1,6 @@
 -- A flat code that is not ready for plans: where its types say an uninitialised object of a site, there is null. The type is read as the class of
 -- the site, to which null is assignable, so the frames type it. What is written does not ask whether the object is null.
-use Rattle.std.specs.Prelude.{ℕ, List, [], ◌∷◌, codes, Some, pos, None}
-use Rattle.class_model.specs.Pool.{Constants}
-use Rattle.class_model.specs.declared.class_file.ClassFile.{ClassFile}
+use Rattle.std.specs.Prelude.{ℕ, List, [], ◌∷◌, codes, Some, pos}
 use Rattle.class_model.specs.declared.descriptor.FieldType.TheVariants as fields
 use Rattle.class_model.specs.declared.descriptor.Kind.TheVariants as kinds
 use Rattle.class_model.specs.declared.frame.VType.{VType}
