@@ -1,1 +1,2 @@
+pub mod FewLocals
 pub mod Inner

@@ -17,9 +17,6 @@ use flow_code::{Flat, Site};
 use std::alloc::Global;
 use virtual_state::VState;
 
-// The most local units that a code has.
-const MOST: usize = 65_535;
-
 /// The local units of written code at a point whose local units have these types in the flat code: these, those of the sites' fields, and
 /// so many behind.
 pub(crate) fn written_locals(
@@ -29,7 +26,8 @@ pub(crate) fn written_locals(
     state: &VState,
     behind: usize,
 ) -> Result<LocalTypeList, NoMemory>
-    requires { IsRoom flat.now behind }
+    requires room { IsRoom flat.now behind }
+    requires few { length types.now ≤ 65536 }
     ensures { IfOk result (λ locals. locals
         ≡ local_types_from flat.now types.now state.now.slots
         ++ site_types_from state.now 0 flat.now.sites
@@ -37,10 +35,6 @@ pub(crate) fn written_locals(
         ++ replicate (greatest_depth flat.now.points) VType.Top) }
 {
     let mut locals = own_locals(alloc, flat, types, state)?;
-    // no memory holds as many units
-    if locals.len() > usize::MAX - MOST {
-        return Err(NoMemory);
-    }
     push_sites(&mut locals, flat.sites().as_slice(), state)?;
     let len = locals.len() + behind;
     locals.fill(len);

@@ -4,6 +4,7 @@ ghost use Rattle.class_model.specs.declared.frame.VType.{VType as type};
 ghost use Rattle.flow_code.specs.ReadTypes.{read_type};
 ghost use Rattle.flow_code.specs.WrittenUnits.{written_units};
 ghost use Rattle.making_code.specs.StateFrames.{entry_types_by, entry_types_from, state_frame};
+ghost use Rattle.written_frames.specs.FewLocals.{HasFewLocals};
 
 use crate::behind::units_behind;
 use crate::locals::written_locals;
@@ -57,6 +58,7 @@ impl<'f> FrameMaker<'f> {
     /// # Errors
     /// `NoMemory`, where memory runs out.
     pub fn frame(&self, alloc: Global, at: usize, state: &VState) -> Result<Frame, NoMemory>
+        requires { HasFewLocals self.now at }
         ensures { IfOk result (λ frame. frame ≡ state_frame self.now at state.now) }
     {
         let Some(typed) = self.flat.typed(at) else {
@@ -73,7 +75,8 @@ impl<'f> FrameMaker<'f> {
 /// # Errors
 /// `NoMemory`, where memory runs out.
 pub fn state_frame(alloc: Global, flat: &Flat, at: usize, state: &VState) -> Result<Frame, NoMemory>
-    requires { written_units flat.now ≤ 65535 }
+    requires units { written_units flat.now ≤ 65535 }
+    requires locals { HasFewLocals flat.now at }
     ensures { IfOk result (λ frame. frame ≡ state_frame flat.now at state.now) }
 {
     FrameMaker::new(flat).frame(alloc, at, state)
