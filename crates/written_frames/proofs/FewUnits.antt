@@ -1,6 +1,7 @@
 -- Written code has no more local units of the flat code than the types list.
-use Rattle.std.proofs.Common.{◌≡◌, ◌≤◌, refl, ap, ℕ, List, [], ◌∷◌, length, Option, Some, None, arith}
+use Rattle.std.proofs.Common.{◌≡◌, ◌≤◌, refl, sym, ap, ℕ, List, [], ◌∷◌, length, Option, Some, None, arith}
 use Rattle.std.specs.Option.{option_map}
+use Rattle.std.proofs.lemmas.Option.{none-some}
 use Rattle.class_model.specs.declared.frame.Frame.{Frame}
 use Rattle.class_model.specs.declared.frame.VType.{VType}
 use Rattle.flow_code.specs.FlatCode.{FlatCode, point_at}
@@ -23,7 +24,7 @@ own_few flat types own slots is few =
 
 few_at : (found : Option Point) (typed : Frame) → ((point : Point) → found ≡ Some point → length point.typed.locals ≤ 65536)
     → Some typed ≡ option_map (λ (point : Point). point.typed) found → length typed.locals ≤ 65536
-few_at None typed few is = elim (cc (is)) [ ]
+few_at None typed few is = absurd (none-some typed (sym is))
 few_at (Some point) typed few is =
     let same : typed ≡ point.typed = cc is in
     let many : length typed.locals ≡ length point.typed.locals = ap (λ (f : Frame). length f.locals) same in
