@@ -13,3 +13,6 @@ mod Edges
 mod Starts
 mod ObjectInits
 mod Ways
+mod AgreeingFrames
+mod ItemPlaces
+mod CarriedBlocks
