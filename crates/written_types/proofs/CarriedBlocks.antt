@@ -150,3 +150,231 @@ begins_with w number one (Some flow) led is_led stated no_this arrives = by (sta
       not_led : (led : Bool) → stands led (Some flow) (frame_in w one) ≡ false → differ flow (frame_in w one) ≡ false
       not_led true e = absurd (true≢false e)
       not_led false e = e
+
+-- ---- inside of a block
+
+-- the items of a block are some, and these behind them from the item of a number on
+pub record Inside (w : Writing) (front behind : List Finished) (one : Finished) (number : ℕ) (left right : List WItem) : Type 0 where
+  pub is : w.blocks ≡ front ++ (one ∷ behind)
+  pub items : block_items w.form one ≡ left ++ right
+  pub number_is : number ≡ length (written_items w.form front) + length left
+
+pub stands_inside : (w : Writing) (front behind : List Finished) (one : Finished) (number : ℕ) (left right : List WItem) (item : WItem)
+    → Inside w front behind one number left (item ∷ right)
+    → StandsAt w number item
+stands_inside w front behind one number left right item inside = record {
+  left = written_items w.form front ++ left;
+  right = right ++ written_items w.form behind;
+  is =
+      ap (written_items w.form) inside.is
+      ∙ written_apart w.form front (one ∷ behind)
+      ∙ ap (λ (xs : List WItem). written_items w.form front ++ (xs ++ written_items w.form behind)) inside.items
+      ∙ ap (λ (xs : List WItem). written_items w.form front ++ xs) (append_assoc left (item ∷ right) (written_items w.form behind))
+      ∙ sym (append_assoc (written_items w.form front) left (item ∷ right ++ written_items w.form behind));
+  number_is = inside.number_is ∙ sym (length-append (written_items w.form front) left);
+}
+
+pub next_inside : (w : Writing) (front behind : List Finished) (one : Finished) (number : ℕ) (left right : List WItem) (item : WItem)
+    → Inside w front behind one number left (item ∷ right)
+    → Inside w front behind one (suc number) (left ++ (item ∷ [])) right
+next_inside w front behind one number left right item inside = record {
+  is = inside.is;
+  items = inside.items ∙ sym (append_assoc left (item ∷ []) right);
+  number_is =
+      let long = length-append left (item ∷ []) in
+      let before = inside.number_is in
+      omega (arith, long, before);
+}
+
+not_stated : (w : Writing) (front behind : List Finished) (one : Finished) (number : ℕ) (left right : List WItem) (item : WItem)
+    → Inside w front behind one number left (item ∷ right)
+    → 0 < length left
+    → block_from w.form number 0 w.blocks ≡ None
+not_stated w front behind one number left right item inside some =
+    let long = ap length inside.items ∙ length-append left (item ∷ right) in
+    let before = inside.number_is in
+    ap (block_from w.form number 0) inside.is
+    ∙ ap (λ (n : ℕ). block_from w.form n 0 (front ++ (one ∷ behind)))
+      (is_number number (0 + length (written_items w.form front) + length left) (omega (arith, before)))
+    ∙ none_inside w.form 0 (length left) front behind one some (omega (arith, long))
+  where
+    is_number : (a b : ℕ) → a ≡ b → a ≡ b
+    is_number a b is = is
+
+-- the frame behind an item flows into the next one
+flows_next : (w : Writing) (number : ℕ) (item : WItem) (frame : Frame)
+    → StandsAt w number item
+    → had_in w number (comes w number) ≡ Some frame
+    → comes w (suc number) ≡ flows_on (point_in w number item) frame
+flows_next w number item frame at is =
+    ap (λ point. flows_from point (had_in w number (comes w number))) (point_stands w number item at)
+    ∙ ap (flows_from (Some (point_in w number item))) is
+
+-- what holds of the items behind a block
+abbrev pub HoldsBehind : Writing → ℕ → Option Frame → List WItem → Type 0
+HoldsBehind w end last rest = (number : ℕ) → number ≡ end → comes w number ≡ last → HoldFrom w number rest
+
+-- items inside of a block, behind its first
+pub hold_inside : (w : Writing) (front behind : List Finished) (one : Finished) (end number : ℕ) (left right rest : List WItem)
+    (frame : Frame) (last : Option Frame)
+    → Inside w front behind one number left right
+    → 0 < length left
+    → end ≡ length (written_items w.form front) + length (block_items w.form one)
+    → comes w number ≡ Some frame
+    → Carries w number right frame last
+    → HoldsBehind w end last rest
+    → HoldFrom w number (right ++ rest)
+hold_inside w front behind one end number left [] rest frame last inside some end_is flow (carries_none other others) more =
+    let long = ap length inside.items ∙ length-append left [] in
+    let before = inside.number_is in
+    more number (omega (arith, long, before, end_is)) flow
+hold_inside w front behind one end number left (item ∷ right) rest frame last inside some end_is flow
+    (carries_on other item_too others frame_too next last_too holds flows carried) more =
+    let none = not_stated w front behind one number left right item inside some in
+    let stated : frame_of_item w.s.flat w.form w.blocks number ≡ None =
+        ap (λ found. option_map (λ one. frame_by_item w.form w.blocks (written_frame w.s.flat one.block)) found) none in
+    let nothing : stated_in w number (comes w number) ≡ None = rw (stated) refl in
+    let is_frame : had_in w number (comes w number) ≡ Some frame = rw (nothing) flow in
+    (record {
+      frame = frame;
+      is_frame = is_frame;
+      reaches = subst (λ (from : Option Frame). ReachesFrame w from frame (stated_in w number (comes w number))) (sym flow)
+          (subst (Reaches (scope_in w) frame frame) (sym nothing) refl);
+      holds = holds;
+    },
+    hold_inside w front behind one end (suc number) (left ++ (item ∷ [])) right rest next last
+    (next_inside w front behind one number left right item inside)
+    (let long = length-append left (item ∷ []) in omega (arith, long)) end_is
+    (flows_next w number item frame (stands_inside w front behind one number left right item inside) is_frame ∙ flows) carried more)
+hold_inside w front behind one end number left (item ∷ []) rest frame last inside some end_is flow
+    (carries_away other item_too frame_too holds flows) more =
+    let none = not_stated w front behind one number left [] item inside some in
+    let stated : frame_of_item w.s.flat w.form w.blocks number ≡ None =
+        ap (λ found. option_map (λ one. frame_by_item w.form w.blocks (written_frame w.s.flat one.block)) found) none in
+    let nothing : stated_in w number (comes w number) ≡ None = rw (stated) refl in
+    let is_frame : had_in w number (comes w number) ≡ Some frame = rw (nothing) flow in
+    let long = ap length inside.items ∙ length-append left (item ∷ []) in
+    let before = inside.number_is in
+    (record {
+      frame = frame;
+      is_frame = is_frame;
+      reaches = subst (λ (from : Option Frame). ReachesFrame w from frame (stated_in w number (comes w number))) (sym flow)
+          (subst (Reaches (scope_in w) frame frame) (sym nothing) refl);
+      holds = holds;
+    },
+    more (suc number) (omega (arith, long, before, end_is))
+    (flows_next w number item frame (stands_inside w front behind one number left [] item inside) is_frame ∙ flows))
+
+-- the items of a block with items
+pub hold_block : (w : Writing) (front behind : List Finished) (one : Finished) (end number : ℕ) (items rest : List WItem) (last : Option Frame)
+    (begins : BeginsWith w number one (comes w number))
+    → Inside w front behind one number [] items
+    → is_empty items ≡ false
+    → end ≡ length (written_items w.form front) + length (block_items w.form one)
+    → Carries w number items begins.frame last
+    → HoldsBehind w end last rest
+    → HoldFrom w number (items ++ rest)
+hold_block w front behind one end number [] rest last begins inside some end_is carried more = absurd (true≢false some)
+hold_block w front behind one end number (item ∷ right) rest last begins inside some end_is
+    (carries_on other item_too others frame_too next last_too holds flows carried) more =
+    (record { frame = begins.frame; is_frame = begins.is_frame; reaches = begins.reaches; holds = holds },
+    hold_inside w front behind one end (suc number) (item ∷ []) right rest next last
+    (next_inside w front behind one number [] right item inside) (omega arith) end_is
+    (flows_next w number item begins.frame (stands_inside w front behind one number [] right item inside) begins.is_frame ∙ flows) carried more)
+hold_block w front behind one end number (item ∷ []) rest last begins inside some end_is
+    (carries_away other item_too frame_too holds flows) more =
+    let long = ap length inside.items in
+    let before = inside.number_is in
+    (record { frame = begins.frame; is_frame = begins.is_frame; reaches = begins.reaches; holds = holds },
+    more (suc number) (omega (arith, long, before, end_is))
+    (flows_next w number item begins.frame (stands_inside w front behind one number [] [] item inside) begins.is_frame ∙ flows))
+
+-- ---- all blocks
+
+abbrev pub ArriveAt : Writing → Option Frame → List Finished → Type 0
+ArriveAt w None behind = Unit {0}
+ArriveAt w (Some flow) [] = ⊥
+ArriveAt w (Some flow) (one ∷ behind) = FitsBefore w flow one
+
+arrives_next : (w : Writing) (flow : Option Frame) (one : Finished) (behind : List Finished)
+    → GoesOn w one behind
+    → ArriveAt w flow (one ∷ behind)
+    → ArriveAt w flow behind
+arrives_next w None one behind goes arrives = tt
+arrives_next w (Some flow) one behind goes arrives =
+    subst (ArriveAt w (Some flow)) (sym goes.is) (fits_next w flow one behind goes arrives)
+
+arrives_at_one : (w : Writing) (flow : Option Frame) (one : Finished) (behind : List Finished)
+    → ArriveAt w flow (one ∷ behind)
+    → Arrives w flow one
+arrives_at_one w None one behind arrives = tt
+arrives_at_one w (Some flow) one behind arrives = arrives
+
+goes_arrives : (w : Writing) (flow : Option Frame) (behind : List Finished) → GoesBehind w flow behind → ArriveAt w flow behind
+goes_arrives w None behind goes = tt
+goes_arrives w (Some flow) [] goes = goes
+goes_arrives w (Some flow) (one ∷ behind) goes = goes
+
+nothing_comes : (w : Writing) (flow : Option Frame) → ArriveAt w flow [] → flow ≡ None
+nothing_comes w None arrives = refl
+nothing_comes w (Some flow) arrives = absurd arrives
+
+block_starts : (w : Writing) (front behind : List Finished) (one : Finished)
+    → w.blocks ≡ front ++ (one ∷ behind)
+    → is_empty (block_items w.form one) ≡ false
+    → frame_of_item w.s.flat w.form w.blocks (length (written_items w.form front)) ≡ Some (frame_in w one)
+block_starts w front behind one is some =
+    ap (λ found. option_map (λ one. frame_by_item w.form w.blocks (written_frame w.s.flat one.block)) found)
+    (ap (block_from w.form (length (written_items w.form front)) 0) is
+    ∙ ap (λ (n : ℕ). block_from w.form n 0 (front ++ (one ∷ behind)))
+      (is_number (length (written_items w.form front)) (0 + length (written_items w.form front)) (omega arith))
+    ∙ block_at w.form 0 front behind one some)
+  where
+    is_number : (a b : ℕ) → a ≡ b → a ≡ b
+    is_number a b is = is
+
+pub hold_all : (w : Writing) (all : AllCarry w) (behind front : List Finished)
+    → w.blocks ≡ front ++ behind
+    → ArriveAt w (comes w (length (written_items w.form front))) behind
+    → HoldFrom w (length (written_items w.form front)) (written_items w.form behind)
+hold_all w all [] front is arrives = nothing_comes w _ arrives
+hold_all w all (one ∷ behind) front is arrives =
+    by (is_empty (block_items w.form one)) refl (hold_all w all behind (front ++ (one ∷ [])) (is ∙ sym (append_assoc front (one ∷ []) behind)))
+  where
+    long : length (written_items w.form (front ++ (one ∷ []))) ≡ length (written_items w.form front) + length (block_items w.form one)
+    long =
+        let apart = ap length (written_apart w.form front (one ∷ [])) ∙ length-append (written_items w.form front) (written_items w.form (one ∷ [])) in
+        let alone = length-append (block_items w.form one) [] in
+        omega (arith, apart, alone)
+
+    by : (b : Bool) → is_empty (block_items w.form one) ≡ b
+        → (ArriveAt w (comes w (length (written_items w.form (front ++ (one ∷ []))))) behind
+        → HoldFrom w (length (written_items w.form (front ++ (one ∷ [])))) (written_items w.form behind))
+        → HoldFrom w (length (written_items w.form front)) (written_items w.form (one ∷ behind))
+    by true none rest =
+        let items = no_items_of (block_items w.form one) none in
+        let count = ap length items in
+        let same : length (written_items w.form (front ++ (one ∷ []))) ≡ length (written_items w.form front) = omega (arith, long, count) in
+        subst (HoldFrom w (length (written_items w.form front))) (ap (λ (xs : List WItem). xs ++ written_items w.form behind) (sym items))
+        (subst (λ (n : ℕ). HoldFrom w n (written_items w.form behind)) same
+        (rest (subst (λ (n : ℕ). ArriveAt w (comes w n) behind) (sym same)
+        (arrives_next w _ one behind (all.empties front behind one is none) arrives))))
+      where
+        no_items_of : (items : List WItem) → is_empty items ≡ true → items ≡ []
+        no_items_of [] e = refl
+        no_items_of (first ∷ items) e = absurd (false≢true e)
+    by false some rest =
+        let number = length (written_items w.form front) in
+        let begins = begins_with w number one (comes w number) (is_led_to (items_in w) number) refl (block_starts w front behind one is some)
+            (all.no_this front behind one is) (arrives_at_one w _ one behind arrives) in
+        let carried = all.carries front behind one begins.frame is begins.agrees (all.fresh front behind one begins.frame is begins.is_frame) in
+        hold_block w front behind one (length (written_items w.form (front ++ (one ∷ [])))) number (block_items w.form one)
+        (written_items w.form behind) carried.last begins
+        (record { is = is; items = refl; number_is = omega arith }) some long carried.carries
+        (λ next same flow. subst (λ (n : ℕ). HoldFrom w n (written_items w.form behind)) (sym same)
+        (rest (subst (λ (from : Option Frame). ArriveAt w from behind) (sym (sym (ap (comes w) same) ∙ flow)) (goes_arrives w carried.last behind carried.goes))))
+
+-- all items of the code
+pub all_hold : (w : Writing) → AllCarry w → HoldFrom w 0 (written_items w.form w.blocks)
+all_hold w all =
+    hold_all w all w.blocks [] refl (subst (ArriveAt w (Some (entry_in w))) (sym all.begins.is) all.begins.fits)

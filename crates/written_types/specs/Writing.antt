@@ -75,7 +75,7 @@ flows_from (Some point) None = None
 flows_from (Some point) (Some frame) = flows_on point frame
 
 -- What flows into an item, if it can be reached from the one before it.
-pub comes : Writing → ℕ → Option Frame
+abbrev pub comes : Writing → ℕ → Option Frame
 comes w zero = Some (entry_in w)
 comes w (suc number) = flows_from (slice_get (points_in w) number) (had_in w number (comes w number))
 
