@@ -202,7 +202,7 @@ not_stated w front behind one number left right item inside some =
     is_number a b is = is
 
 -- the frame behind an item flows into the next one
-flows_next : (w : Writing) (number : ℕ) (item : WItem) (frame : Frame)
+pub flows_next : (w : Writing) (number : ℕ) (item : WItem) (frame : Frame)
     → StandsAt w number item
     → had_in w number (comes w number) ≡ Some frame
     → comes w (suc number) ≡ flows_on (point_in w number item) frame
@@ -319,7 +319,7 @@ nothing_comes : (w : Writing) (flow : Option Frame) → ArriveAt w flow [] → f
 nothing_comes w None arrives = refl
 nothing_comes w (Some flow) arrives = absurd arrives
 
-block_starts : (w : Writing) (front behind : List Finished) (one : Finished)
+pub block_starts : (w : Writing) (front behind : List Finished) (one : Finished)
     → w.blocks ≡ front ++ (one ∷ behind)
     → is_empty (block_items w.form one) ≡ false
     → frame_of_item w.s.flat w.form w.blocks (length (written_items w.form front)) ≡ Some (frame_in w one)

@@ -16,3 +16,5 @@ mod Ways
 mod AgreeingFrames
 mod ItemPlaces
 mod CarriedBlocks
+mod FramedBodies
+mod TypedBodies
