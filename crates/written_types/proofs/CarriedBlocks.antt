@@ -76,9 +76,6 @@ HoldFrom w number (one ∷ others) = PointHolds w number one × HoldFrom w (suc 
 
 -- ---- over blocks without items
 
-keeps_top : (w : Writing) → Type 0
-keeps_top w = Unit {0}
-
 pub fits_next : (w : Writing) (frame : Frame) (one : Finished) (behind : List Finished) (goes : GoesOn w one behind)
     → FitsBefore w frame one
     → FitsBefore w frame goes.next

@@ -16,7 +16,7 @@ use Rattle.plan_flow.specs.Written.WrittenConstants.{indexed_item}
 use Rattle.written_types.proofs.CarriedBlocks.{AllCarry, HoldFrom, PointHolds, all_hold, flows_next}
 use Rattle.written_types.proofs.FramedBodies.{AreHad, From, Known, body_in, flows_from_there, frame_at_number, frame_there, known_of, leads_stated, leads_to_item, next_from, reaches_there, same_flow, stands_from}
 use Rattle.written_types.proofs.ItemPlaces.{StandsAt, numbered_long}
-use Rattle.written_types.specs.Writing.{LeadsIn, Writing, comes, had_in, items_in, point_in, scope_in, stated_in}
+use Rattle.written_types.specs.Writing.{IsDeepEnough, LeadsIn, Writing, comes, had_in, items_in, point_in, scope_in, stated_in}
 
 -- ---- targets and handlers
 
@@ -80,15 +80,22 @@ handlers_go w state frames number one frame known at left (catch ∷ right) is a
 
 point_fits : (w : Writing) (state : ℕ → Option Frame) (frames : List Frame) (number : ℕ) (left right : List WItem) (one : WItem)
     → Known w state frames
+    → IsDeepEnough w
     → From w number left (one ∷ right)
     → HoldFrom w number (one ∷ right)
     → PointFits (body_in w state) frames (point_in w number one)
-point_fits w state frames number left right one known from holds =
+point_fits w state frames number left right one known deep from holds =
     let at = stands_from w number left right one from in
     record {
       frame = holds.0.frame;
       is_at = frame_there w state frames number one known at holds.0;
-      row = holds.0.holds.row;
+      row = record {
+        operands = holds.0.holds.row.operands;
+        local = holds.0.holds.row.local;
+        depth_fits = deep number left right one holds.0.frame from.is from.number_is holds.0.is_frame;
+        further = holds.0.holds.row.further;
+        access = holds.0.holds.row.access;
+      };
       next =
           subst (λ (n : ℕ). FlowsInto (body_in w state) frames n (flows_on (point_in w number one) holds.0.frame))
           (the_same (suc number) (number + 1) (omega arith))
@@ -103,15 +110,16 @@ point_fits w state frames number left right one known from holds =
 
 points_fit : (w : Writing) (state : ℕ → Option Frame) (frames : List Frame) (number : ℕ) (left right : List WItem)
     → Known w state frames
+    → IsDeepEnough w
     → From w number left right
     → HoldFrom w number right
     → AllByRecursion (PointFits (body_in w state) frames)
       (map_numbered (item_body w.pool (scope_in w)) number
       (map_numbered (indexed_item w.s w.constructor w.pool w.form w.blocks) number right))
-points_fit w state frames number left [] known from holds = tt
-points_fit w state frames number left (one ∷ right) known from holds =
-    (point_fits w state frames number left right one known from holds,
-    points_fit w state frames (suc number) (left ++ (one ∷ [])) right known (next_from w number left right one from) holds.1)
+points_fit w state frames number left [] known deep from holds = tt
+points_fit w state frames number left (one ∷ right) known deep from holds =
+    (point_fits w state frames number left right one known deep from holds,
+    points_fit w state frames (suc number) (left ++ (one ∷ [])) right known deep (next_from w number left right one from) holds.1)
 
 -- ---- the whole
 
@@ -128,10 +136,11 @@ begins w (one ∷ items) holds = refl
 -- Frames that are those of written code type its body.
 pub frames_type : (w : Writing) (state : ℕ → Option Frame) (frames : List Frame)
     → AllCarry w
+    → IsDeepEnough w
     → AllByRecursion (λ caught. IsThrowable (scope_in w).headers caught.class) (item_table w.pool 0 (items_in w))
     → IsFramed w.s.flat w.form w.blocks (items_in w) (body_in w state) frames
     → HasFrames (body_in w state) frames
-frames_type w state frames all catches framed =
+frames_type w state frames all deep catches framed =
     let holds = all_hold w all in
     let known = known_of w state frames all framed in
     record {
@@ -144,7 +153,7 @@ frames_type w state frames all catches framed =
       entry =
           subst (λ (n : ℕ). FlowsInto (body_in w state) frames n (comes w 0)) (sym (begins w (written_items w.form w.blocks) holds))
           (flows_from_there w state frames 0 [] (written_items w.form w.blocks) _ known (all_from w) holds refl);
-      points = points_fit w state frames 0 [] (written_items w.form w.blocks) known (all_from w) holds;
+      points = points_fit w state frames 0 [] (written_items w.form w.blocks) known deep (all_from w) holds;
     }
 
 -- ---- there are such frames

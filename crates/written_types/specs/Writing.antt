@@ -2,6 +2,7 @@
 -- with which the block can begin to the block behind it. It is this project's profile.
 use Rattle.std.specs.Prelude.{◌≡◌, ◌≢◌, ◌⊎◌, ◌+◌, ◌≤◌, ◌<◌, ℕ, zero, suc, Bool, List, [], ◌∷◌, ◌++◌, length, slice_get, Option, Some, None}
 use Rattle.std.specs.List.{AllByRecursion}
+use Rattle.class_model.specs.Frames.{depth}
 use Rattle.class_model.specs.Pool.{Constants}
 use Rattle.class_model.specs.declared.frame.Frame.{Frame}
 use Rattle.class_model.specs.declared.frame.VType.{VType}
@@ -10,10 +11,11 @@ use Rattle.class_tree.specs.Headers.{Name}
 use Rattle.making_code.specs.IndexedItems.{IndexedItem}
 use Rattle.making_code.specs.Items.{WItem}
 use Rattle.member_link.specs.Bodies.{BodyPoint, catch_frame, flows_on, frame_behind, item_targets, point_row}
-use Rattle.member_link.specs.BodyTyping.{RowHolds}
 use Rattle.member_link.specs.Machine.Replaced.{map_numbered}
 use Rattle.member_link.specs.RowScope.{RowScope}
 use Rattle.member_link.specs.Rows.Assigning.{IsFrameAssignableIn}
+use Rattle.member_link.specs.Rows.Operands.{AllFit, topmost}
+use Rattle.member_link.specs.Rows.Row.{Row, stack_behind}
 use Rattle.member_link.specs.Scope.{Scope, row_scope}
 use Rattle.class_model.specs.Methods.{entry_of, home_of}
 use Rattle.flow_code.specs.WrittenUnits.{written_units}
@@ -122,9 +124,16 @@ pub record LeadsIn (w : Writing) (frame : Option Frame) (to : ℕ) : Type 0 wher
   pub placed : IsPlaced w to block
   pub fits : FitsBefore w goes block
 
--- The row of an item holds behind a frame, and its jumps and handlers lead to blocks whose frames fit.
+-- The rule of an item has a value behind a frame, whatever its stack's depth.
+pub record RowFits (s : RowScope) (f : Frame) (row : Row) : Type 0 where
+  pub operands : AllFit s row.takes (topmost (length row.takes) f.stack)
+  pub local : row.local
+  pub further : row.further
+  pub access : row.access
+
+-- The row of an item fits behind a frame, and its jumps and handlers lead to blocks whose frames fit.
 pub record ItemHolds (w : Writing) (number : ℕ) (one : WItem) (frame : Frame) : Type 0 where
-  pub row : RowHolds (scope_in w) frame (point_row (point_in w number one) frame)
+  pub row : RowFits (scope_in w) frame (point_row (point_in w number one) frame)
   pub targets :
       AllByRecursion (LeadsIn w (frame_behind (point_in w number one) frame))
       (item_targets (point_in w number one).item)
@@ -157,3 +166,14 @@ pub record BlockCarries (w : Writing) (number : ℕ) (one : Finished) (behind : 
   pub last : Option Frame
   pub carries : Carries w number (block_items w.form one) frame last
   pub goes : GoesBehind w last behind
+
+-- ---- the depth of the stack
+
+-- Behind each item the stack of the frame that it has is within the greatest depth.
+abbrev pub IsDeepEnough : Writing → Type 0
+IsDeepEnough w =
+    (number : ℕ) (front behind : List WItem) (one : WItem) (frame : Frame)
+    → written_items w.form w.blocks ≡ front ++ (one ∷ behind)
+    → number ≡ length front
+    → had_in w number (comes w number) ≡ Some frame
+    → depth (stack_behind frame (point_row (point_in w number one) frame)) ≤ w.max_stack
