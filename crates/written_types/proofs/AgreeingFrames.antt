@@ -1,7 +1,7 @@
 -- Frames that agree with a written frame: what flows in where none differs, and what flows over blocks without items.
-use Rattle.std.proofs.Common.{◌≡◌, ◌≢◌, ◌⊎◌, ℕ, zero, suc, Bool, true, false, List, [], ◌∷◌, length, map, IsTrue, refl, sym, ap, subst, ◌∙◌, inl, inr, rules}
+use Rattle.std.proofs.Common.{◌≡◌, ◌≢◌, ◌⊎◌, suc, Bool, true, false, List, [], ◌∷◌, length, map, IsTrue, refl, sym, subst, ◌∙◌, inl, inr, rules}
 use Rattle.std.specs.List.{AllByRecursion, list_any}
-use Rattle.std.proofs.lemmas.Bool.{false≢true, true≢false}
+use Rattle.std.proofs.lemmas.Bool.{false≢true}
 use Rattle.class_model.specs.Frames.{is_top}
 use Rattle.class_model.specs.contracts.frame.VTypePartialEq.TheImpl.{ghosts as comparison}
 use Rattle.class_model.specs.declared.frame.Frame.{Frame}
@@ -11,7 +11,7 @@ use Rattle.class_tree.specs.Headers.{Headers}
 use Rattle.making_code.specs.StateFrames.{differ, differs_in}
 use Rattle.member_link.specs.Assignability.{IsAssignable, from_null, of_names, to_same, to_top}
 use Rattle.member_link.specs.Rows.FrameAssignability.{AreAssignable, is_uninit_this}
-use Rattle.written_types.specs.Writing.{AgreeIn, Agrees}
+use Rattle.written_types.specs.Writing.{AgreeIn}
 
 -- ---- lists of types
 
@@ -79,12 +79,14 @@ none_differ_assignable headers change lows [] (other ∷ others) keeps long assi
 none_differ_assignable headers change lows (one ∷ ones) [] keeps long assignable none = absurd cc
 none_differ_assignable headers change [] (one ∷ ones) (other ∷ others) keeps long assignable none = absurd assignable
 none_differ_assignable headers change (low ∷ lows) (one ∷ ones) (other ∷ others) keeps long assignable none =
-    let parts = none_differs one other ones others none in
-    (elim parts.here [
-      | inl top ↦ subst (λ (type : VType). IsAssignable headers low (change type)) (sym top)
+    let parts = none_differs one other ones others none in (
+      elim parts.here [
+        | inl top ↦ subst (λ (type : VType). IsAssignable headers low (change type)) (sym top)
             (subst (IsAssignable headers low) (sym keeps) (to_top low))
-      | inr same ↦ subst (λ (type : VType). IsAssignable headers low (change type)) same assignable.0
-    ], none_differ_assignable headers change lows ones others keeps (same_tails long) assignable.1 parts.rest)
+        | inr same ↦ subst (λ (type : VType). IsAssignable headers low (change type)) same assignable.0
+      ],
+      none_differ_assignable headers change lows ones others keeps (same_tails long) assignable.1 parts.rest,
+    )
   where
     same_tails : suc (length ones) ≡ suc (length others) → length ones ≡ length others
     same_tails e = cc
@@ -104,11 +106,13 @@ agreeing_assignable headers [] [] others agree assignable = assignable
 agreeing_assignable headers [] (one ∷ written) others agree assignable = absurd agree
 agreeing_assignable headers (one ∷ ones) [] others agree assignable = absurd agree
 agreeing_assignable headers (one ∷ ones) (other ∷ written) [] agree assignable = absurd assignable
-agreeing_assignable headers (one ∷ ones) (other ∷ written) (high ∷ highs) agree assignable =
-    (elim agree.0 [
-      | inl top ↦ from_top headers one other high top assignable.0
-      | inr same ↦ subst (λ (type : VType). IsAssignable headers type high) (sym same) assignable.0
-    ], agreeing_assignable headers ones written highs agree.1 assignable.1)
+agreeing_assignable headers (one ∷ ones) (other ∷ written) (high ∷ highs) agree assignable = (
+  elim agree.0 [
+    | inl top ↦ from_top headers one other high top assignable.0
+    | inr same ↦ subst (λ (type : VType). IsAssignable headers type high) (sym same) assignable.0
+  ],
+  agreeing_assignable headers ones written highs agree.1 assignable.1,
+)
 
 -- ---- no uninitialised this
 

@@ -1,23 +1,21 @@
 -- Where the items of each block carry each frame with which the block can begin, all items hold, one block after the other.
-use Rattle.std.proofs.Common.{◌≡◌, ◌≢◌, ◌⊎◌, ◌+◌, ◌==◌, ◌||◌, ◌≤◌, ◌<◌, ℕ, zero, suc, Bool, true, false, List, [], ◌∷◌, ◌++◌, length, map, slice_get, Option, Some, None, option_map, refl, sym, ap, subst, ◌∙◌, arith, inl, inr}
-use Rattle.std.specs.List.{AllByRecursion, list_any}
+use Rattle.std.proofs.Common.{◌≡◌, ◌≢◌, ◌+◌, ◌<◌, ℕ, suc, Bool, true, false, List, [], ◌∷◌, ◌++◌, length, Option, Some, None, option_map, refl, sym, ap, subst, ◌∙◌, arith}
+use Rattle.std.specs.List.{AllByRecursion}
 use Rattle.std.proofs.lemmas.Bool.{false≢true, true≢false}
-use Rattle.std.proofs.lemmas.Option.{none-some, same_Some}
-use Rattle.std.proofs.lemmas.List.{append-nil, append_assoc, length-append}
+use Rattle.std.proofs.lemmas.List.{append_assoc, length-append}
 use Rattle.class_model.specs.declared.frame.Frame.{Frame}
-use Rattle.class_model.specs.declared.frame.VType.{VType}
 use Rattle.class_model.specs.declared.frame.VType.TheVariants.{UninitThis}
 use Rattle.making_code.specs.Items.{WItem}
 use Rattle.making_code.specs.StateFrames.{differ}
 use Rattle.member_link.specs.Bodies.{flows_on}
 use Rattle.member_link.specs.BodyTyping.{Reaches}
 use Rattle.plan_flow.specs.Written.Finish.{Finished, is_empty}
-use Rattle.plan_flow.specs.Written.FramedCode.{block_from, frame_by_item, frame_had, frame_of_item, is_led_to, stands, stated_by, type_by_item}
+use Rattle.plan_flow.specs.Written.FramedCode.{block_from, frame_by_item, frame_of_item, is_led_to, stands, type_by_item}
 use Rattle.plan_flow.specs.Written.WrittenCode.{block_items, written_items}
 use Rattle.plan_flow.specs.Written.WrittenFrames.{written_frame}
-use Rattle.written_types.proofs.AgreeingFrames.{agrees_with_itself, assignable_to_itself, keeps_no_this, no_differs, none_differ_agree, none_differ_assignable}
+use Rattle.written_types.proofs.AgreeingFrames.{agrees_with_itself, keeps_no_this, no_differs, none_differ_agree, none_differ_assignable}
 use Rattle.written_types.proofs.ItemPlaces.{StandsAt, block_at, none_inside, point_stands, written_apart}
-use Rattle.written_types.specs.Writing.{Agrees, BlockCarries, Carries, FitsBefore, GoesBehind, IsFresh, IsPlaced, ItemHolds, Writing, carries_away, carries_none, carries_on, comes, entry_in, flows_from, frame_in, had_in, items_in, point_in, points_in, scope_in, stated_in}
+use Rattle.written_types.specs.Writing.{Agrees, BlockCarries, Carries, FitsBefore, GoesBehind, IsFresh, ItemHolds, Writing, carries_away, carries_none, carries_on, comes, entry_in, flows_from, frame_in, had_in, items_in, point_in, scope_in, stated_in}
 
 -- ---- what is proved of blocks, apart from each other
 
@@ -192,7 +190,7 @@ not_stated w front behind one number left right item inside some =
     let before = inside.number_is in
     ap (block_from w.form number 0) inside.is
     ∙ ap (λ (n : ℕ). block_from w.form n 0 (front ++ (one ∷ behind)))
-      (is_number number (0 + length (written_items w.form front) + length left) (omega (arith, before)))
+    (is_number number (0 + length (written_items w.form front) + length left) (omega (arith, before)))
     ∙ none_inside w.form 0 (length left) front behind one some (omega (arith, long))
   where
     is_number : (a b : ℕ) → a ≡ b → a ≡ b
@@ -229,38 +227,40 @@ hold_inside w front behind one end number left (item ∷ right) rest frame last 
     (carries_on other item_too others frame_too next last_too holds flows carried) more =
     let none = not_stated w front behind one number left right item inside some in
     let stated : frame_of_item w.s.flat w.form w.blocks number ≡ None =
-        ap (λ found. option_map (λ one. frame_by_item w.form w.blocks (written_frame w.s.flat one.block)) found) none in
+    ap (λ found. option_map (λ one. frame_by_item w.form w.blocks (written_frame w.s.flat one.block)) found) none in
     let nothing : stated_in w number (comes w number) ≡ None = rw (stated) refl in
-    let is_frame : had_in w number (comes w number) ≡ Some frame = rw (nothing) flow in
-    (record {
-      frame = frame;
-      is_frame = is_frame;
-      reaches = subst (λ (from : Option Frame). ReachesFrame w from frame (stated_in w number (comes w number))) (sym flow)
-          (subst (Reaches (scope_in w) frame frame) (sym nothing) refl);
-      holds = holds;
-    },
-    hold_inside w front behind one end (suc number) (left ++ (item ∷ [])) right rest next last
-    (next_inside w front behind one number left right item inside)
-    (let long = length-append left (item ∷ []) in omega (arith, long)) end_is
-    (flows_next w number item frame (stands_inside w front behind one number left right item inside) is_frame ∙ flows) carried more)
+    let is_frame : had_in w number (comes w number) ≡ Some frame = rw (nothing) flow in (
+      record {
+        frame = frame;
+        is_frame = is_frame;
+        reaches = subst (λ (from : Option Frame). ReachesFrame w from frame (stated_in w number (comes w number))) (sym flow)
+            (subst (Reaches (scope_in w) frame frame) (sym nothing) refl);
+        holds = holds;
+      },
+      hold_inside w front behind one end (suc number) (left ++ (item ∷ [])) right rest next last
+          (next_inside w front behind one number left right item inside)
+          (let long = length-append left (item ∷ []) in omega (arith, long)) end_is
+          (flows_next w number item frame (stands_inside w front behind one number left right item inside) is_frame ∙ flows) carried more,
+    )
 hold_inside w front behind one end number left (item ∷ []) rest frame last inside some end_is flow
     (carries_away other item_too frame_too holds flows) more =
     let none = not_stated w front behind one number left [] item inside some in
     let stated : frame_of_item w.s.flat w.form w.blocks number ≡ None =
-        ap (λ found. option_map (λ one. frame_by_item w.form w.blocks (written_frame w.s.flat one.block)) found) none in
+    ap (λ found. option_map (λ one. frame_by_item w.form w.blocks (written_frame w.s.flat one.block)) found) none in
     let nothing : stated_in w number (comes w number) ≡ None = rw (stated) refl in
     let is_frame : had_in w number (comes w number) ≡ Some frame = rw (nothing) flow in
     let long = ap length inside.items ∙ length-append left (item ∷ []) in
-    let before = inside.number_is in
-    (record {
-      frame = frame;
-      is_frame = is_frame;
-      reaches = subst (λ (from : Option Frame). ReachesFrame w from frame (stated_in w number (comes w number))) (sym flow)
-          (subst (Reaches (scope_in w) frame frame) (sym nothing) refl);
-      holds = holds;
-    },
-    more (suc number) (omega (arith, long, before, end_is))
-    (flows_next w number item frame (stands_inside w front behind one number left [] item inside) is_frame ∙ flows))
+    let before = inside.number_is in (
+      record {
+        frame = frame;
+        is_frame = is_frame;
+        reaches = subst (λ (from : Option Frame). ReachesFrame w from frame (stated_in w number (comes w number))) (sym flow)
+            (subst (Reaches (scope_in w) frame frame) (sym nothing) refl);
+        holds = holds;
+      },
+      more (suc number) (omega (arith, long, before, end_is))
+          (flows_next w number item frame (stands_inside w front behind one number left [] item inside) is_frame ∙ flows),
+    )
 
 -- the items of a block with items
 pub hold_block : (w : Writing) (front behind : List Finished) (one : Finished) (end number : ℕ) (items rest : List WItem) (last : Option Frame)
@@ -273,18 +273,20 @@ pub hold_block : (w : Writing) (front behind : List Finished) (one : Finished) (
     → HoldFrom w number (items ++ rest)
 hold_block w front behind one end number [] rest last begins inside some end_is carried more = absurd (true≢false some)
 hold_block w front behind one end number (item ∷ right) rest last begins inside some end_is
-    (carries_on other item_too others frame_too next last_too holds flows carried) more =
-    (record { frame = begins.frame; is_frame = begins.is_frame; reaches = begins.reaches; holds = holds },
-    hold_inside w front behind one end (suc number) (item ∷ []) right rest next last
-    (next_inside w front behind one number [] right item inside) (omega arith) end_is
-    (flows_next w number item begins.frame (stands_inside w front behind one number [] right item inside) begins.is_frame ∙ flows) carried more)
+    (carries_on other item_too others frame_too next last_too holds flows carried) more = (
+      record { frame = begins.frame; is_frame = begins.is_frame; reaches = begins.reaches; holds = holds },
+      hold_inside w front behind one end (suc number) (item ∷ []) right rest next last
+          (next_inside w front behind one number [] right item inside) (omega arith) end_is
+          (flows_next w number item begins.frame (stands_inside w front behind one number [] right item inside) begins.is_frame ∙ flows) carried more,
+    )
 hold_block w front behind one end number (item ∷ []) rest last begins inside some end_is
     (carries_away other item_too frame_too holds flows) more =
     let long = ap length inside.items in
-    let before = inside.number_is in
-    (record { frame = begins.frame; is_frame = begins.is_frame; reaches = begins.reaches; holds = holds },
-    more (suc number) (omega (arith, long, before, end_is))
-    (flows_next w number item begins.frame (stands_inside w front behind one number [] [] item inside) begins.is_frame ∙ flows))
+    let before = inside.number_is in (
+      record { frame = begins.frame; is_frame = begins.is_frame; reaches = begins.reaches; holds = holds },
+      more (suc number) (omega (arith, long, before, end_is))
+          (flows_next w number item begins.frame (stands_inside w front behind one number [] [] item inside) begins.is_frame ∙ flows),
+    )
 
 -- ---- all blocks
 
@@ -324,7 +326,7 @@ block_starts w front behind one is some =
     ap (λ found. option_map (λ one. frame_by_item w.form w.blocks (written_frame w.s.flat one.block)) found)
     (ap (block_from w.form (length (written_items w.form front)) 0) is
     ∙ ap (λ (n : ℕ). block_from w.form n 0 (front ++ (one ∷ behind)))
-      (is_number (length (written_items w.form front)) (0 + length (written_items w.form front)) (omega arith))
+    (is_number (length (written_items w.form front)) (0 + length (written_items w.form front)) (omega arith))
     ∙ block_at w.form 0 front behind one some)
   where
     is_number : (a b : ℕ) → a ≡ b → a ≡ b
@@ -363,7 +365,7 @@ hold_all w all (one ∷ behind) front is arrives =
     by false some rest =
         let number = length (written_items w.form front) in
         let begins = begins_with w number one (comes w number) (is_led_to (items_in w) number) refl (block_starts w front behind one is some)
-            (all.no_this front behind one is) (arrives_at_one w _ one behind arrives) in
+        (all.no_this front behind one is) (arrives_at_one w _ one behind arrives) in
         let carried = all.carries front behind one begins.frame is begins.agrees (all.fresh front behind one begins.frame is begins.is_frame) in
         hold_block w front behind one (length (written_items w.form (front ++ (one ∷ [])))) number (block_items w.form one)
         (written_items w.form behind) carried.last begins

@@ -1,22 +1,22 @@
 -- Frames of written code type it, and there are such frames, where all its items hold.
-use Rattle.std.proofs.Common.{◌≡◌, ◌≢◌, ◌+◌, ◌==◌, ◌||◌, ◌≤◌, ◌<◌, ℕ, zero, suc, Bool, true, false, List, [], ◌∷◌, ◌++◌, length, map, slice_get, Option, Some, None, IsSome, option_map, refl, sym, ap, subst, ◌∙◌, arith}
-use Rattle.std.specs.List.{AllByRecursion, list_any}
-use Rattle.std.proofs.lemmas.Bool.{eq-eqb, eqb-true, false≢true, true≢false}
+use Rattle.std.proofs.Common.{◌≡◌, ◌≢◌, ◌+◌, ◌==◌, ℕ, zero, suc, Bool, true, false, List, [], ◌∷◌, ◌++◌, length, slice_get, Option, Some, None, IsSome, refl, sym, ap, subst, ◌∙◌, arith}
+use Rattle.std.specs.List.{list_any}
+use Rattle.std.proofs.lemmas.Bool.{eq-eqb, eqb-true, false≢true}
 use Rattle.std.proofs.lemmas.Option.{none-some, same_Some}
 use Rattle.std.proofs.lemmas.List.{append-nil, append_assoc, length-append}
 use Rattle.class_model.specs.declared.frame.Frame.{Frame}
 use Rattle.making_code.specs.IndexedItems.{IndexedItem}
 use Rattle.making_code.specs.Items.{WItem}
-use Rattle.member_link.specs.Bodies.{Body, BodyCatch, BodyPoint, catch_frame, flows_on, frame_behind, item_targets}
-use Rattle.member_link.specs.BodyTyping.{FlowsInto, HasFrames, IsThrowable, MayGoTo, PointFits, Reaches, begins_at, frame_among, frame_at}
+use Rattle.member_link.specs.Bodies.{Body, BodyPoint}
+use Rattle.member_link.specs.BodyTyping.{FlowsInto, MayGoTo, Reaches, frame_among, frame_at}
 use Rattle.member_link.specs.Machine.Replaced.{map_numbered}
 use Rattle.plan_flow.specs.Written.Finish.{Finished, is_empty}
-use Rattle.plan_flow.specs.Written.FramedCode.{IsFramed, body_catch, body_of_items, flow_into, frame_had, frame_of_item, is_led_to, item_body, item_table, leads_to, stated_by}
+use Rattle.plan_flow.specs.Written.FramedCode.{IsFramed, body_of_items, flow_into, frame_had, frame_of_item, is_led_to, item_body, leads_to}
 use Rattle.plan_flow.specs.Written.WrittenCode.{block_items, written_items}
 use Rattle.plan_flow.specs.Written.WrittenConstants.{indexed_item}
-use Rattle.written_types.proofs.CarriedBlocks.{AllCarry, GoesOn, HoldFrom, PointHolds, ReachesFrame, all_hold, block_starts, fits_next}
+use Rattle.written_types.proofs.CarriedBlocks.{AllCarry, GoesOn, HoldFrom, PointHolds, ReachesFrame, block_starts, fits_next}
 use Rattle.written_types.proofs.ItemPlaces.{StandsAt, numbered_apart, numbered_long, point_stands, written_apart}
-use Rattle.written_types.specs.Writing.{FitsBefore, IsPlaced, ItemHolds, LeadsIn, Writing, comes, entry_in, flows_from, frame_in, had_in, items_in, point_in, points_in, scope_in, stated_in}
+use Rattle.written_types.specs.Writing.{FitsBefore, LeadsIn, Writing, comes, frame_in, had_in, items_in, point_in, points_in, scope_in, stated_in}
 
 abbrev pub body_in : Writing → (ℕ → Option Frame) → Body
 body_in w state = body_of_items w.host w.s.flat w.pool w.max_stack (items_in w) state
@@ -75,13 +75,13 @@ had_each : (w : Writing) (state : ℕ → Option Frame) (frames : List Frame)
 had_each w state frames framed zero = had_by w state frames zero framed refl
 had_each w state frames framed (suc number) =
     had_by w state frames (suc number) framed (by (slice_get (points_in w) number) refl (had_each w state frames framed number)) where
-  by : (x : Option BodyPoint) → slice_get (points_in w) number ≡ x
-      → HadAt w state frames number
-      → flow_into (body_in w state) frames (suc number) ≡ comes w (suc number)
-  by None is before = rw (is) refl
-  by (Some point) is before =
-      let there = some_where frames (points_in w) number point (framed.many ∙ sym (points_many w)) is in
-      rw (is, there.1, before.had there.0 there.1) refl
+      by : (x : Option BodyPoint) → slice_get (points_in w) number ≡ x
+          → HadAt w state frames number
+          → flow_into (body_in w state) frames (suc number) ≡ comes w (suc number)
+      by None is before = rw (is) refl
+      by (Some point) is before =
+          let there = some_where frames (points_in w) number point (framed.many ∙ sym (points_many w)) is in
+          rw (is, there.1, before.had there.0 there.1) refl
 
 pub are_had : (w : Writing) (state : ℕ → Option Frame) (frames : List Frame)
     → IsFramed w.s.flat w.form w.blocks (items_in w) (body_in w state) frames
@@ -143,8 +143,8 @@ leads_to_item w number to one at leads =
     let change = indexed_item w.s w.constructor w.pool w.form w.blocks in
     ap (list_any (leads_to to)) (ap (map_numbered change zero) at.is ∙ numbered_apart change zero at.left at.right one)
     ∙ any_behind (leads_to to) (map_numbered change zero at.left) (map_numbered change (suc (zero + length at.left)) at.right)
-      (change (zero + length at.left) one)
-      (subst (λ (n : ℕ). leads_to to (change n one) ≡ true) (let is = at.number_is in the_same number (zero + length at.left) (omega (arith, is))) leads)
+    (change (zero + length at.left) one)
+    (subst (λ (n : ℕ). leads_to to (change n one) ≡ true) (let is = at.number_is in the_same number (zero + length at.left) (omega (arith, is))) leads)
   where
     the_same : (a b : ℕ) → a ≡ b → a ≡ b
     the_same a b is = is
@@ -162,33 +162,33 @@ resolved w all flow frame to [] front one is starts fits led = by (is_empty (blo
     no_next goes = let e = goes.is in absurd cc
   by false some =
       let here : stated_in w to flow ≡ Some (frame_in w one) =
-          rw (led, ap (frame_of_item w.s.flat w.form w.blocks) starts ∙ block_starts w front [] one is some) refl in
+      rw (led, ap (frame_of_item w.s.flat w.form w.blocks) starts ∙ block_starts w front [] one is some) refl in
       subst (MayGoTo (scope_in w) (Some frame)) (sym here) fits.assignable
 resolved w all flow frame to (next ∷ behind) front one is starts fits led =
     by (is_empty (block_items w.form one)) refl (resolved w all flow frame to behind (front ++ (one ∷ [])) next) where
-  by : (b : Bool) → is_empty (block_items w.form one) ≡ b
-      → (w.blocks ≡ (front ++ (one ∷ [])) ++ (next ∷ behind)
-      → to ≡ length (written_items w.form (front ++ (one ∷ [])))
-      → FitsBefore w frame next
-      → is_led_to (items_in w) to ≡ true
-      → MayGoTo (scope_in w) (Some frame) (stated_in w to flow))
-      → MayGoTo (scope_in w) (Some frame) (stated_in w to flow)
-  by true none rest =
-      let goes = all.empties front (next ∷ behind) one is none in
-      let same : goes.next ≡ next = let e = goes.is in cc in
-      let apart = ap length (written_apart w.form front (one ∷ [])) ∙ length-append (written_items w.form front) (written_items w.form (one ∷ [])) in
-      let alone = length-append (block_items w.form one) [] in
-      let count = nothing (block_items w.form one) none in
-      rest (is ∙ sym (append_assoc front (one ∷ []) (next ∷ behind))) (omega (arith, starts, apart, alone, count))
-      (subst (FitsBefore w frame) same (fits_next w frame one (next ∷ behind) goes fits)) led
-    where
-      nothing : (items : List WItem) → is_empty items ≡ true → length items ≡ 0
-      nothing [] e = refl
-      nothing (first ∷ items) e = absurd (false≢true e)
-  by false some rest =
-      let here : stated_in w to flow ≡ Some (frame_in w one) =
+      by : (b : Bool) → is_empty (block_items w.form one) ≡ b
+          → (w.blocks ≡ (front ++ (one ∷ [])) ++ (next ∷ behind)
+          → to ≡ length (written_items w.form (front ++ (one ∷ [])))
+          → FitsBefore w frame next
+          → is_led_to (items_in w) to ≡ true
+          → MayGoTo (scope_in w) (Some frame) (stated_in w to flow))
+          → MayGoTo (scope_in w) (Some frame) (stated_in w to flow)
+      by true none rest =
+          let goes = all.empties front (next ∷ behind) one is none in
+          let same : goes.next ≡ next = let e = goes.is in cc in
+          let apart = ap length (written_apart w.form front (one ∷ [])) ∙ length-append (written_items w.form front) (written_items w.form (one ∷ [])) in
+          let alone = length-append (block_items w.form one) [] in
+          let count = nothing (block_items w.form one) none in
+          rest (is ∙ sym (append_assoc front (one ∷ []) (next ∷ behind))) (omega (arith, starts, apart, alone, count))
+          (subst (FitsBefore w frame) same (fits_next w frame one (next ∷ behind) goes fits)) led
+        where
+          nothing : (items : List WItem) → is_empty items ≡ true → length items ≡ 0
+          nothing [] e = refl
+          nothing (first ∷ items) e = absurd (false≢true e)
+      by false some rest =
+          let here : stated_in w to flow ≡ Some (frame_in w one) =
           rw (led, ap (frame_of_item w.s.flat w.form w.blocks) starts ∙ block_starts w front (next ∷ behind) one is some) refl in
-      subst (MayGoTo (scope_in w) (Some frame)) (sym here) fits.assignable
+          subst (MayGoTo (scope_in w) (Some frame)) (sym here) fits.assignable
 
 pub leads_stated : (w : Writing) (all : AllCarry w) (flow frame : Option Frame) (to : ℕ)
     → LeadsIn w frame to
@@ -253,12 +253,14 @@ pub reaches_there : (w : Writing) (state : ℕ → Option Frame) (frames : List 
     → FlowsInto (body_in w state) frames number flow
 reaches_there w state frames number one None known at holds is = λ frame there.
     let stated : state number ≡ Some holds.frame =
-        known.stated number ∙ subst (λ (from : Option Frame). ReachesFrame w from holds.frame (stated_in w number (comes w number))) is holds.reaches in
+    known.stated number ∙ subst (λ (from : Option Frame). ReachesFrame w from holds.frame (stated_in w number (comes w number))) is holds.reaches in
     subst IsSome (sym stated) refl
-reaches_there w state frames number one (Some flow) known at holds is =
-    (holds.frame, frame_there w state frames number one known at holds,
-    subst (Reaches (scope_in w) flow holds.frame) (sym (known.stated number))
-    (subst (λ (from : Option Frame). ReachesFrame w from holds.frame (stated_in w number (comes w number))) is holds.reaches))
+reaches_there w state frames number one (Some flow) known at holds is = (
+  holds.frame,
+  frame_there w state frames number one known at holds,
+  subst (Reaches (scope_in w) flow holds.frame) (sym (known.stated number))
+      (subst (λ (from : Option Frame). ReachesFrame w from holds.frame (stated_in w number (comes w number))) is holds.reaches),
+)
 
 -- what flows into the items from one on
 pub flows_from_there : (w : Writing) (state : ℕ → Option Frame) (frames : List Frame) (number : ℕ) (left right : List WItem) (flow : Option Frame)
@@ -272,8 +274,8 @@ flows_from_there w state frames number left (one ∷ right) flow known from hold
 flows_from_there w state frames number left [] (Some flow) known from holds is = absurd (none-some flow (sym holds ∙ is))
 flows_from_there w state frames number left [] None known from holds is = λ frame there.
     let many = known.had.many ∙ points_many w
-        ∙ numbered_long (indexed_item w.s w.constructor w.pool w.form w.blocks) zero (written_items w.form w.blocks)
-        ∙ ap length (from.is ∙ append-nil left) in
+    ∙ numbered_long (indexed_item w.s w.constructor w.pool w.form w.blocks) zero (written_items w.form w.blocks)
+    ∙ ap length (from.is ∙ append-nil left) in
     absurd (none-some frame (sym (behind_all frames number (many ∙ sym from.number_is)) ∙ sym (frame_at_number w state frames number known.had) ∙ there))
   where
     behind_all : (frames : List Frame) (number : ℕ) → length frames ≡ number → slice_get frames number ≡ None

@@ -1,12 +1,9 @@
 -- Where the items of blocks stand: as points of the body, with the frames that are stated there.
-use Rattle.std.proofs.Common.{◌≡◌, ◌≢◌, ◌+◌, ◌==◌, ◌≤◌, ◌<◌, ℕ, zero, suc, Bool, true, false, List, [], ◌∷◌, ◌++◌, length, map, slice_get, Option, Some, None, option_map, refl, sym, ap, subst, ◌∙◌, arith}
-use Rattle.std.specs.List.{AllByRecursion}
+use Rattle.std.proofs.Common.{◌≡◌, ◌≢◌, ◌+◌, ◌==◌, ◌<◌, ℕ, zero, suc, Bool, true, false, List, [], ◌∷◌, ◌++◌, length, slice_get, Some, None, refl, sym, ap, ◌∙◌, arith}
 use Rattle.std.proofs.lemmas.Bool.{eq-eqb, eqb-true, false≢true, true≢false}
-use Rattle.std.proofs.lemmas.Option.{none-some, same_Some}
 use Rattle.std.proofs.lemmas.List.{append_assoc, length-append}
 use Rattle.making_code.specs.IndexedItems.{IndexedItem}
 use Rattle.making_code.specs.Items.{WItem}
-use Rattle.member_link.specs.Bodies.{BodyPoint}
 use Rattle.member_link.specs.Machine.Replaced.{map_numbered}
 use Rattle.plan_flow.specs.Written.Finish.{Finished, is_empty}
 use Rattle.plan_flow.specs.Written.FramedCode.{block_from, item_body}
@@ -59,16 +56,16 @@ point_stands w number one at =
     let change = item_body w.pool (scope_in w) in
     let front = map_numbered (indexed_item w.s w.constructor w.pool w.form w.blocks) zero at.left in
     let long : length front ≡ number =
-        numbered_long (indexed_item w.s w.constructor w.pool w.form w.blocks) zero at.left ∙ sym at.number_is in
+    numbered_long (indexed_item w.s w.constructor w.pool w.form w.blocks) zero at.left ∙ sym at.number_is in
     ap (λ (xs : List IndexedItem). slice_get (map_numbered change zero xs) number) (items ∙ apart)
     ∙ ap (λ (n : ℕ). slice_get (map_numbered change zero
-      (front ++ (indexed_item w.s w.constructor w.pool w.form w.blocks (zero + length at.left) one
-      ∷ map_numbered (indexed_item w.s w.constructor w.pool w.form w.blocks) (suc (zero + length at.left)) at.right))) n) (sym long)
+    (front ++ (indexed_item w.s w.constructor w.pool w.form w.blocks (zero + length at.left) one
+    ∷ map_numbered (indexed_item w.s w.constructor w.pool w.form w.blocks) (suc (zero + length at.left)) at.right))) n) (sym long)
     ∙ numbered_behind change zero front _ _
     ∙ ap (λ (n : ℕ). Some (change n (indexed_item w.s w.constructor w.pool w.form w.blocks (zero + length at.left) one)))
-      (the_same (zero + length front) number (omega (arith, long)))
+    (the_same (zero + length front) number (omega (arith, long)))
     ∙ ap (λ (n : ℕ). Some (change number (indexed_item w.s w.constructor w.pool w.form w.blocks n one)))
-      (the_same (zero + length at.left) number (let is = at.number_is in omega (arith, is)))
+    (the_same (zero + length at.left) number (let is = at.number_is in omega (arith, is)))
   where
     the_same : (a b : ℕ) → a ≡ b → a ≡ b
     the_same a b is = is
@@ -97,21 +94,21 @@ block_at form number [] behind one some =
     rw (some, eq-eqb (number) (number + 0) (omega arith)) refl
 block_at form number (first ∷ front) behind one some = by (is_empty (block_items form first)) refl
     (block_at form number front behind one some) (block_at form (number + length (block_items form first)) front behind one some) where
-  long : length (written_items form (first ∷ front)) ≡ length (block_items form first) + length (written_items form front)
-  long = length-append (block_items form first) (written_items form front)
+      long : length (written_items form (first ∷ front)) ≡ length (block_items form first) + length (written_items form front)
+      long = length-append (block_items form first) (written_items form front)
 
-  by : (b : Bool) → is_empty (block_items form first) ≡ b
-      → block_from form (number + length (written_items form front)) number (front ++ (one ∷ behind)) ≡ Some one
-      → block_from form (number + length (block_items form first) + length (written_items form front))
-      (number + length (block_items form first)) (front ++ (one ∷ behind)) ≡ Some one
-      → block_from form (number + length (written_items form (first ∷ front))) number ((first ∷ front) ++ (one ∷ behind)) ≡ Some one
-  by true is rest more =
-      let none : length (block_items form first) ≡ 0 = ap length (no_items (block_items form first) is) in
-      rw (is) (ap (λ (n : ℕ). block_from form n number (front ++ (one ∷ behind))) (omega (arith, long, none)) ∙ rest)
-  by false is rest more =
-      let some_first = some_items (block_items form first) is in
-      rw (is, not_same number (number + length (written_items form (first ∷ front))) (λ same. omega (arith, same, long, some_first)))
-      (ap (λ (n : ℕ). block_from form n (number + length (block_items form first)) (front ++ (one ∷ behind))) (omega (arith, long)) ∙ more)
+      by : (b : Bool) → is_empty (block_items form first) ≡ b
+          → block_from form (number + length (written_items form front)) number (front ++ (one ∷ behind)) ≡ Some one
+          → block_from form (number + length (block_items form first) + length (written_items form front))
+          (number + length (block_items form first)) (front ++ (one ∷ behind)) ≡ Some one
+          → block_from form (number + length (written_items form (first ∷ front))) number ((first ∷ front) ++ (one ∷ behind)) ≡ Some one
+      by true is rest more =
+          let none : length (block_items form first) ≡ 0 = ap length (no_items (block_items form first) is) in
+          rw (is) (ap (λ (n : ℕ). block_from form n number (front ++ (one ∷ behind))) (omega (arith, long, none)) ∙ rest)
+      by false is rest more =
+          let some_first = some_items (block_items form first) is in
+          rw (is, not_same number (number + length (written_items form (first ∷ front))) (λ same. omega (arith, same, long, some_first)))
+          (ap (λ (n : ℕ). block_from form n (number + length (block_items form first)) (front ++ (one ∷ behind))) (omega (arith, long)) ∙ more)
 
 -- no block from an item on begins with an earlier one
 pub none_before : (form : Form) (wanted number : ℕ) (blocks : List Finished) → wanted < number → block_from form wanted number blocks ≡ None
@@ -119,12 +116,12 @@ none_before form wanted number [] before = refl
 none_before form wanted number (one ∷ blocks) before = by (is_empty (block_items form one)) refl
     (none_before form wanted number blocks before)
     (none_before form wanted (number + length (block_items form one)) blocks (omega (arith, before))) where
-  by : (b : Bool) → is_empty (block_items form one) ≡ b
-      → block_from form wanted number blocks ≡ None
-      → block_from form wanted (number + length (block_items form one)) blocks ≡ None
-      → block_from form wanted number (one ∷ blocks) ≡ None
-  by true is rest more = rw (is) rest
-  by false is rest more = rw (is, not_same number wanted (λ same. omega (arith, same, before))) more
+      by : (b : Bool) → is_empty (block_items form one) ≡ b
+          → block_from form wanted number blocks ≡ None
+          → block_from form wanted (number + length (block_items form one)) blocks ≡ None
+          → block_from form wanted number (one ∷ blocks) ≡ None
+      by true is rest more = rw (is) rest
+      by false is rest more = rw (is, not_same number wanted (λ same. omega (arith, same, before))) more
 
 -- nor does one begin inside of another
 pub none_inside : (form : Form) (number inside : ℕ) (front behind : List Finished) (one : Finished)
@@ -142,17 +139,17 @@ none_inside form number inside [] behind one more less = by (is_empty (block_ite
 none_inside form number inside (first ∷ front) behind one more less = by (is_empty (block_items form first)) refl
     (none_inside form number inside front behind one more less)
     (none_inside form (number + length (block_items form first)) inside front behind one more less) where
-  long : length (written_items form (first ∷ front)) ≡ length (block_items form first) + length (written_items form front)
-  long = length-append (block_items form first) (written_items form front)
+      long : length (written_items form (first ∷ front)) ≡ length (block_items form first) + length (written_items form front)
+      long = length-append (block_items form first) (written_items form front)
 
-  by : (b : Bool) → is_empty (block_items form first) ≡ b
-      → block_from form (number + length (written_items form front) + inside) number (front ++ (one ∷ behind)) ≡ None
-      → block_from form (number + length (block_items form first) + length (written_items form front) + inside)
-      (number + length (block_items form first)) (front ++ (one ∷ behind)) ≡ None
-      → block_from form (number + length (written_items form (first ∷ front)) + inside) number ((first ∷ front) ++ (one ∷ behind)) ≡ None
-  by true is rest others =
-      let none : length (block_items form first) ≡ 0 = ap length (no_items (block_items form first) is) in
-      rw (is) (ap (λ (n : ℕ). block_from form n number (front ++ (one ∷ behind))) (omega (arith, long, none)) ∙ rest)
-  by false is rest others =
-      rw (is, not_same number (number + length (written_items form (first ∷ front)) + inside) (λ same. omega (arith, same, long, more)))
-      (ap (λ (n : ℕ). block_from form n (number + length (block_items form first)) (front ++ (one ∷ behind))) (omega (arith, long)) ∙ others)
+      by : (b : Bool) → is_empty (block_items form first) ≡ b
+          → block_from form (number + length (written_items form front) + inside) number (front ++ (one ∷ behind)) ≡ None
+          → block_from form (number + length (block_items form first) + length (written_items form front) + inside)
+          (number + length (block_items form first)) (front ++ (one ∷ behind)) ≡ None
+          → block_from form (number + length (written_items form (first ∷ front)) + inside) number ((first ∷ front) ++ (one ∷ behind)) ≡ None
+      by true is rest others =
+          let none : length (block_items form first) ≡ 0 = ap length (no_items (block_items form first) is) in
+          rw (is) (ap (λ (n : ℕ). block_from form n number (front ++ (one ∷ behind))) (omega (arith, long, none)) ∙ rest)
+      by false is rest others =
+          rw (is, not_same number (number + length (written_items form (first ∷ front)) + inside) (λ same. omega (arith, same, long, more)))
+          (ap (λ (n : ℕ). block_from form n (number + length (block_items form first)) (front ++ (one ∷ behind))) (omega (arith, long)) ∙ others)

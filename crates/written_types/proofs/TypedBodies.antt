@@ -1,20 +1,19 @@
 -- The frames of written code type its body, and there are such frames, where each block carries its frames.
-use Rattle.std.proofs.Common.{◌≡◌, ◌≢◌, ◌+◌, ◌==◌, ◌||◌, ◌≤◌, ◌<◌, ℕ, zero, suc, Bool, true, false, List, [], ◌∷◌, ◌++◌, length, map, slice_get, Option, Some, None, refl, sym, ap, subst, ◌∙◌, arith}
+use Rattle.std.proofs.Common.{◌≡◌, ◌+◌, ◌==◌, ◌||◌, ℕ, zero, suc, Bool, true, false, List, [], ◌∷◌, ◌++◌, length, map, slice_get, Option, Some, refl, sym, ap, subst, ◌∙◌, arith}
 use Rattle.std.specs.List.{AllByRecursion, list_any}
 use Rattle.std.proofs.lemmas.Bool.{eq-eqb}
 use Rattle.std.proofs.lemmas.Option.{none-some, same_Some}
 use Rattle.class_model.specs.declared.frame.Frame.{Frame}
 use Rattle.class_model.specs.Instructions.{targets}
-use Rattle.making_code.specs.IndexedItems.{IndexedItem}
 use Rattle.making_code.specs.Items.{WItem}
-use Rattle.member_link.specs.Bodies.{BodyCatch, catch_frame, flows_on, frame_behind, item_targets}
-use Rattle.member_link.specs.BodyTyping.{FlowsInto, HasFrames, IsThrowable, MayGoTo, PointFits, begins_at, frame_at}
+use Rattle.member_link.specs.Bodies.{BodyCatch, catch_frame, flows_on}
+use Rattle.member_link.specs.BodyTyping.{FlowsInto, HasFrames, IsThrowable, MayGoTo, PointFits, begins_at}
 use Rattle.member_link.specs.Machine.Replaced.{map_numbered}
-use Rattle.plan_flow.specs.Written.FramedCode.{IsFramed, body_catch, flow_into, frame_had, is_led_to, item_body, item_table, leads_to, stated_by}
+use Rattle.plan_flow.specs.Written.FramedCode.{IsFramed, body_catch, flow_into, frame_had, item_body, item_table}
 use Rattle.plan_flow.specs.Written.WrittenCode.{written_items}
 use Rattle.plan_flow.specs.Written.WrittenConstants.{indexed_item}
-use Rattle.written_types.proofs.CarriedBlocks.{AllCarry, HoldFrom, PointHolds, all_hold, flows_next}
-use Rattle.written_types.proofs.FramedBodies.{AreHad, From, Known, body_in, flows_from_there, frame_at_number, frame_there, known_of, leads_stated, leads_to_item, next_from, reaches_there, same_flow, stands_from}
+use Rattle.written_types.proofs.CarriedBlocks.{AllCarry, HoldFrom, all_hold, flows_next}
+use Rattle.written_types.proofs.FramedBodies.{AreHad, From, Known, body_in, flows_from_there, frame_at_number, frame_there, known_of, leads_stated, leads_to_item, next_from, same_flow, stands_from}
 use Rattle.written_types.proofs.ItemPlaces.{StandsAt, numbered_long}
 use Rattle.written_types.specs.Writing.{IsDeepEnough, LeadsIn, Writing, comes, had_in, items_in, point_in, scope_in, stated_in}
 
@@ -49,9 +48,10 @@ targets_go : (w : Writing) (state : ℕ → Option Frame) (frames : List Frame) 
     → AllByRecursion (λ target. MayGoTo (scope_in w) frame (state target)) right
 targets_go w state frames number one frame known at left [] is all = tt
 targets_go w state frames number one frame known at left (to ∷ right) is all =
-    let led = leads_to_item w number to one at (either_first _ _ (ap (list_any (λ (other : ℕ). other == to)) is ∙ found_here to left right)) in
-    (subst (MayGoTo (scope_in w) frame) (sym (known.stated to)) (leads_stated w known.all (comes w to) frame to all.0 led),
-    targets_go w state frames number one frame known at (left ++ (to ∷ [])) right (is ∙ sym (joined_left left right to)) all.1)
+    let led = leads_to_item w number to one at (either_first _ _ (ap (list_any (λ (other : ℕ). other == to)) is ∙ found_here to left right)) in (
+      subst (MayGoTo (scope_in w) frame) (sym (known.stated to)) (leads_stated w known.all (comes w to) frame to all.0 led),
+      targets_go w state frames number one frame known at (left ++ (to ∷ [])) right (is ∙ sym (joined_left left right to)) all.1,
+    )
 
 catch_found : (catch : ℕ × ℕ) (left right : List (ℕ × ℕ)) → list_any (λ (other : ℕ × ℕ). other.0 == catch.0) (left ++ (catch ∷ right)) ≡ true
 catch_found catch [] right = rw (eq-eqb catch.0 catch.0 refl) refl
@@ -71,10 +71,11 @@ handlers_go : (w : Writing) (state : ℕ → Option Frame) (frames : List Frame)
 handlers_go w state frames number one frame known at left [] is all = tt
 handlers_go w state frames number one frame known at left (catch ∷ right) is all =
     let led = leads_to_item w number catch.0 one at
-        (either_second _ _ (ap (list_any (λ (other : ℕ × ℕ). other.0 == catch.0)) is ∙ catch_found catch left right)) in
-    (subst (MayGoTo (scope_in w) (Some (catch_frame frame (body_catch w.pool catch).class))) (sym (known.stated catch.0))
-    (leads_stated w known.all (comes w catch.0) (Some (catch_frame frame (body_catch w.pool catch).class)) catch.0 all.0 led),
-    handlers_go w state frames number one frame known at (left ++ (catch ∷ [])) right (is ∙ sym (joined_left left right catch)) all.1)
+    (either_second _ _ (ap (list_any (λ (other : ℕ × ℕ). other.0 == catch.0)) is ∙ catch_found catch left right)) in (
+      subst (MayGoTo (scope_in w) (Some (catch_frame frame (body_catch w.pool catch).class))) (sym (known.stated catch.0))
+          (leads_stated w known.all (comes w catch.0) (Some (catch_frame frame (body_catch w.pool catch).class)) catch.0 all.0 led),
+      handlers_go w state frames number one frame known at (left ++ (catch ∷ [])) right (is ∙ sym (joined_left left right catch)) all.1,
+    )
 
 -- ---- points
 
@@ -114,12 +115,13 @@ points_fit : (w : Writing) (state : ℕ → Option Frame) (frames : List Frame) 
     → From w number left right
     → HoldFrom w number right
     → AllByRecursion (PointFits (body_in w state) frames)
-      (map_numbered (item_body w.pool (scope_in w)) number
-      (map_numbered (indexed_item w.s w.constructor w.pool w.form w.blocks) number right))
+    (map_numbered (item_body w.pool (scope_in w)) number
+    (map_numbered (indexed_item w.s w.constructor w.pool w.form w.blocks) number right))
 points_fit w state frames number left [] known deep from holds = tt
-points_fit w state frames number left (one ∷ right) known deep from holds =
-    (point_fits w state frames number left right one known deep from holds,
-    points_fit w state frames (suc number) (left ++ (one ∷ [])) right known deep (next_from w number left right one from) holds.1)
+points_fit w state frames number left (one ∷ right) known deep from holds = (
+  point_fits w state frames number left right one known deep from holds,
+  points_fit w state frames (suc number) (left ++ (one ∷ [])) right known deep (next_from w number left right one from) holds.1,
+)
 
 -- ---- the whole
 
@@ -129,7 +131,7 @@ all_from w = record { is = refl; number_is = refl }
 begins : (w : Writing) (items : List WItem)
     → HoldFrom w 0 items
     → begins_at (map_numbered (item_body w.pool (scope_in w)) 0 (map_numbered (indexed_item w.s w.constructor w.pool w.form w.blocks) 0 items))
-      (length (items_in w)) ≡ 0
+    (length (items_in w)) ≡ 0
 begins w [] holds = absurd (none-some _ (sym holds))
 begins w (one ∷ items) holds = refl
 
@@ -172,13 +174,13 @@ held_had : (w : Writing) (number at : ℕ) (items : List WItem) (holds : HoldFro
 held_had w number at [] holds frame is = absurd (none-some frame is)
 held_had w number zero (one ∷ items) holds frame is =
     subst (λ (n : ℕ). had_in w n (comes w n) ≡ Some frame) (the_same number (number + 0) (omega arith)) (holds.0.is_frame ∙ is) where
-  the_same : (a b : ℕ) → a ≡ b → a ≡ b
-  the_same a b is = is
+      the_same : (a b : ℕ) → a ≡ b → a ≡ b
+      the_same a b is = is
 held_had w number (suc at) (one ∷ items) holds frame is =
     subst (λ (n : ℕ). had_in w n (comes w n) ≡ Some frame) (the_same (suc number + at) (number + suc at) (omega arith))
     (held_had w (suc number) at items holds.1 frame is) where
-  the_same : (a b : ℕ) → a ≡ b → a ≡ b
-  the_same a b is = is
+      the_same : (a b : ℕ) → a ≡ b → a ≡ b
+      the_same a b is = is
 
 -- what is stated in written code, and the frames of its items
 pub record AreThere (w : Writing) : Type 0 where

@@ -1,6 +1,6 @@
 -- Written code item by item: what flows into each item and which frame it has, and what it means that the items of a block carry each frame
 -- with which the block can begin to the block behind it. It is this project's profile.
-use Rattle.std.specs.Prelude.{◌≡◌, ◌≢◌, ◌⊎◌, ◌+◌, ◌≤◌, ◌<◌, ℕ, zero, suc, Bool, List, [], ◌∷◌, ◌++◌, length, slice_get, Option, Some, None}
+use Rattle.std.specs.Prelude.{◌≡◌, ◌≢◌, ◌⊎◌, ◌+◌, ◌≤◌, ◌<◌, ℕ, zero, suc, List, [], ◌∷◌, ◌++◌, length, slice_get, Option, Some, None}
 use Rattle.std.specs.List.{AllByRecursion}
 use Rattle.class_model.specs.Frames.{depth}
 use Rattle.class_model.specs.Pool.{Constants}
@@ -16,7 +16,7 @@ use Rattle.member_link.specs.RowScope.{RowScope}
 use Rattle.member_link.specs.Rows.Assigning.{IsFrameAssignableIn}
 use Rattle.member_link.specs.Rows.Operands.{AllFit, topmost}
 use Rattle.member_link.specs.Rows.Row.{Row, stack_behind}
-use Rattle.member_link.specs.Scope.{Scope, row_scope}
+use Rattle.member_link.specs.Scope.{Scope}
 use Rattle.class_model.specs.Methods.{entry_of, home_of}
 use Rattle.flow_code.specs.WrittenUnits.{written_units}
 use Rattle.plan_flow.specs.PlanScope.{PlanScope}
