@@ -18,3 +18,4 @@ mod ItemPlaces
 mod CarriedBlocks
 mod FramedBodies
 mod TypedBodies
+mod BlockEnds
