@@ -130,7 +130,8 @@ none_is_this (one ∷ ones) all = is_other one all.0 (none_is_this ones all.1) w
   is_other (types.Object name) not_this rest = rest
   is_other (types.Uninit at) not_this rest = rest
 
-pub keeps_no_this : (ones : List VType) (B : Type 0) → AllByRecursion (λ type. type ≢ types.UninitThis) ones → IsTrue (list_any is_uninit_this ones) → B
+pub keeps_no_this : (ones : List VType) (B : Type 0)
+    → AllByRecursion (λ type. type ≢ types.UninitThis) ones → IsTrue (list_any is_uninit_this ones) → B
 keeps_no_this ones B all is = absurd (false≢true (sym (none_is_this ones all) ∙ is))
 
 -- ---- frames

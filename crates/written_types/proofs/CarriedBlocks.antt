@@ -342,7 +342,8 @@ hold_all w all (one ∷ behind) front is arrives =
   where
     long : length (written_items w.form (front ++ (one ∷ []))) ≡ length (written_items w.form front) + length (block_items w.form one)
     long =
-        let apart = ap length (written_apart w.form front (one ∷ [])) ∙ length-append (written_items w.form front) (written_items w.form (one ∷ [])) in
+        let apart = ap length (written_apart w.form front (one ∷ []))
+        ∙ length-append (written_items w.form front) (written_items w.form (one ∷ [])) in
         let alone = length-append (block_items w.form one) [] in
         omega (arith, apart, alone)
 
@@ -371,7 +372,8 @@ hold_all w all (one ∷ behind) front is arrives =
         (written_items w.form behind) carried.last begins
         (record { is = is; items = refl; number_is = omega arith }) some long carried.carries
         (λ next same flow. subst (λ (n : ℕ). HoldFrom w n (written_items w.form behind)) (sym same)
-        (rest (subst (λ (from : Option Frame). ArriveAt w from behind) (sym (sym (ap (comes w) same) ∙ flow)) (goes_arrives w carried.last behind carried.goes))))
+        (rest (subst (λ (from : Option Frame). ArriveAt w from behind)
+        (sym (sym (ap (comes w) same) ∙ flow)) (goes_arrives w carried.last behind carried.goes))))
 
 -- all items of the code
 pub all_hold : (w : Writing) → AllCarry w → HoldFrom w 0 (written_items w.form w.blocks)

@@ -34,7 +34,8 @@ some_where [] [] number other long is = absurd (none-some other is)
 some_where [] (first ∷ others) number other long is = absurd cc
 some_where (one ∷ ones) [] number other long is = absurd cc
 some_where (one ∷ ones) (first ∷ others) zero other long is = (one, refl)
-some_where (one ∷ ones) (first ∷ others) (suc number) other long is = some_where ones others number other (let e : length ones ≡ length others = cc in e) is
+some_where (one ∷ ones) (first ∷ others) (suc number) other long is =
+    some_where ones others number other (let e : length ones ≡ length others = cc in e) is
 
 pub same_flow : (w : Writing) (state : ℕ → Option Frame) (frames : List Frame)
     → AreHad w frames
@@ -104,7 +105,8 @@ frame_placed w from (suc number) (item ∷ items) (frame ∷ frames) long =
     let apart : (from == (from + suc number)) ≡ false = not_same from (from + suc number) (λ same. omega (arith, same)) in
     let tails : length frames ≡ length items = cc in
     rw (apart)
-    (ap (frame_among (map_numbered (item_body w.pool (scope_in w)) (suc from) items) frames) (the_same (from + suc number) (suc from + number) (omega arith))
+    (ap (frame_among (map_numbered (item_body w.pool (scope_in w)) (suc from) items) frames)
+    (the_same (from + suc number) (suc from + number) (omega arith))
     ∙ frame_placed w (suc from) number items frames tails)
   where
     the_same : (a b : ℕ) → a ≡ b → a ≡ b
@@ -144,7 +146,8 @@ leads_to_item w number to one at leads =
     ap (list_any (leads_to to)) (ap (map_numbered change zero) at.is ∙ numbered_apart change zero at.left at.right one)
     ∙ any_behind (leads_to to) (map_numbered change zero at.left) (map_numbered change (suc (zero + length at.left)) at.right)
     (change (zero + length at.left) one)
-    (subst (λ (n : ℕ). leads_to to (change n one) ≡ true) (let is = at.number_is in the_same number (zero + length at.left) (omega (arith, is))) leads)
+    (subst (λ (n : ℕ). leads_to to (change n one) ≡ true)
+    (let is = at.number_is in the_same number (zero + length at.left) (omega (arith, is))) leads)
   where
     the_same : (a b : ℕ) → a ≡ b → a ≡ b
     the_same a b is = is
@@ -176,7 +179,8 @@ resolved w all flow frame to (next ∷ behind) front one is starts fits led =
       by true none rest =
           let goes = all.empties front (next ∷ behind) one is none in
           let same : goes.next ≡ next = let e = goes.is in cc in
-          let apart = ap length (written_apart w.form front (one ∷ [])) ∙ length-append (written_items w.form front) (written_items w.form (one ∷ [])) in
+          let apart = ap length (written_apart w.form front (one ∷ []))
+          ∙ length-append (written_items w.form front) (written_items w.form (one ∷ [])) in
           let alone = length-append (block_items w.form one) [] in
           let count = nothing (block_items w.form one) none in
           rest (is ∙ sym (append_assoc front (one ∷ []) (next ∷ behind))) (omega (arith, starts, apart, alone, count))
@@ -276,7 +280,8 @@ flows_from_there w state frames number left [] None known from holds is = λ fra
     let many = known.had.many ∙ points_many w
     ∙ numbered_long (indexed_item w.s w.constructor w.pool w.form w.blocks) zero (written_items w.form w.blocks)
     ∙ ap length (from.is ∙ append-nil left) in
-    absurd (none-some frame (sym (behind_all frames number (many ∙ sym from.number_is)) ∙ sym (frame_at_number w state frames number known.had) ∙ there))
+    absurd (none-some frame (sym (behind_all frames number (many ∙ sym from.number_is))
+    ∙ sym (frame_at_number w state frames number known.had) ∙ there))
   where
     behind_all : (frames : List Frame) (number : ℕ) → length frames ≡ number → slice_get frames number ≡ None
     behind_all [] zero is = refl

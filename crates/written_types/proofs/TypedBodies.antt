@@ -67,7 +67,8 @@ handlers_go : (w : Writing) (state : ℕ → Option Frame) (frames : List Frame)
     → (left right : List (ℕ × ℕ))
     → (indexed_item w.s w.constructor w.pool w.form w.blocks number one).catches ≡ left ++ right
     → AllByRecursion (λ (catch : BodyCatch). LeadsIn w (Some (catch_frame frame catch.class)) catch.to) (map (body_catch w.pool) right)
-    → AllByRecursion (λ (catch : BodyCatch). MayGoTo (scope_in w) (Some (catch_frame frame catch.class)) (state catch.to)) (map (body_catch w.pool) right)
+    → AllByRecursion (λ (catch : BodyCatch). MayGoTo (scope_in w) (Some (catch_frame frame catch.class)) (state catch.to))
+    (map (body_catch w.pool) right)
 handlers_go w state frames number one frame known at left [] is all = tt
 handlers_go w state frames number one frame known at left (catch ∷ right) is all =
     let led = leads_to_item w number catch.0 one at
@@ -196,7 +197,8 @@ frames_are_there w all = record {
     stated = λ number. sym (ap (stated_in w number) (same_flow w state frames had number));
     many = held_many w 0 (written_items w.form w.blocks) holds ∙ items_many;
     had = λ number frame is.
-        subst (λ (from : Option Frame). frame_had (state number) from ≡ Some frame) (sym (same_flow w state frames had number)) (had.had number frame is);
+        subst (λ (from : Option Frame). frame_had (state number) from ≡ Some frame)
+        (sym (same_flow w state frames had number)) (had.had number frame is);
   };
 } where
   holds : HoldFrom w 0 (written_items w.form w.blocks)
