@@ -1,0 +1,20 @@
+-- Where drafts of blocks start.
+use Rattle.std.specs.Prelude.{ℕ, List, [], ◌∷◌}
+use Rattle.code_emit.specs.BlockStarts.{point_of}
+use Rattle.code_emit.specs.Inner.Drafts.{kind_of}
+use Rattle.code_emit.specs.declared.draft.DraftBlock.{DraftBlock}
+use Rattle.code_emit.specs.declared.starts.BlockStart.{BlockStart}
+
+abbrev pub draft_start : DraftBlock → ℕ → BlockStart
+draft_start block first = record {
+  item = first;
+  of = point_of (kind_of block.of);
+  at = block.at;
+  state = block.state;
+}
+
+abbrev pub draft_starts : List DraftBlock → List ℕ → List BlockStart
+draft_starts [] firsts = []
+draft_starts (block ∷ blocks) [] = []
+draft_starts (block ∷ blocks) (first ∷ firsts) =
+    draft_start block first ∷ draft_starts blocks firsts
