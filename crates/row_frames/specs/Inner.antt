@@ -1,0 +1,5 @@
+-- Words for private functions: no public contract cites them.
+pub mod Becoming
+pub mod Forms
+pub mod Scopes
+pub mod Stacks
