@@ -1,8 +1,7 @@
 -- Types behind the call of an instance initialiser, in a scope.
-use Rattle.std.proofs.Common.{◌≡◌, ◌==◌, List, [], ◌∷◌, Bool, true, false, Option, Some, None, if◌then◌else◌, map, refl, sym, ap, ◌∙◌}
+use Rattle.std.proofs.Common.{◌≡◌, ◌==◌, List, [], ◌∷◌, Bool, true, false, Some, None, if◌then◌else◌, map, refl, ap, ◌∙◌}
 use Rattle.class_model.specs.declared.frame.VType.{VType}
 use Rattle.class_model.specs.declared.frame.VType.TheVariants.{Top, Int, Float, Long, Double, Null, UninitThis, Object, Uninit}
-use Rattle.class_tree.specs.Headers.{Name}
 use Rattle.member_link.specs.References.{Reference}
 use Rattle.member_link.specs.RowScope.{RowScope}
 use Rattle.member_link.specs.Rows.MemberRows.{initialised_type}

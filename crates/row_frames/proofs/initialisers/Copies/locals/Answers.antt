@@ -1,5 +1,4 @@
 use Rattle.std.proofs.Common.{◌<◌, ◌∙◌, ℕ, List, ap, length, slice_set, arith}
-use Rattle.class_model.specs.declared.frame.VType.{VType}
 use Rattle.class_model.specs.declared.frame.VType.TheVariants.{Object}
 use Rattle.row_frames.specs.Inner.Becoming.{becomes}
 use Rattle.row_frames.proofs.BecomingLocals.{next_object, next_same, top_stays}
