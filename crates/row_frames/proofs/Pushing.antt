@@ -17,7 +17,8 @@ use Rattle.member_link.specs.Rows.MemberRows.{argument_needs, init_row, initiali
 use Rattle.member_link.specs.Rows.Operands.{assignable_to, lowest_of, under}
 use Rattle.member_link.specs.Signatures.{result_of}
 use Rattle.row_frames.proofs.InitialisedTypes.{all_same}
-use Rattle.row_frames.specs.Behind.{HasText, IsBehind}
+use Rattle.row_frames.specs.Behind.{HasText}
+use Rattle.row_frames.specs.Inner.Rows.{IsBehindRow}
 use Rattle.row_frames.specs.Inner.Becoming.{becomes}
 use Rattle.row_frames.specs.Inner.Scopes.{scope_with}
 use Rattle.row_frames.specs.Inner.Stacks.{given}
@@ -48,7 +49,7 @@ frame_of locals stack = Some (record { locals = locals; stack = stack })
 pub init_leaves : (f : Frame) (s : RowScope) (r : Reference) (count : ℕ) (gives : Option VType) (frame : Option Frame) → count ≡ length (parameters_of r.desc)
     → Tells r.desc (Some gives)
     → frame ≡ initialised_frame s.own.name r.class f (count + 1) (given gives)
-    → IsBehind f (init_row s f r) frame
+    → IsBehindRow f (init_row s f r) frame
 init_leaves f s r count gives frame many tells is texts =
     let wanted = result_types (result_of r.desc) in
     let count_is = length (parameters_of r.desc) in

@@ -8,7 +8,8 @@ ghost use Rattle.class_model.specs.declared.opcodes.TheConstants.{AALOAD};
 ghost use Rattle.member_link.specs.RowScope.{RowScope};
 ghost use Rattle.member_link.specs.Rows.ArrayRows as rows;
 ghost use Rattle.member_link.specs.Rows.Row.{row_frame};
-ghost use Rattle.row_frames.specs.Behind.{HasText, IsBehind};
+ghost use Rattle.row_frames.specs.Behind.{HasText};
+ghost use Rattle.row_frames.specs.Inner.Rows.{IsBehindRow};
 ghost use Rattle.row_frames.specs.Inner.Scopes.{scope_with};
 
 use crate::names::object_of;
@@ -24,7 +25,7 @@ use std::alloc::Global;
 /// Pushes an element.
 pub(crate) fn load(step: &Step<'_>, opcode: u8) -> Result<Option<Frame>, NoMemory>
     ensures { IfOk result
-        (IsBehind step.now.before.now (rows.array_load_row step.now.before.now opcode)) }
+        (IsBehindRow step.now.before.now (rows.array_load_row step.now.before.now opcode)) }
 {
     match opcode.checked_sub(IALOAD) {
         Some(0) => step.replaced(2, Some(VType::Int)),
@@ -60,7 +61,7 @@ pub(crate) fn store(step: &Step<'_>, opcode: u8) -> Result<Option<Frame>, NoMemo
 // Pops an array of references and an index, and pushes an element.
 fn load_reference(step: &Step<'_>) -> Result<Option<Frame>, NoMemory>
     ensures { IfOk result
-        (IsBehind step.now.before.now (rows.array_load_row step.now.before.now AALOAD)) }
+        (IsBehindRow step.now.before.now (rows.array_load_row step.now.before.now AALOAD)) }
 {
     let top = VType::Top;
     let array = lowest_of(step.before.stack.as_slice(), 2, &top);
@@ -128,7 +129,7 @@ pub(crate) fn new_array(step: &Step<'_>, code: u8) -> Result<Option<Frame>, NoMe
 /// Makes an array of a class or of arrays.
 pub(crate) fn new_ref_array(step: &Step<'_>, index: u16) -> Result<Option<Frame>, NoMemory>
     ensures { IfOk result (λ frame. (s : RowScope)
-        → IsBehind step.now.before.now
+        → IsBehindRow step.now.before.now
         (rows.new_ref_array_row (scope_with s step.now.pool.now step.now.own.now)
         step.now.before.now index) frame) }
 {

@@ -7,7 +7,7 @@ ghost use Rattle.member_link.specs.RowScope.{RowScope};
 ghost use Rattle.member_link.specs.Rows.MemberRows.{argument_needs, call_row, dynamic_row, init_row, instance_row, result_types, special_row, static_row};
 ghost use Rattle.member_link.specs.Rows.Row.{either, plain};
 ghost use Rattle.member_link.specs.Signatures.{reference_of, result_of};
-ghost use Rattle.row_frames.specs.Behind.{IsBehind};
+ghost use Rattle.row_frames.specs.Inner.Rows.{IsBehindRow};
 ghost use Rattle.row_frames.specs.Inner.Scopes.{scope_with};
 
 use crate::initialisers::initialised;
@@ -20,7 +20,7 @@ use member_link::{MemberRef, descriptor_at, member_at, parameter_count};
 /// Calls a method, by its opcode.
 pub(crate) fn call(step: &Step<'_>, opcode: u8, index: u16) -> Result<Option<Frame>, NoMemory>
     ensures { IfOk result (λ frame. (s : RowScope)
-        → IsBehind step.now.before.now
+        → IsBehindRow step.now.before.now
         (call_row (scope_with s step.now.pool.now step.now.own.now) step.now.before.now opcode
         (reference_of step.now.pool.now (constant_at step.now.pool.now index))) frame) }
 {
@@ -37,7 +37,7 @@ fn call_method(
     reference: &MemberRef<'_>,
 ) -> Result<Option<Frame>, NoMemory>
     ensures { IfOk result (λ frame. (s : RowScope)
-        → IsBehind step.now.before.now
+        → IsBehindRow step.now.before.now
         (call_row (scope_with s step.now.pool.now step.now.own.now) step.now.before.now opcode
         (Some (reference_meant reference.now))) frame) }
 {
@@ -53,7 +53,7 @@ fn call_method(
 /// Calls a call site.
 pub(crate) fn call_dynamic(step: &Step<'_>, index: u16) -> Result<Option<Frame>, NoMemory>
     ensures { IfOk result (λ frame. (s : RowScope)
-        → IsBehind step.now.before.now
+        → IsBehindRow step.now.before.now
         (dynamic_row (scope_with s step.now.pool.now step.now.own.now) step.now.before.now
         (constant_at step.now.pool.now index)) frame) }
 {
@@ -68,7 +68,7 @@ pub(crate) fn call_dynamic(step: &Step<'_>, index: u16) -> Result<Option<Frame>,
 
 // Calls a static method or a call site of this descriptor.
 fn call_site(step: &Step<'_>, desc: &Text) -> Result<Option<Frame>, NoMemory>
-    ensures { IfOk result (IsBehind step.now.before.now
+    ensures { IfOk result (IsBehindRow step.now.before.now
         (plain step.now.before.now (argument_needs desc.now) (result_types (result_of desc.now)))) }
 {
     match given_by(step.alloc, desc.bytes())? {
@@ -79,7 +79,7 @@ fn call_site(step: &Step<'_>, desc: &Text) -> Result<Option<Frame>, NoMemory>
 
 // Calls a method on an object.
 fn call_on(step: &Step<'_>, reference: &MemberRef<'_>) -> Result<Option<Frame>, NoMemory>
-    ensures { IfOk result (IsBehind step.now.before.now
+    ensures { IfOk result (IsBehindRow step.now.before.now
         (instance_row step.now.before.now (reference_meant reference.now) (Unit {0}) (Unit {0}))) }
 {
     let desc = reference.desc.bytes();
@@ -92,7 +92,7 @@ fn call_on(step: &Step<'_>, reference: &MemberRef<'_>) -> Result<Option<Frame>, 
 // Calls an initialiser, or a method that is not chosen by the object.
 fn call_named(step: &Step<'_>, reference: &MemberRef<'_>) -> Result<Option<Frame>, NoMemory>
     ensures { IfOk result (λ frame. (s : RowScope)
-        → IsBehind step.now.before.now
+        → IsBehindRow step.now.before.now
         (either (bytes_eq reference.now.name.now init)
         (init_row (scope_with s step.now.pool.now step.now.own.now) step.now.before.now
         (reference_meant reference.now))
@@ -109,7 +109,7 @@ fn call_named(step: &Step<'_>, reference: &MemberRef<'_>) -> Result<Option<Frame
 // Calls an initialiser.
 fn initialise(step: &Step<'_>, reference: &MemberRef<'_>) -> Result<Option<Frame>, NoMemory>
     ensures { IfOk result (λ frame. (s : RowScope)
-        → IsBehind step.now.before.now
+        → IsBehindRow step.now.before.now
         (init_row (scope_with s step.now.pool.now step.now.own.now) step.now.before.now
         (reference_meant reference.now)) frame) }
 {

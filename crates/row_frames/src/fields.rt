@@ -5,7 +5,8 @@ ghost use Rattle.member_link.specs.RowScope.{RowScope};
 ghost use Rattle.member_link.specs.Rows.MemberRows.{get_static_row, put_static_row, get_field_row, put_field_row};
 ghost use Rattle.member_link.specs.Rows.Row.{row_frame};
 ghost use Rattle.member_link.specs.Signatures.{field_type, reference_of};
-ghost use Rattle.row_frames.specs.Behind.{HasText, IsBehind};
+ghost use Rattle.row_frames.specs.Behind.{HasText};
+ghost use Rattle.row_frames.specs.Inner.Rows.{IsBehindRow};
 ghost use Rattle.row_frames.specs.Inner.Stacks.{leaves};
 
 use crate::names::type_of;
@@ -15,7 +16,7 @@ use member_link::member_at;
 
 /// Pushes a static field.
 pub(crate) fn get_static(step: &Step<'_>, index: u16) -> Result<Option<Frame>, NoMemory>
-    ensures { IfOk result (IsBehind step.now.before.now
+    ensures { IfOk result (IsBehindRow step.now.before.now
         (get_static_row step.now.before.now
         (reference_of step.now.pool.now (constant_at step.now.pool.now index)))) }
 {
@@ -41,7 +42,7 @@ pub(crate) fn put_static(step: &Step<'_>, index: u16) -> Result<Option<Frame>, N
 /// Pushes a field of an object.
 pub(crate) fn get_field(step: &Step<'_>, index: u16) -> Result<Option<Frame>, NoMemory>
     ensures { IfOk result (λ frame. (s : RowScope)
-        → IsBehind step.now.before.now
+        → IsBehindRow step.now.before.now
         (get_field_row s step.now.before.now
         (reference_of step.now.pool.now (constant_at step.now.pool.now index))) frame) }
 {

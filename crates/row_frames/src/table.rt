@@ -3,7 +3,7 @@ ghost use Rattle.std.specs.Prelude.{◌≡◌, [], ◌∷◌, IfOk};
 ghost use Rattle.member_link.specs.RowScope.{RowScope};
 ghost use Rattle.member_link.specs.Rows.Row.{row_frame};
 ghost use Rattle.member_link.specs.Rows.Operands.{Need};
-ghost use Rattle.member_link.specs.Rows.Table.{jump_row, row_of};
+ghost use Rattle.member_link.specs.Rows.Table.{jump_row};
 ghost use Rattle.row_frames.specs.Behind.{IsBehind};
 ghost use Rattle.row_frames.specs.Inner.Scopes.{scope_with};
 
@@ -23,7 +23,8 @@ use std::alloc::Global;
 
 /// The frame behind the instruction of a number, whose constants are of this pool, in a class of this name: the frame with which control
 /// falls through or jumps, `None` where it does neither. It has the types that the instruction's row has, also where the row's conditions
-/// do not hold. Types that are neither popped nor pushed keep their texts, and locals that stay are shared.
+/// do not hold; nothing is said where a name that is cut from a descriptor or from that of an array is no text. Types that stay keep their
+/// texts, and locals that stay are shared.
 ///
 /// # Errors
 /// `NoMemory`, where memory runs out.
@@ -38,7 +39,7 @@ pub fn frame_behind(
     ensures { IfOk result (λ frame. (s : RowScope)
         → s.pool ≡ pool.now
         → s.own.name ≡ own.now
-        → IsBehind before.now (row_of s before.now number instr.now) frame) }
+        → IsBehind s before.now number instr.now frame) }
 {
     let step = Step {
         alloc,
@@ -52,9 +53,8 @@ pub fn frame_behind(
 // The frame behind an instruction.
 fn behind(step: &Step<'_>, number: u32, instr: &Instr) -> Result<Option<Frame>, NoMemory>
     ensures { IfOk result (λ frame. (s : RowScope)
-        → IsBehind step.now.before.now
-        (row_of (scope_with s step.now.pool.now step.now.own.now) step.now.before.now number
-        instr.now) frame) }
+        → IsBehind (scope_with s step.now.pool.now step.now.own.now) step.now.before.now number
+        instr.now frame) }
 {
     match instr {
         Instr::Nop | Instr::Goto(_) | Instr::Iinc(_, _) => step.pops(0),

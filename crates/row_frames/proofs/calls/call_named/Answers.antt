@@ -6,7 +6,7 @@ use Rattle.member_link.specs.RowScope.{RowScope}
 use Rattle.member_link.specs.Rows.MemberRows.{init_row, special_row}
 use Rattle.member_link.specs.Rows.Row.{either}
 use Rattle.row_frames.proofs.calls.call_named.Goals as goal
-use Rattle.row_frames.specs.Behind.{IsBehind}
+use Rattle.row_frames.specs.Inner.Rows.{IsBehindRow}
 use Rattle.row_frames.specs.Inner.Scopes.{scope_with}
 
 pub returns-then-eq : goal.returns-then-eq
@@ -16,4 +16,4 @@ returns-then-eq c =
     let r = reference_meant c.args.reference.now in
     let is_init : bytes_eq r.name init ≡ true = sym (ap (λ (t : List ℕ). bytes_eq t init) c.bytes.ensures.same) ∙ sym c.eq.ensures ∙ c.if-eq.true in
     subst (λ (b : Bool). IfOk c.initialise.result (λ (frame : Option Frame). (s : RowScope)
-    → IsBehind f (either b (init_row (scope_with s step.pool.now step.own.now) f r) (special_row (scope_with s step.pool.now step.own.now) f r)) frame)) (sym is_init) c.initialise.ensures
+    → IsBehindRow f (either b (init_row (scope_with s step.pool.now step.own.now) f r) (special_row (scope_with s step.pool.now step.own.now) f r)) frame)) (sym is_init) c.initialise.ensures

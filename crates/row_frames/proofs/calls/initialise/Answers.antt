@@ -6,7 +6,7 @@ use Rattle.member_link.specs.RowScope.{RowScope}
 use Rattle.member_link.specs.Rows.MemberRows.{init_row}
 use Rattle.row_frames.proofs.Pushing.{if_ok, init_leaves, initialised_frame, told_of}
 use Rattle.row_frames.proofs.calls.initialise.Goals as goal
-use Rattle.row_frames.specs.Behind.{IsBehind}
+use Rattle.row_frames.specs.Inner.Rows.{IsBehindRow}
 use Rattle.row_frames.specs.Inner.Scopes.{scope_with}
 use Rattle.row_frames.specs.Inner.Stacks.{given}
 
@@ -20,5 +20,5 @@ returns-in-Some c =
     let many : count ≡ length (parameters_of r.desc) = c.parameter_count.ensures.is ∙ ap (λ (d : List ℕ). length (parameters_of d)) c.bytes-desc.ensures.same in
     let tells = told_of c.bytes-desc.result.now r.desc c.in_ok-gives.field-0 gives c.bytes-desc.ensures.same c.in-Some.is c.in_ok-gives.ensures in
     if_ok (λ (frame : Option Frame). frame ≡ initialised_frame step.own.now r.class f (count + 1) (given gives))
-    (λ (frame : Option Frame). (s : RowScope) → IsBehind f (init_row (scope_with s step.pool.now step.own.now) f r) frame)
+    (λ (frame : Option Frame). (s : RowScope) → IsBehindRow f (init_row (scope_with s step.pool.now step.own.now) f r) frame)
     c.initialised.result (λ frame is s. init_leaves f (scope_with s step.pool.now step.own.now) r count gives frame many tells is) c.initialised.ensures

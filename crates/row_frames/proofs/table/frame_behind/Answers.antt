@@ -1,7 +1,6 @@
 use Rattle.std.proofs.Common.{◌≡◌, Option, subst}
 use Rattle.class_model.specs.declared.frame.Frame.{Frame}
 use Rattle.member_link.specs.RowScope.{RowScope}
-use Rattle.member_link.specs.Rows.Table.{row_of}
 use Rattle.row_frames.proofs.Pushing.{if_ok, in_scope}
 use Rattle.row_frames.proofs.table.frame_behind.Goals as goal
 use Rattle.row_frames.specs.Behind.{IsBehind}
@@ -14,8 +13,8 @@ returns c =
     let f = c.args.before.now in
     let number = c.args.number in
     let instr = c.args.instr.now in
-    if_ok (λ (frame : Option Frame). (s : RowScope) → IsBehind f (row_of (scope_with s pool own) f number instr) frame)
-    (λ (frame : Option Frame). (s : RowScope) → s.pool ≡ pool → s.own.name ≡ own → IsBehind f (row_of s f number instr) frame)
+    if_ok (λ (frame : Option Frame). (s : RowScope) → IsBehind (scope_with s pool own) f number instr frame)
+    (λ (frame : Option Frame). (s : RowScope) → s.pool ≡ pool → s.own.name ≡ own → IsBehind s f number instr frame)
     c.behind.result
-    (λ frame told s pool_is own_is. subst (λ (scope : RowScope). IsBehind f (row_of scope f number instr) frame) (in_scope s pool own pool_is own_is) (told s))
+    (λ frame told s pool_is own_is. subst (λ (scope : RowScope). IsBehind scope f number instr frame) (in_scope s pool own pool_is own_is) (told s))
     c.behind.ensures
