@@ -1,4 +1,4 @@
-use Rattle.std.proofs.Common.{◌≡◌, ◌+◌, ◌≤◌, ◌++◌, ◌∙◌, ℕ, List, ap, arith, length}
+use Rattle.std.proofs.Common.{◌≡◌, ◌+◌, ◌++◌, ◌∙◌, ℕ, List, ap, arith}
 use Rattle.flow_code.specs.WrittenUnits.{field_units}
 use Rattle.flow_code.specs.declared.point.Site.{Site}
 use Rattle.making_code.specs.StateFrames.{local_types_from, site_types_from}
