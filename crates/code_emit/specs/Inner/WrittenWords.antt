@@ -9,7 +9,7 @@ use Rattle.code_emit.specs.Inner.TemplateWords.{left_of}
 use Rattle.code_emit.specs.declared.template.Template.{Template}
 use Rattle.code_emit.specs.declared.template.Template.TheVariants as variants
 use Rattle.flow_code.specs.declared.point.Point.{Point}
-use Rattle.making_code.specs.Items.{WInstr, WItem, ahead, item, load, plain}
+use Rattle.making_code.specs.Items.{WItem, ahead, item, load, plain}
 use Rattle.making_code.specs.Units.{own}
 use Rattle.plan_flow.specs.PlanScope.{PlanScope}
 use Rattle.plan_flow.specs.Written.Routes.{Route}

@@ -1,4 +1,4 @@
-use Rattle.std.proofs.Common.{rules, ◌≡◌, ◌==◌, ◌+◌, ◌-◌, ℕ, suc, pos, List, [], ◌∷◌, ◌++◌, drop, map, slice_get, Option, Some, None, option_and_then, option_map, false, true, IfOk, OnOk, refl, sym, ap, subst, ◌∙◌, arith}
+use Rattle.std.proofs.Common.{rules}
 use Rattle.std.specs.Result.{IsErrOf}
 use Rattle.code_emit.proofs.CarriedLaws.{carried_full, caught_full, draft_carried}
 use Rattle.code_emit.proofs.carried.draft_as_it_is.Goals as goal
