@@ -8,8 +8,8 @@ ghost use Rattle.virtual_state.specs.States.{is_present};
 
 use class_model::{NoMemory, Text};
 use class_tree::Tree;
-use flow_code::{Flat, KeptFault, Site};
 use field_constructors::{Constructors, folder_number};
+use flow_code::{Flat, KeptFault, Site};
 use materialise::{InstrList, RestackList, make_code, restack};
 use pool_edit::PoolEdit;
 use std::alloc::Global;

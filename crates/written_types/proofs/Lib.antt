@@ -13,3 +13,9 @@ mod Edges
 mod Starts
 mod ObjectInits
 mod Ways
+mod AgreeingFrames
+mod ItemPlaces
+mod CarriedBlocks
+mod FramedBodies
+mod TypedBodies
+mod BlockEnds

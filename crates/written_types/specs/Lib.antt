@@ -1,1 +1,2 @@
 pub mod FitsTypes
+pub mod Writing

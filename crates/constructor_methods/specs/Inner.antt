@@ -1,0 +1,3 @@
+-- Words for private functions: no public contract cites them. What the code is proved to do is said without them, so a reader of the
+-- definitions may pass them over.
+pub mod ConstructorWords

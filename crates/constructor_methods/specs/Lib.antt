@@ -1,0 +1,2 @@
+pub mod ConstructorMethods
+pub mod Inner
