@@ -13,7 +13,7 @@ use Rattle.code_emit.proofs.EmitLaws.{continues_both, full_first, full_then, gro
 use Rattle.code_emit.proofs.SameEnds.{IsEnd}
 use Rattle.code_emit.proofs.FieldLaws.{drop_past}
 use Rattle.code_emit.specs.Inner.CarriedWords.{Catches, IsCarried, IsCatchIndex, IsDraft, all_catch_needs, carried_item, catch_on}
-use Rattle.code_emit.specs.Inner.Drafts.{Meant, catch_of, meant_catch, target_of}
+use Rattle.code_emit.specs.Drafts.{Meant, catch_of, meant_catch, target_of}
 use Rattle.code_emit.specs.declared.draft.DraftCatch.{DraftCatch}
 use Rattle.code_emit.specs.declared.draft.DraftItem.{DraftItem}
 use Rattle.code_emit.specs.declared.draft.Target.{Target}

@@ -5,8 +5,8 @@ use Rattle.std.proofs.lemmas.Grind.{flat_map-append}
 use Rattle.class_model.specs.Pool.{Constants, entries_of}
 use Rattle.class_model.specs.declared.pool.Const.{Const}
 use Rattle.class_tree.specs.Headers.{Name}
-use Rattle.code_emit.specs.Inner.Drafts.{Keeps, KeepsIn, meaning, meant}
-use Rattle.code_emit.specs.Inner.Emits.{Emits, Kept}
+use Rattle.code_emit.specs.Drafts.{Keeps, KeepsIn, meaning, meant}
+use Rattle.code_emit.specs.Emits.{Emits, Kept}
 use Rattle.code_emit.specs.declared.draft.DraftItem.{DraftItem}
 use Rattle.flow_code.specs.declared.reason.Reason.{Reason}
 use Rattle.making_code.specs.Constants.{Need, grow}

@@ -10,8 +10,8 @@ use Rattle.class_model.specs.declared.instr.Imm.{Imm}
 use Rattle.class_model.specs.declared.instr.Instr.{Instr}
 use Rattle.class_model.specs.declared.instr.Instr.TheVariants.{Const, Load, Store}
 use Rattle.code_emit.proofs.PutLaws.{puts_both, puts_none}
-use Rattle.code_emit.specs.Inner.Emits.{Kept}
-use Rattle.code_emit.specs.Inner.Puts.{IsPut, Puts}
+use Rattle.code_emit.specs.Emits.{Kept}
+use Rattle.code_emit.specs.Puts.{IsPut, Puts}
 use Rattle.flow_code.specs.FlatCode.{FlatCode}
 use Rattle.flow_code.specs.WrittenUnits.{field_units, written_units}
 use Rattle.flow_code.specs.declared.point.Site.{Site}

@@ -4,9 +4,9 @@ use Rattle.std.proofs.lemmas.Bool.{false≢true}
 use Rattle.std.proofs.lemmas.List.{length-append, length-map, map-append}
 use Rattle.class_model.specs.Pool.{Constants}
 use Rattle.class_tree.specs.Headers.{Name}
-use Rattle.code_emit.specs.Inner.Counts.{AreCounted, handlers_of}
+use Rattle.code_emit.specs.Counts.{AreCounted, handlers_of}
 use Rattle.code_emit.specs.EmittedCode.{AreTooMany, table_entries as entries_of}
-use Rattle.code_emit.specs.Inner.Drafts.{Keeps, Meant, catch_of, keeps_all, keeps_none, meaning, meant, meant_catch}
+use Rattle.code_emit.specs.Drafts.{Keeps, Meant, catch_of, keeps_all, keeps_none, meaning, meant, meant_catch}
 use Rattle.code_emit.specs.declared.draft.DraftItem.{DraftItem}
 use Rattle.making_code.specs.Items.{WItem}
 use Rattle.plan_flow.specs.PlanScope.{PlanScope}

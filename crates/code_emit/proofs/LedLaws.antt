@@ -5,9 +5,9 @@ use Rattle.std.proofs.lemmas.Option.{none-some, same_Some}
 use Rattle.class_model.specs.Laws.Lists.{at_index}
 use Rattle.class_tree.specs.Headers.{headers_of}
 use Rattle.code_emit.proofs.SiteLaws.{AreInside, effect_inside, fewer_inside, reached_inside}
-use Rattle.code_emit.specs.Inner.Emits.{Writing}
-use Rattle.code_emit.specs.Inner.LedEdges.{AllAreLed, AreEffects, AreLed, IsLed, IsStateOn, planned_edge}
-use Rattle.code_emit.specs.Inner.Writable.{IsLeftAt, IsRouteAt, IsWritable, scope}
+use Rattle.code_emit.specs.Emits.{Writing}
+use Rattle.code_emit.specs.LedEdges.{AllAreLed, AreEffects, AreLed, IsLed, IsStateOn, planned_edge}
+use Rattle.code_emit.specs.Writable.{IsLeftAt, IsRouteAt, IsWritable, scope}
 use Rattle.flow_code.specs.FlatCode.{FlatCode, point_at}
 use Rattle.flow_code.specs.declared.point.Point.{Point}
 use Rattle.making_code.specs.MakeOrder.{IsMakeOrder}

@@ -5,9 +5,9 @@ use Rattle.std.proofs.lemmas.List.{map-append}
 use Rattle.class_model.specs.Pool.{Constants}
 use Rattle.class_model.specs.declared.instr.Instr.{Instr}
 use Rattle.class_tree.specs.Headers.{Name}
-use Rattle.code_emit.specs.Inner.Drafts.{Keeps, meaning, meant}
-use Rattle.code_emit.specs.Inner.Emits.{Kept}
-use Rattle.code_emit.specs.Inner.Puts.{IsPut, Puts, PutsItems, PutsRest}
+use Rattle.code_emit.specs.Drafts.{Keeps, meaning, meant}
+use Rattle.code_emit.specs.Emits.{Kept}
+use Rattle.code_emit.specs.Puts.{IsPut, Puts, PutsItems, PutsRest}
 use Rattle.code_emit.specs.Inner.WrittenWords.{ahead_item}
 use Rattle.code_emit.specs.declared.draft.DraftCatch.{DraftCatch}
 use Rattle.code_emit.specs.declared.draft.DraftItem.{DraftItem}

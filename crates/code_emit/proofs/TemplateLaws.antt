@@ -7,7 +7,7 @@ use Rattle.class_model.specs.declared.frame.Frame.{Frame}
 use Rattle.class_model.specs.declared.frame.VType.{VType}
 use Rattle.code_emit.proofs.CellLaws.{popped_from}
 use Rattle.code_emit.proofs.FieldLaws.{drop_past}
-use Rattle.code_emit.specs.Inner.TemplateWords.{IsFieldAt, half_jump, half_plain, template_meant}
+use Rattle.code_emit.specs.TemplateWords.{IsFieldAt, half_jump, half_plain, template_meant}
 use Rattle.code_emit.specs.declared.template.Template.{Template}
 use Rattle.code_emit.specs.declared.template.Template.TheVariants as variants
 use Rattle.flow_code.specs.FlatCode.{FlatCode}

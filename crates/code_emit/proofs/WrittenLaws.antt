@@ -9,11 +9,11 @@ use Rattle.class_tree.specs.Headers.{Classes, Name}
 use Rattle.code_emit.proofs.EmitLaws.{emits_both, emits_one, full_behind, grows_none, needs_one}
 use Rattle.code_emit.proofs.PutLaws.{Pushes}
 use Rattle.code_emit.specs.Inner.CarriedWords.{Catches, IsDraft}
-use Rattle.code_emit.specs.Inner.Drafts.{Meant, meaning}
-use Rattle.code_emit.specs.Inner.Emits.{Emits, Kept, Writing}
-use Rattle.code_emit.specs.Inner.Puts.{PutsItems}
-use Rattle.code_emit.specs.Inner.TemplateWords.{left_of, pop_if, template_meant}
-use Rattle.code_emit.specs.Inner.Writable.{IsLeftAt, IsRouteAt, making_on, scope}
+use Rattle.code_emit.specs.Drafts.{Meant, meaning}
+use Rattle.code_emit.specs.Emits.{Emits, Kept, Writing}
+use Rattle.code_emit.specs.Puts.{PutsItems}
+use Rattle.code_emit.specs.TemplateWords.{left_of, pop_if, template_meant}
+use Rattle.code_emit.specs.Writable.{IsLeftAt, IsRouteAt, making_on, scope}
 use Rattle.code_emit.specs.Inner.WrittenWords.{both_of, rest_of}
 use Rattle.code_emit.specs.declared.draft.DraftCatch.{DraftCatch}
 use Rattle.code_emit.specs.declared.draft.DraftItem.{DraftItem}

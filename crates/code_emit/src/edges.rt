@@ -2,8 +2,8 @@
 ghost use Rattle.std.specs.Prelude.{◌≡◌, IfOk, option_map};
 ghost use Rattle.std.specs.List.{find};
 ghost use Rattle.std.specs.Option.{option_copied};
-ghost use Rattle.code_emit.specs.Inner.LedEdges.{AreEffects, AreLed, IsStateOn};
-ghost use Rattle.code_emit.specs.Inner.Writable.{IsLeftAt, IsWritable};
+ghost use Rattle.code_emit.specs.LedEdges.{AreEffects, AreLed, IsStateOn};
+ghost use Rattle.code_emit.specs.Writable.{IsLeftAt, IsWritable};
 ghost use Rattle.plan_flow.specs.Written.Routes.{is_kind};
 
 use crate::setting::Setting;
@@ -13,8 +13,11 @@ use plan_flow::{Edge, EdgeKind, EdgeList, effect};
 use std::alloc::Global;
 use virtual_state::VState;
 
-/// The state behind the edge of a kind, if control may take one.
-pub(crate) fn state_on(
+/// The state behind the edge of a kind, if control may take one. The state is the one in which the point's instruction is written.
+///
+/// # Errors
+/// `NoMemory`, where memory runs out.
+pub fn state_on(
     alloc: Global,
     setting: &Setting<'_>,
     at: usize,

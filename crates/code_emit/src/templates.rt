@@ -2,10 +2,10 @@
 ghost use Rattle.std.specs.Prelude.{◌≡◌, ◌∷◌, [], ℕ, List, OnOk, Some};
 ghost use Rattle.std.specs.Result.{IsErrOf};
 ghost use Rattle.class_tree.specs.Headers.{Name};
-ghost use Rattle.code_emit.specs.Inner.Emits.{Emits};
-ghost use Rattle.code_emit.specs.Inner.Puts.{Puts, PutsItems};
-ghost use Rattle.code_emit.specs.Inner.TemplateWords.{left_of, pop_if};
-ghost use Rattle.code_emit.specs.Inner.Writable.{AreMeant, IsRouteAt, IsWritable, scope};
+ghost use Rattle.code_emit.specs.Emits.{Emits};
+ghost use Rattle.code_emit.specs.Puts.{Puts, PutsItems};
+ghost use Rattle.code_emit.specs.TemplateWords.{left_of, pop_if};
+ghost use Rattle.code_emit.specs.Writable.{AreMeant, IsRouteAt, IsWritable, scope};
 ghost use Rattle.code_emit.specs.Inner.WrittenWords.{ahead_item, null_jump};
 ghost use Rattle.flow_code.specs.FlatCode.{FlatCode, point_at};
 ghost use Rattle.flow_code.specs.declared.point.FlatInstr.TheVariants as instrs;
@@ -35,8 +35,11 @@ use pool_edit::{PoolEdit, an_edit_goes_back_to_what_it_was};
 use std::alloc::Global;
 use virtual_state::{Slot, VState};
 
-// Writes what a template leaves of an instruction, but for make code.
-fn write_left(
+/// Writes what a template leaves of an instruction, but for make code.
+///
+/// # Errors
+/// `NoMemory`, where memory runs out.
+pub fn write_left(
     alloc: Global,
     units: &Units<'_>,
     types: &Frame,
@@ -70,8 +73,11 @@ fn pop_if(alloc: Global, pops: bool, kept: &mut KeptItems) -> Result<(), NoMemor
     }
 }
 
-// Writes an instruction of a class as it is.
-fn write_as_it_is(
+/// Writes an instruction of a class as it is.
+///
+/// # Errors
+/// `Kept(PoolFull)`, exactly where a constant does not fit; `NoMemory`, where memory runs out. Constants may have been added then.
+pub fn write_as_it_is(
     alloc: Global,
     setting: &Setting<'_>,
     at: usize,
@@ -107,8 +113,11 @@ fn write_as_it_is(
 
 // ---- tests for null
 
-// Writes a test for null of a local unit: nothing, where it holds a virtual object.
-fn write_test(
+/// Writes a test for null of a local unit: nothing, where it holds a virtual object.
+///
+/// # Errors
+/// `Kept(PoolFull)`, exactly where a constant does not fit; `NoMemory`, where memory runs out. Constants may have been added then.
+pub fn write_test(
     alloc: Global,
     setting: &Setting<'_>,
     at: usize,

@@ -1,6 +1,6 @@
 use Rattle.std.proofs.Common.{rules}
 use Rattle.std.specs.Result.{IsErrOf}
-use Rattle.code_emit.specs.Inner.Writable.{scope}
+use Rattle.code_emit.specs.Writable.{scope}
 use Rattle.flow_code.specs.declared.reason.KeptFault.TheVariants.{Kept}
 use Rattle.code_emit.proofs.WrittenLaws.{draft_emits, draft_full}
 use Rattle.code_emit.proofs.templates.write_as_it_is.Goals as goal

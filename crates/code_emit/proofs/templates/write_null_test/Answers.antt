@@ -1,6 +1,6 @@
 use Rattle.std.proofs.Common.{rules, [], ◌∷◌}
 use Rattle.std.specs.Result.{IsErrOf}
-use Rattle.code_emit.specs.Inner.Writable.{scope}
+use Rattle.code_emit.specs.Writable.{scope}
 use Rattle.flow_code.specs.declared.reason.KeptFault.TheVariants.{Kept}
 use Rattle.code_emit.proofs.WrittenLaws.{draft_emits, draft_full, puts_full, puts_then, throw_draft, throw_item}
 use Rattle.code_emit.proofs.templates.write_null_test.Goals as goal

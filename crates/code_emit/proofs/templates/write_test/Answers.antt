@@ -1,7 +1,7 @@
 use Rattle.std.proofs.Common.{◌≡◌, List, sym, ap, subst, ◌∙◌}
 use Rattle.std.proofs.lemmas.Result.{on_ok_weaker}
-use Rattle.code_emit.specs.Inner.Emits.{Emits}
-use Rattle.code_emit.specs.Inner.Writable.{scope}
+use Rattle.code_emit.specs.Emits.{Emits}
+use Rattle.code_emit.specs.Writable.{scope}
 use Rattle.making_code.specs.Items.{WItem}
 use Rattle.materialise.specs.Growing.{IsFull}
 use Rattle.plan_flow.specs.Written.WrittenConstants.{code_needs}

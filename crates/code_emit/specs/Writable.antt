@@ -1,7 +1,7 @@
 -- What code is written from: a valid plan of a narrow flat code; and what it is meant by: links, the field constructors' descriptors, routes.
 use Rattle.std.specs.Prelude.{◌≡◌, ◌≤◌, ℕ, List, [], Option, Some, None}
 use Rattle.class_tree.specs.Headers.{Name, headers_of}
-use Rattle.code_emit.specs.Inner.Emits.{Writing}
+use Rattle.code_emit.specs.Emits.{Writing}
 use Rattle.flow_code.specs.WrittenUnits.{written_units}
 use Rattle.making_code.specs.Items.{WItem}
 use Rattle.materialise.specs.MadeCode.{DescribesConstructors, HaveConstructors}
