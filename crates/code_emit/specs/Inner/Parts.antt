@@ -2,9 +2,7 @@
 use Rattle.std.specs.Prelude.{◌≡◌, ◌≤◌, ◌<◌, ℕ, ◌+◌, suc, Bool, true, false, List, [], ◌∷◌, ◌++◌, drop, length, map, take, Option, Some, None, unwrap_or, if◌then◌else◌}
 use Rattle.std.specs.List.{flat_map}
 use Rattle.std.specs.HashMap.{get}
-use Rattle.class_model.specs.Pool.{Constants}
 use Rattle.class_model.specs.declared.instr.Instr.TheVariants as instrs
-use Rattle.class_tree.specs.Headers.{Name}
 use Rattle.code_emit.specs.Drafts.{kind_of, target_of}
 use Rattle.code_emit.specs.contracts.draft.TargetPartialEq.TheImpl.{ghosts as comparison}
 use Rattle.code_emit.specs.declared.draft.BlockKind.{BlockKind}
@@ -17,14 +15,11 @@ use Rattle.code_emit.specs.declared.finishing.DraftEnd.{DraftEnd}
 use Rattle.code_emit.specs.declared.finishing.DraftEnd.TheVariants.{Goto, Nop, Nothing}
 use Rattle.code_emit.specs.declared.numbers.Starts.{Starts}
 use Rattle.code_emit.specs.declared.placing.Joined.{Joined}
-use Rattle.code_emit.specs.declared.placing.Numbered.{Numbered}
-use Rattle.code_layout.specs.PlainItems.{plain_items}
 use Rattle.making_code.specs.IndexedItems.{IndexedItem}
-use Rattle.plan_flow.specs.PlanScope.{PlanScope}
-use Rattle.plan_flow.specs.Written.Blocks.{Block, BlockOf}
-use Rattle.plan_flow.specs.Written.Finish.{Finished, begins_point, finish, finished_items}
-use Rattle.plan_flow.specs.Written.WrittenCode.{is_handler_pad, is_jump_pad, jumping_to, short, written_items}
-use Rattle.plan_flow.specs.Written.WrittenConstants.{indexed_items, is_near}
+use Rattle.plan_flow.specs.Written.Blocks.{BlockOf}
+use Rattle.plan_flow.specs.Written.Finish.{begins_point}
+use Rattle.plan_flow.specs.Written.WrittenCode.{is_handler_pad, is_jump_pad, jumping_to}
+use Rattle.plan_flow.specs.Written.WrittenConstants.{is_near}
 
 -- ---- blocks with their items
 
