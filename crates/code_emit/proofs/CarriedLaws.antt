@@ -1,9 +1,9 @@
 -- Targets, handlers and constants of instructions that are carried into the host.
-use Rattle.std.proofs.Common.{◌≡◌, ◌==◌, ◌+◌, ◌<◌, ◌≤◌, ◌^◌, ℕ, zero, suc, Bool, true, false, List, [], ◌∷◌, ◌++◌, length, map, drop, slice_get, Option, Some, None, option_map, refl, sym, ap, subst, ◌∙◌, append_assoc, append-nil, arith}
-use Rattle.std.specs.List.{AllByRecursion, flat_map}
+use Rattle.std.proofs.Common.{◌≡◌, ◌==◌, ◌+◌, ◌<◌, ◌^◌, ℕ, suc, true, false, List, [], ◌∷◌, ◌++◌, length, map, drop, slice_get, Option, Some, None, option_map, refl, sym, ap, subst, ◌∙◌, append_assoc, append-nil, arith}
+use Rattle.std.specs.List.{flat_map}
 use Rattle.std.proofs.lemmas.Grind.{flat_map-append}
 use Rattle.std.proofs.lemmas.List.{map-append}
-use Rattle.std.proofs.lemmas.Option.{none-some, same_Some, slice_get_within}
+use Rattle.std.proofs.lemmas.Option.{none-some, same_Some}
 use Rattle.class_model.specs.Laws.Lists.{at_index, drop_item}
 use Rattle.class_model.specs.Pool.{Constants, entries_of}
 use Rattle.class_model.specs.declared.class_file.ClassFile.{ClassFile}
@@ -13,7 +13,7 @@ use Rattle.code_emit.proofs.EmitLaws.{continues_both, full_first, full_then, gro
 use Rattle.code_emit.proofs.SameEnds.{IsEnd}
 use Rattle.code_emit.proofs.FieldLaws.{drop_past}
 use Rattle.code_emit.specs.Inner.CarriedWords.{Catches, IsCarried, IsCatchIndex, IsDraft, all_catch_needs, carried_item, catch_on}
-use Rattle.code_emit.specs.Inner.Drafts.{Meant, catch_of, meaning, meant, meant_catch, target_of}
+use Rattle.code_emit.specs.Drafts.{Meant, catch_of, meant_catch, target_of}
 use Rattle.code_emit.specs.declared.draft.DraftCatch.{DraftCatch}
 use Rattle.code_emit.specs.declared.draft.DraftItem.{DraftItem}
 use Rattle.code_emit.specs.declared.draft.Target.{Target}
@@ -23,8 +23,7 @@ use Rattle.flow_code.specs.declared.point.FlatInstr.{FlatInstr}
 use Rattle.flow_code.specs.declared.point.Point.{Point}
 use Rattle.flow_code.specs.declared.reason.Reason.{Reason}
 use Rattle.making_code.specs.Constants.{Need, needs_at}
-use Rattle.making_code.specs.IndexedMaking.{index_of_last}
-use Rattle.making_code.specs.Items.{WCatch, WItem, WTarget, to_handler_pad, to_jump_pad, to_point}
+use Rattle.making_code.specs.Items.{WCatch, WTarget, to_handler_pad, to_jump_pad, to_point}
 use Rattle.materialise.specs.Growing.{Grows, IsFull}
 use Rattle.materialise.specs.Indices.{IsIndexOfLast}
 use Rattle.plan_flow.specs.Narrow.{IsNarrow, IsNarrowPoint}

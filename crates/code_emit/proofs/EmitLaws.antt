@@ -1,12 +1,12 @@
 -- Items that are written, part by part, with the constants that they need.
-use Rattle.std.proofs.Common.{◌≡◌, ◌++◌, ℕ, List, [], ◌∷◌, Bool, Option, Some, None, Result, Ok, Err, OnOk, IfOk, option_and_then, refl, sym, ap, subst, ◌∙◌, append_assoc, append-nil}
+use Rattle.std.proofs.Common.{◌≡◌, ◌++◌, ℕ, List, [], ◌∷◌, Bool, Result, Ok, Err, OnOk, IfOk, option_and_then, refl, sym, ap, subst, ◌∙◌, append_assoc, append-nil}
 use Rattle.std.specs.List.{flat_map}
 use Rattle.std.proofs.lemmas.Grind.{flat_map-append}
 use Rattle.class_model.specs.Pool.{Constants, entries_of}
 use Rattle.class_model.specs.declared.pool.Const.{Const}
 use Rattle.class_tree.specs.Headers.{Name}
-use Rattle.code_emit.specs.Inner.Drafts.{Keeps, KeepsIn, meaning, meant}
-use Rattle.code_emit.specs.Inner.Emits.{Emits, Kept}
+use Rattle.code_emit.specs.Drafts.{Keeps, KeepsIn, meaning, meant}
+use Rattle.code_emit.specs.Emits.{Emits, Kept}
 use Rattle.code_emit.specs.declared.draft.DraftItem.{DraftItem}
 use Rattle.flow_code.specs.declared.reason.Reason.{Reason}
 use Rattle.making_code.specs.Constants.{Need, grow}

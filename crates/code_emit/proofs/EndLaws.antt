@@ -5,7 +5,7 @@ use Rattle.std.proofs.lemmas.List.{drop-drop}
 use Rattle.std.proofs.lemmas.Grind.{drop-set_at}
 use Rattle.std.proofs.lemmas.Option.{slice_get_cases}
 use Rattle.class_model.specs.Laws.Lists.{drop_item}
-use Rattle.code_emit.specs.Inner.Drafts.{AreDrafted, IsDrafted, kind_of}
+use Rattle.code_emit.specs.Drafts.{AreDrafted, IsDrafted, kind_of}
 use Rattle.code_emit.specs.Inner.Ends.{AreEnded, draft_comes_to, draft_differ, draft_empty_end, draft_end, draft_ends, end_meant, is_silent, leave_end, stay_end}
 use Rattle.code_emit.specs.declared.draft.DraftBlock.{DraftBlock}
 use Rattle.code_emit.specs.declared.finishing.DraftEnd.{DraftEnd}

@@ -1,7 +1,7 @@
 -- Fields of virtual objects in local units.
-use Rattle.std.proofs.Common.{◌≡◌, ◌+◌, ◌≤◌, ◌<◌, ℕ, zero, suc, min, List, [], ◌∷◌, ◌++◌, length, take, drop, slice_get, Option, Some, None, refl, sym, ap, subst, ◌∙◌, arith}
+use Rattle.std.proofs.Common.{◌≡◌, ◌+◌, ◌≤◌, ℕ, zero, suc, min, List, [], ◌∷◌, ◌++◌, take, drop, slice_get, Option, Some, None, refl, sym, ap, subst, ◌∙◌, arith}
 use Rattle.std.proofs.lemmas.List.Sums.{sum_by-take-le}
-use Rattle.std.proofs.lemmas.Option.{none-some, same_Some, slice_get_within}
+use Rattle.std.proofs.lemmas.Option.{none-some, same_Some}
 use Rattle.class_model.specs.Descriptors.{kind_of, parameter_units, units_of}
 use Rattle.class_model.specs.Laws.Lists.{drop_item}
 use Rattle.class_model.specs.declared.descriptor.FieldType.{FieldType}
@@ -10,8 +10,8 @@ use Rattle.class_model.specs.declared.instr.Imm.{Imm}
 use Rattle.class_model.specs.declared.instr.Instr.{Instr}
 use Rattle.class_model.specs.declared.instr.Instr.TheVariants.{Const, Load, Store}
 use Rattle.code_emit.proofs.PutLaws.{puts_both, puts_none}
-use Rattle.code_emit.specs.Inner.Emits.{Kept}
-use Rattle.code_emit.specs.Inner.Puts.{IsPut, Puts}
+use Rattle.code_emit.specs.Emits.{Kept}
+use Rattle.code_emit.specs.Puts.{IsPut, Puts}
 use Rattle.flow_code.specs.FlatCode.{FlatCode}
 use Rattle.flow_code.specs.WrittenUnits.{field_units, written_units}
 use Rattle.flow_code.specs.declared.point.Site.{Site}

@@ -1,15 +1,14 @@
 -- Items that are kept as they are written: how many there are, and that they stay too many.
-use Rattle.std.proofs.Common.{◌≡◌, ◌⊎◌, ◌≤◌, ◌<◌, ◌+◌, ◌++◌, ℕ, Bool, true, false, List, [], ◌∷◌, length, map, min, refl, sym, ap, subst, ◌∙◌, arith, inl, inr}
+use Rattle.std.proofs.Common.{◌≡◌, ◌≤◌, ◌<◌, ◌+◌, ◌++◌, ℕ, true, false, List, [], ◌∷◌, length, map, refl, sym, ap, ◌∙◌, arith, inl, inr}
 use Rattle.std.proofs.lemmas.Bool.{false≢true}
 use Rattle.std.proofs.lemmas.List.{length-append, length-map, map-append}
 use Rattle.class_model.specs.Pool.{Constants}
 use Rattle.class_tree.specs.Headers.{Name}
-use Rattle.code_emit.specs.Inner.Counts.{AreCounted, handlers_of}
+use Rattle.code_emit.specs.Counts.{AreCounted, handlers_of}
 use Rattle.code_emit.specs.EmittedCode.{AreTooMany, table_entries as entries_of}
-use Rattle.code_emit.specs.Inner.Drafts.{Keeps, Meant, catch_of, keeps_all, keeps_none, meaning, meant, meant_catch}
-use Rattle.code_emit.specs.declared.draft.DraftCatch.{DraftCatch}
+use Rattle.code_emit.specs.Drafts.{Keeps, Meant, catch_of, keeps_all, keeps_none, meaning, meant, meant_catch}
 use Rattle.code_emit.specs.declared.draft.DraftItem.{DraftItem}
-use Rattle.making_code.specs.Items.{WCatch, WItem}
+use Rattle.making_code.specs.Items.{WItem}
 use Rattle.plan_flow.specs.PlanScope.{PlanScope}
 
 -- ---- counts

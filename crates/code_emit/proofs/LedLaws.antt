@@ -1,13 +1,13 @@
 -- The edges of a point's effect beside those of its plan and of its route.
-use Rattle.std.proofs.Common.{◌≡◌, ◌≤◌, ◌<◌, ℕ, zero, suc, Bool, true, false, cond, List, [], ◌∷◌, length, slice_get, Option, Some, None, option_map, IsTrue, refl, sym, ap, subst, ◌∙◌, arith}
+use Rattle.std.proofs.Common.{◌≡◌, ℕ, zero, suc, Bool, true, false, List, [], ◌∷◌, length, slice_get, Option, Some, None, option_map, IsTrue, refl, sym, ap, subst, ◌∙◌}
 use Rattle.std.specs.List.{AllByRecursion, find}
 use Rattle.std.proofs.lemmas.Option.{none-some, same_Some}
 use Rattle.class_model.specs.Laws.Lists.{at_index}
 use Rattle.class_tree.specs.Headers.{headers_of}
 use Rattle.code_emit.proofs.SiteLaws.{AreInside, effect_inside, fewer_inside, reached_inside}
-use Rattle.code_emit.specs.Inner.Emits.{Writing}
-use Rattle.code_emit.specs.Inner.LedEdges.{AllAreLed, AreEffects, AreLed, IsLed, IsStateOn, planned_edge}
-use Rattle.code_emit.specs.Inner.Writable.{IsLeftAt, IsRouteAt, IsWritable, scope}
+use Rattle.code_emit.specs.Emits.{Writing}
+use Rattle.code_emit.specs.LedEdges.{AllAreLed, AreEffects, AreLed, IsLed, IsStateOn, planned_edge}
+use Rattle.code_emit.specs.Writable.{IsLeftAt, IsRouteAt, IsWritable, scope}
 use Rattle.flow_code.specs.FlatCode.{FlatCode, point_at}
 use Rattle.flow_code.specs.declared.point.Point.{Point}
 use Rattle.making_code.specs.MakeOrder.{IsMakeOrder}
@@ -20,13 +20,12 @@ use Rattle.plan_flow.specs.Laws.RoutedPlans.{differing_is_made}
 use Rattle.plan_flow.specs.Must.{open_edges}
 use Rattle.plan_flow.specs.Narrow.{IsNarrow, IsNarrowPoint}
 use Rattle.plan_flow.specs.PlanRows.{RowEdge}
-use Rattle.plan_flow.specs.PlanScope.{PlanScope}
-use Rattle.plan_flow.specs.Plans.{AllLead, IsMadeIn, IsValid, IsValidAt, LeadsTo, MadeEdge, Plan, PlannedPoint, planned, state_left}
+use Rattle.plan_flow.specs.Plans.{AllLead, IsValidAt, LeadsTo, MadeEdge, PlannedPoint, planned, state_left}
 use Rattle.plan_flow.specs.Written.Blocks.{state_written}
 use Rattle.plan_flow.specs.Written.Routes.{AreEdgeRoutes, IsEdgeRoute, IsRoute, Route, RouteEdge, edge_by, is_kind}
 use Rattle.plan_flow.specs.declared.edge.Edge.{Edge}
 use Rattle.plan_flow.specs.declared.edge.EdgeKind.{EdgeKind}
-use Rattle.virtual_state.specs.Sites.{differing, has}
+use Rattle.virtual_state.specs.Sites.{has}
 use Rattle.virtual_state.specs.States.{IsState, State, is_present}
 use Rattle.virtual_state.specs.Without.{IsClosed, without}
 

@@ -8,9 +8,10 @@ use Rattle.class_model.specs.declared.instr.Pair.{Pair}
 use Rattle.class_model.specs.Pool.{Constants}
 use Rattle.class_tree.specs.Headers.{Name}
 use Rattle.code_emit.proofs.EndLaws.{ends_same}
-use Rattle.code_emit.specs.Inner.Drafts.{AreDrafted, Meant, all_items, catch_of, kind_of, meaning, meant, meant_catch, target_of}
+use Rattle.code_emit.specs.Drafts.{AreDrafted, Meant, all_items, catch_of, kind_of, meaning, meant, meant_catch, target_of}
 use Rattle.code_emit.specs.Inner.Ends.{AreEnded, IsEnded, draft_ends, end_meant}
-use Rattle.code_emit.specs.Inner.Parts.{IsNumbered, Joins, Part, block_firsts, draft_number, end_drafts, firsts_in, leads, leads_to, part_items, parts_of, placed_catch, placed_draft, placed_drafts, start_at, start_in}
+use Rattle.code_emit.specs.Numbering.{IsNumbered, block_firsts}
+use Rattle.code_emit.specs.Inner.Parts.{Joins, Part, draft_number, end_drafts, firsts_in, leads, leads_to, part_items, parts_of, placed_catch, placed_draft, placed_drafts, start_at, start_in}
 use Rattle.code_emit.specs.declared.draft.DraftBlock.{DraftBlock}
 use Rattle.code_emit.specs.declared.draft.DraftCatch.{DraftCatch}
 use Rattle.code_emit.specs.declared.draft.DraftItem.{DraftItem}

@@ -4,10 +4,10 @@ use Rattle.std.proofs.lemmas.Grind.{flat_map-append}
 use Rattle.std.proofs.lemmas.List.{map-append}
 use Rattle.class_model.specs.Pool.{Constants}
 use Rattle.class_model.specs.declared.instr.Instr.{Instr}
-use Rattle.class_tree.specs.Headers.{Classes, Name}
-use Rattle.code_emit.specs.Inner.Drafts.{Keeps, Meant, meaning, meant}
-use Rattle.code_emit.specs.Inner.Emits.{Kept}
-use Rattle.code_emit.specs.Inner.Puts.{IsPut, Puts, PutsItems, PutsRest}
+use Rattle.class_tree.specs.Headers.{Name}
+use Rattle.code_emit.specs.Drafts.{Keeps, meaning, meant}
+use Rattle.code_emit.specs.Emits.{Kept}
+use Rattle.code_emit.specs.Puts.{IsPut, Puts, PutsItems, PutsRest}
 use Rattle.code_emit.specs.Inner.WrittenWords.{ahead_item}
 use Rattle.code_emit.specs.declared.draft.DraftCatch.{DraftCatch}
 use Rattle.code_emit.specs.declared.draft.DraftItem.{DraftItem}
@@ -16,7 +16,6 @@ use Rattle.code_emit.specs.declared.draft.Target.TheVariants as targets_kinds
 use Rattle.flow_code.specs.FlatCode.{FlatCode}
 use Rattle.making_code.specs.Constants.{Need}
 use Rattle.making_code.specs.Items.{WInstr, WItem, item, plain}
-use Rattle.member_link.specs.Machine.Programs.{Links}
 use Rattle.plan_flow.specs.PlanScope.{PlanScope, scope_of}
 use Rattle.plan_flow.specs.Written.WrittenConstants.{code_needs, indexed_instr, item_needs}
 

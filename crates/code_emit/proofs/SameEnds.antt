@@ -3,8 +3,8 @@ use Rattle.std.proofs.Common.{◌≡◌, ℕ, Bool, true, false, List, [], ◌�
 use Rattle.std.specs.List.{find}
 use Rattle.std.proofs.lemmas.Option.{none-some, same_Some}
 use Rattle.class_tree.specs.Headers.{headers_of}
-use Rattle.code_emit.specs.Inner.Emits.{Writing}
-use Rattle.code_emit.specs.Inner.Writable.{IsRouteAt, IsWritable, scope}
+use Rattle.code_emit.specs.Emits.{Writing}
+use Rattle.code_emit.specs.Writable.{IsRouteAt, IsWritable, scope}
 use Rattle.flow_code.specs.FlatCode.{point_at}
 use Rattle.flow_code.specs.declared.point.Point.{Point}
 use Rattle.member_link.specs.Machine.Links.{AreLinksOf}

@@ -1,7 +1,7 @@
 -- The virtual objects of a valid plan are those of sites of the flat code.
-use Rattle.std.proofs.Common.{◌≡◌, ◌⊎◌, ◌<◌, ◌+◌, ◌++◌, ◌==◌, ℕ, zero, suc, Bool, true, false, cond, List, [], ◌∷◌, length, slice_get, Option, Some, None, option_map, is_some, IsTrue, refl, sym, ap, subst, ◌∙◌, arith, inl, inr}
+use Rattle.std.proofs.Common.{◌≡◌, ◌⊎◌, ◌<◌, ◌+◌, ◌++◌, ◌==◌, ℕ, zero, suc, Bool, true, false, List, [], ◌∷◌, length, slice_get, Option, Some, None, is_some, IsTrue, refl, sym, ap, subst, ◌∙◌, arith, inl, inr}
 use Rattle.std.specs.List.{AllByRecursion}
-use Rattle.std.proofs.lemmas.Bool.{eq-eqb, eqb-true, false≢true}
+use Rattle.std.proofs.lemmas.Bool.{eqb-true, false≢true}
 use Rattle.std.proofs.lemmas.Option.{none-some, same_Some}
 use Rattle.class_model.specs.declared.frame.Frame.{Frame}
 use Rattle.class_model.specs.declared.instr.Instr.{Instr}
@@ -22,7 +22,7 @@ use Rattle.member_link.specs.Machine.CallSteps.{is_object_init}
 use Rattle.member_link.specs.Machine.Programs.{number_of_first}
 use Rattle.member_link.specs.References.{Reference}
 use Rattle.member_link.specs.Rows.ShuffleRows.{Form, form_in, forms_of}
-use Rattle.plan_flow.specs.Effect.{AreEdges, IsEffect, IsEffectIn, IsStateBehind}
+use Rattle.plan_flow.specs.Effect.{AreEdges, IsEffect, IsEffectIn}
 use Rattle.plan_flow.specs.Must.{open_edges, row_of_point}
 use Rattle.plan_flow.specs.PlanRows.{Change, PlanRow, RowEdge, enter_monitor, leave_monitor, new_object, no_change, put_field}
 use Rattle.plan_flow.specs.PlanScope.{PlanScope, field_of, field_number, member_of, pool_of, site_at}
@@ -34,9 +34,8 @@ use Rattle.plan_flow.specs.declared.edge.EdgeKind.{EdgeKind}
 use Rattle.plan_flow.specs.declared.edge.EdgeKind.TheVariants as edges
 use Rattle.virtual_state.specs.Laws.Objects.{found_site, present_found}
 use Rattle.virtual_state.specs.Laws.Removals.{present_before}
-use Rattle.virtual_state.specs.Making.{IsStateOf}
 use Rattle.virtual_state.specs.Sites.{has}
-use Rattle.virtual_state.specs.States.{IsState, State, is_present, object_of}
+use Rattle.virtual_state.specs.States.{State, is_present, object_of}
 use Rattle.virtual_state.specs.Without.{without}
 use Rattle.virtual_state.specs.declared.slot.Slot.{Slot}
 use Rattle.virtual_state.specs.declared.slot.Slot.TheVariants.{Plain, Virt, Unusable}

@@ -4,9 +4,9 @@ use Rattle.std.proofs.lemmas.List.{drop_all}
 use Rattle.code_emit.proofs.EndLaws.{ends_same}
 use Rattle.code_emit.specs.BlockStarts.{block_starts, point_of, start_of_block}
 use Rattle.code_emit.specs.Inner.DraftStarts.{draft_start, draft_starts}
-use Rattle.code_emit.specs.Inner.Drafts.{AreDrafted, IsDrafted}
+use Rattle.code_emit.specs.Drafts.{AreDrafted, IsDrafted}
 use Rattle.code_emit.specs.Inner.Ends.{AreEnded, draft_ends}
-use Rattle.code_emit.specs.Inner.Parts.{block_firsts}
+use Rattle.code_emit.specs.Numbering.{block_firsts}
 use Rattle.code_emit.specs.declared.draft.DraftBlock.{DraftBlock}
 use Rattle.code_emit.specs.declared.finishing.DraftEnd.{DraftEnd}
 use Rattle.code_emit.specs.declared.starts.BlockStart.{BlockStart}

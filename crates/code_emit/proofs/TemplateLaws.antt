@@ -1,6 +1,5 @@
 -- What an instruction is written as, case by case.
-use Rattle.std.proofs.Common.{◌≡◌, ◌==◌, ◌&&◌, ◌||◌, ◌+◌, ◌-◌, ◌<◌, ◌≤◌, ℕ, zero, suc, min, Bool, true, false, cond, List, [], ◌∷◌, ◌++◌, length, drop, take, slice_get, Option, Some, None, is_some, option_map, option_and_then, refl, sym, ap, subst, ◌∙◌, arith}
-use Rattle.std.specs.List.{flat_map}
+use Rattle.std.proofs.Common.{◌≡◌, ◌==◌, ◌&&◌, ◌||◌, ◌+◌, ◌-◌, ◌<◌, ◌≤◌, ℕ, suc, min, Bool, true, false, cond, List, [], ◌∷◌, length, slice_get, Option, Some, None, is_some, option_map, option_and_then, refl, sym, ap, subst, ◌∙◌, arith}
 use Rattle.std.proofs.lemmas.Option.{none-some, same_Some, slice_get_past}
 use Rattle.class_model.specs.Laws.Lists.{drop_item}
 use Rattle.class_model.specs.Descriptors.{parameters_of}
@@ -8,13 +7,12 @@ use Rattle.class_model.specs.declared.frame.Frame.{Frame}
 use Rattle.class_model.specs.declared.frame.VType.{VType}
 use Rattle.code_emit.proofs.CellLaws.{popped_from}
 use Rattle.code_emit.proofs.FieldLaws.{drop_past}
-use Rattle.code_emit.specs.Inner.TemplateWords.{IsFieldAt, half_jump, half_plain, pop_if, template_meant}
+use Rattle.code_emit.specs.TemplateWords.{IsFieldAt, half_jump, half_plain, template_meant}
 use Rattle.code_emit.specs.declared.template.Template.{Template}
 use Rattle.code_emit.specs.declared.template.Template.TheVariants as variants
 use Rattle.flow_code.specs.FlatCode.{FlatCode}
 use Rattle.flow_code.specs.ReadTypes.{class_of_site, is_site_object}
 use Rattle.flow_code.specs.declared.point.Site.{Site}
-use Rattle.making_code.specs.Items.{WInstr}
 use Rattle.making_code.specs.Units.{fields_at}
 use Rattle.member_link.specs.Machine.CallSteps.{is_object_init}
 use Rattle.member_link.specs.Machine.Layouts.{capped}
@@ -26,7 +24,7 @@ use Rattle.plan_flow.specs.PlanScope.{PlanScope, field_number, site_at}
 use Rattle.plan_flow.specs.PlanSlots.{field_held, field_in, held, readable}
 use Rattle.plan_flow.specs.PlanTable.{operand}
 use Rattle.plan_flow.specs.Written.Routes.{Route}
-use Rattle.plan_flow.specs.Written.Templates.{cells, field_type_at, get_template, init_template, is_virtual, load_of_field, plain_units, pops, put_template, same_template}
+use Rattle.plan_flow.specs.Written.Templates.{cells, get_template, init_template, is_virtual, load_of_field, pops, put_template, same_template}
 use Rattle.virtual_state.specs.States.{State, object_of}
 use Rattle.virtual_state.specs.declared.slot.Slot.{Slot}
 use Rattle.virtual_state.specs.declared.slot.Slot.TheVariants.{Plain, Virt, Unusable}

@@ -1,8 +1,7 @@
 -- What is written of an instruction, put together.
-use Rattle.std.proofs.Common.{◌≡◌, ℕ, Bool, List, [], ◌∷◌, ◌++◌, map, Option, Some, None, option_map, refl, sym, ap, subst, ◌∙◌, append-nil}
+use Rattle.std.proofs.Common.{◌≡◌, ℕ, List, [], ◌∷◌, ◌++◌, map, Option, Some, None, option_map, refl, sym, ap, subst, ◌∙◌, append-nil}
 use Rattle.std.proofs.lemmas.List.{map-append}
-use Rattle.std.proofs.lemmas.Option.{none-some, same_Some}
-use Rattle.class_model.specs.Pool.{Constants}
+use Rattle.std.proofs.lemmas.Option.{same_Some}
 use Rattle.class_model.specs.declared.frame.Frame.{Frame}
 use Rattle.class_model.specs.declared.instr.Instr.{Instr}
 use Rattle.class_model.specs.declared.instr.Instr.TheVariants.{Throw}
@@ -10,11 +9,11 @@ use Rattle.class_tree.specs.Headers.{Classes, Name}
 use Rattle.code_emit.proofs.EmitLaws.{emits_both, emits_one, full_behind, grows_none, needs_one}
 use Rattle.code_emit.proofs.PutLaws.{Pushes}
 use Rattle.code_emit.specs.Inner.CarriedWords.{Catches, IsDraft}
-use Rattle.code_emit.specs.Inner.Drafts.{Meant, meaning}
-use Rattle.code_emit.specs.Inner.Emits.{Emits, Kept, Writing}
-use Rattle.code_emit.specs.Inner.Puts.{PutsItems}
-use Rattle.code_emit.specs.Inner.TemplateWords.{left_of, pop_if, template_meant}
-use Rattle.code_emit.specs.Inner.Writable.{IsLeftAt, IsRouteAt, making_on, scope}
+use Rattle.code_emit.specs.Drafts.{Meant, meaning}
+use Rattle.code_emit.specs.Emits.{Emits, Kept, Writing}
+use Rattle.code_emit.specs.Puts.{PutsItems}
+use Rattle.code_emit.specs.TemplateWords.{left_of, pop_if, template_meant}
+use Rattle.code_emit.specs.Writable.{IsLeftAt, IsRouteAt, making_on, scope}
 use Rattle.code_emit.specs.Inner.WrittenWords.{both_of, rest_of}
 use Rattle.code_emit.specs.declared.draft.DraftCatch.{DraftCatch}
 use Rattle.code_emit.specs.declared.draft.DraftItem.{DraftItem}
@@ -32,7 +31,7 @@ use Rattle.materialise.specs.Growing.{Grows, IsFull}
 use Rattle.member_link.specs.Machine.Programs.{Links}
 use Rattle.plan_flow.specs.PlanScope.{PlanScope, scope_of}
 use Rattle.plan_flow.specs.PlanSlots.{held}
-use Rattle.plan_flow.specs.Plans.{PlannedPoint, planned, state_left}
+use Rattle.plan_flow.specs.Plans.{state_left}
 use Rattle.plan_flow.specs.Written.Blocks.{state_written}
 use Rattle.plan_flow.specs.Written.Routes.{Route, RouteEdge, edge_by}
 use Rattle.plan_flow.specs.Written.Templates.{catches_at, items_at, made_on_jump, null_test, template}
@@ -42,7 +41,6 @@ use Rattle.pool_edit.specs.Edits.{Continues, Edit}
 use Rattle.virtual_state.specs.Sites.{has}
 use Rattle.virtual_state.specs.States.{State}
 use Rattle.virtual_state.specs.Without.{without}
-use Rattle.virtual_state.specs.declared.slot.Slot.{Slot}
 use Rattle.virtual_state.specs.declared.slot.Slot.TheVariants.{Plain, Virt, Unusable}
 
 -- items without constants leave the pool as it is

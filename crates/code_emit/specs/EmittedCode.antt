@@ -11,7 +11,7 @@ use Rattle.flow_code.specs.declared.reason.Reason.{Reason}
 use Rattle.flow_code.specs.declared.reason.Reason.TheVariants as reasons
 use Rattle.making_code.specs.Constants.{grow}
 use Rattle.making_code.specs.Items.{WItem}
-use Rattle.materialise.specs.Growing.{Grows, IsFull}
+use Rattle.materialise.specs.Growing.{Grows}
 use Rattle.materialise.specs.MadeCode.{DescribesConstructors, HaveConstructors}
 use Rattle.member_link.specs.Machine.Links.{AreLinksOf}
 use Rattle.member_link.specs.Machine.Programs.{Links}
@@ -21,7 +21,7 @@ use Rattle.plan_flow.specs.Plans.{FlowsInside, IsValid, Plan}
 use Rattle.plan_flow.specs.Written.Blocks.{blocks_of}
 use Rattle.plan_flow.specs.Written.Finish.{Finished, finish}
 use Rattle.plan_flow.specs.Written.Routes.{IsRouted, Routes}
-use Rattle.plan_flow.specs.Written.WrittenCode.{Form, short, written_items}
+use Rattle.plan_flow.specs.Written.WrittenCode.{short, written_items}
 use Rattle.plan_flow.specs.Written.WrittenConstants.{code_needs, indexed_items}
 use Rattle.pool_edit.specs.Edits.{Edit, grown}
 

@@ -2,15 +2,8 @@
 -- definitions may pass them over.
 pub mod CarriedWords
 pub mod CellWords
-pub mod Counts
 pub mod DecidedWords
 pub mod DraftStarts
-pub mod Drafts
-pub mod Emits
 pub mod Ends
-pub mod LedEdges
 pub mod Parts
-pub mod Puts
-pub mod TemplateWords
-pub mod Writable
 pub mod WrittenWords

@@ -15,7 +15,7 @@ use virtual_state::{Slot, VState};
 
 /// Whether the instruction of a point goes to its target, and on nowhere else, and its jump edge has no pad: a goto, or a
 /// comparison that a virtual object decides. The state is the one in which it is written.
-pub(crate) fn is_decided(flat: &Flat, at: usize, state: &VState) -> bool
+pub fn is_decided(flat: &Flat, at: usize, state: &VState) -> bool
     requires { IsNarrow flat.now }
     ensures { (point : Point) (route : Route)
         → point_at flat.now at ≡ Some point

@@ -4,7 +4,7 @@ use virtual_state::VState;
 
 /// Where a jump or a handler leads.
 #[derive(Clone, Copy, PartialEq, Eq, Hash)]
-pub(crate) enum Target {
+pub enum Target {
     /// What is written first of a point.
     Point(usize),
     /// The pad of a jump edge of a point, by the target's number among those of the instruction.
@@ -17,23 +17,23 @@ pub(crate) enum Target {
 
 /// A handler of an item: where it begins, and the index of the class that it catches, or 0.
 #[derive(Clone, Copy, PartialEq, Eq)]
-pub(crate) struct DraftCatch {
-    pub(crate) to: Target,
-    pub(crate) class: u16,
+pub struct DraftCatch {
+    pub to: Target,
+    pub class: u16,
 }
 
 /// An item: its instruction, but for its targets; where it jumps, in the order of its targets, a switch's default first; and the handlers
 /// of what it throws, in their order.
 #[derive(Drop)]
-pub(crate) struct DraftItem {
-    pub(crate) instr: Instr,
-    pub(crate) targets: ListOf<Target>,
-    pub(crate) catches: ListOf<DraftCatch>,
+pub struct DraftItem {
+    pub instr: Instr,
+    pub targets: ListOf<Target>,
+    pub catches: ListOf<DraftCatch>,
 }
 
 /// What a block is, by the number of a point, and of a target or a handler.
 #[derive(Clone, Copy, PartialEq, Eq)]
-pub(crate) enum BlockKind {
+pub enum BlockKind {
     BeforePoint(usize),
     OfPoint(usize),
     OnNextEdge(usize),
@@ -44,10 +44,10 @@ pub(crate) enum BlockKind {
 /// A block: what it is; the typed point and the state with which it begins; how many items it has; and the point that it goes to at its
 /// end, if it does not go on to the block behind it.
 #[derive(Drop)]
-pub(crate) struct DraftBlock {
-    pub(crate) of: BlockKind,
-    pub(crate) at: usize,
-    pub(crate) state: VState,
-    pub(crate) count: usize,
-    pub(crate) leaves: Option<usize>,
+pub struct DraftBlock {
+    pub of: BlockKind,
+    pub at: usize,
+    pub state: VState,
+    pub count: usize,
+    pub leaves: Option<usize>,
 }

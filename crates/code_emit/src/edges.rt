@@ -1,40 +1,23 @@
-//! The edges of a point, and make code on them.
-ghost use Rattle.std.specs.Prelude.{◌≡◌, ◌++◌, ℕ, List, IfOk, OnOk, map, option_map, slice_get};
+//! The edges of a point.
+ghost use Rattle.std.specs.Prelude.{◌≡◌, IfOk, option_map};
 ghost use Rattle.std.specs.List.{find};
 ghost use Rattle.std.specs.Option.{option_copied};
-ghost use Rattle.std.specs.Result.{IsErrOf};
-ghost use Rattle.class_model.specs.Pool.{Constants};
-ghost use Rattle.class_tree.specs.Headers.{Name};
-ghost use Rattle.code_emit.specs.Inner.Drafts.{Keeps};
-ghost use Rattle.code_emit.specs.Inner.Emits.{Emits};
-ghost use Rattle.code_emit.specs.Inner.LedEdges.{AreEffects, AreLed, IsStateOn};
-ghost use Rattle.code_emit.specs.Inner.Writable.{AreMeant, IsLeftAt, IsRouteAt, IsWritable, making_on, scope};
-ghost use Rattle.flow_code.specs.declared.reason.Reason.{Reason};
-ghost use Rattle.making_code.specs.Items.{WInstr, WItem, item};
-ghost use Rattle.making_code.specs.MakeOrder.{IsMakeOrder};
-ghost use Rattle.materialise.specs.Growing.{IsFull};
-ghost use Rattle.materialise.specs.MadeCode.{CanMake, HaveConstructors};
-ghost use Rattle.member_link.specs.Machine.Programs.{Links};
-ghost use Rattle.plan_flow.specs.PlanScope.{PlanScope};
-ghost use Rattle.plan_flow.specs.Written.Blocks.{making};
-ghost use Rattle.plan_flow.specs.Written.Routes.{Route, edge_by, is_kind};
-ghost use Rattle.plan_flow.specs.Written.WrittenConstants.{code_needs, indexed_instr};
-ghost use Rattle.pool_edit.specs.Edits.{Continues};
+ghost use Rattle.code_emit.specs.LedEdges.{AreEffects, AreLed, IsStateOn};
+ghost use Rattle.code_emit.specs.Writable.{IsLeftAt, IsWritable};
+ghost use Rattle.plan_flow.specs.Written.Routes.{is_kind};
 
-use crate::draft::DraftItem;
-use crate::kept::KeptItems;
 use crate::setting::Setting;
-use class_model::{Instr, ListOf, NoMemory};
-use flow_code::KeptFault;
-use materialise::write_make_code;
+use class_model::NoMemory;
 use member_link::a_tree_has_links;
 use plan_flow::{Edge, EdgeKind, EdgeList, effect};
-use pool_edit::{PoolEdit, an_edit_goes_back_to_what_it_was};
 use std::alloc::Global;
-use virtual_state::{SiteSet, VState};
+use virtual_state::VState;
 
-/// The state behind the edge of a kind, if control may take one.
-pub(crate) fn state_on(
+/// The state behind the edge of a kind, if control may take one. The state is the one in which the point's instruction is written.
+///
+/// # Errors
+/// `NoMemory`, where memory runs out.
+pub fn state_on(
     alloc: Global,
     setting: &Setting<'_>,
     at: usize,

@@ -3,7 +3,7 @@ ghost use Rattle.std.specs.Prelude.{◌≡◌, ℕ, OnOk, Some};
 ghost use Rattle.std.specs.List.{slice_get};
 ghost use Rattle.std.specs.Option.{option_copied};
 ghost use Rattle.class_model.specs.declared.instr.Instr.TheVariants.{Const};
-ghost use Rattle.code_emit.specs.Inner.Puts.{Puts};
+ghost use Rattle.code_emit.specs.Puts.{Puts};
 ghost use Rattle.flow_code.specs.FlatCode.{FlatCode};
 ghost use Rattle.making_code.specs.Units.{field_unit, fields_at, unit_number};
 ghost use Rattle.plan_flow.specs.Written.Templates.{cleared_fields, load_of_field, narrowing, store_of_field, zero_of};

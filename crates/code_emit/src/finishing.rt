@@ -1,6 +1,6 @@
 //! What blocks end with.
 ghost use Rattle.std.specs.Prelude.{◌≡◌, ◌≤◌, ◌<◌, ◌+◌, ℕ, drop, length, slice_get, Some, IfOk};
-ghost use Rattle.code_emit.specs.Inner.Drafts.{kind_of};
+ghost use Rattle.code_emit.specs.Drafts.{kind_of};
 ghost use Rattle.code_emit.specs.Inner.Ends.{draft_comes_to, draft_differ, draft_empty_end, draft_end, draft_ends, is_silent};
 ghost use Rattle.flow_code.specs.WrittenUnits.{written_units};
 ghost use Rattle.plan_flow.specs.Written.Finish.{begins_point};

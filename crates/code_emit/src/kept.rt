@@ -2,8 +2,8 @@
 ghost use Rattle.std.specs.Prelude.{◌≡◌, ◌++◌, ◌∷◌, [], ℕ, List, OnOk, length, option_map};
 ghost use Rattle.class_model.specs.Pool.{Constants};
 ghost use Rattle.class_tree.specs.Headers.{Name};
-ghost use Rattle.code_emit.specs.Inner.Counts.{AreFew, AreItems};
-ghost use Rattle.code_emit.specs.Inner.Drafts.{Keeps, meaning, meant};
+ghost use Rattle.code_emit.specs.Counts.{AreFew, AreItems};
+ghost use Rattle.code_emit.specs.Drafts.{Keeps, meaning, meant};
 ghost use Rattle.making_code.specs.Items.{WItem};
 ghost use Rattle.plan_flow.specs.PlanScope.{PlanScope};
 
@@ -18,7 +18,7 @@ pub(crate) const MOST: usize = 65_535;
 
 /// Items that are written one behind the other. Once there are more than a code can have, or their handlers are more, they are let go, and
 /// so is each that comes after them.
-pub(crate) struct KeptItems {
+pub struct KeptItems {
     items: Vec<DraftItem>,
     // the handlers of the items
     entries: usize,
@@ -37,8 +37,8 @@ impl Drop for KeptItems {
 }
 
 impl Model for KeptItems {
-    ghost use Rattle.code_emit.specs.Inner.Emits.{Kept};
-    ghost use Rattle.code_emit.specs.Inner.Counts.{AreCounted};
+    ghost use Rattle.code_emit.specs.Emits.{Kept};
+    ghost use Rattle.code_emit.specs.Counts.{AreCounted};
 
     ghost Value = { Kept };
 
@@ -49,7 +49,7 @@ impl Model for KeptItems {
 
 impl KeptItems {
     /// No item.
-    pub(crate) fn new(alloc: Global) -> Self
+    pub fn new(alloc: Global) -> Self
         ensures { (s : PlanScope) (constructor : Name → List ℕ) (pool : Constants)
             → Keeps s constructor pool [] result.is_long result.items }
     {
@@ -61,7 +61,7 @@ impl KeptItems {
     }
 
     /// How many items are kept.
-    pub(crate) fn len(&self) -> usize
+    pub fn len(&self) -> usize
         ensures len { result ≡ length self.now.items }
         ensures few { AreFew self.now.is_long self.now.items }
     {
@@ -69,7 +69,7 @@ impl KeptItems {
     }
 
     /// The items, if there are not too many.
-    pub(crate) fn into_items(self) -> Option<Vec<DraftItem>>
+    pub fn into_items(self) -> Option<Vec<DraftItem>>
         ensures { AreItems self.is_long self.items (option_map (λ items. items.items) result) }
     {
         let KeptItems {
@@ -87,7 +87,7 @@ impl KeptItems {
     ///
     /// # Errors
     /// `NoMemory`, where memory runs out.
-    pub(crate) fn push(&mut self, item: DraftItem) -> Result<(), NoMemory>
+    pub fn push(&mut self, item: DraftItem) -> Result<(), NoMemory>
         ensures { OnOk result ((s : PlanScope) (constructor : Name → List ℕ) (pool : Constants)
             (items : List WItem) (one : WItem)
             → Keeps s constructor pool items self.old.is_long self.old.items

@@ -19,5 +19,13 @@ mod starts;
 mod template;
 mod templates;
 
+pub use decided::is_decided;
+pub use draft::{BlockKind, DraftBlock, DraftCatch, DraftItem, Target};
+pub use edges::state_on;
+pub use kept::KeptItems;
 pub use laws::{code_of_a_plan_makes_what_the_plan_says, items_of_a_plan_are_emitted_code};
-pub use starts::{BlockStart, BlockStartList};
+pub use placing::{Numbered, number_items};
+pub use setting::Setting;
+pub use starts::{BlockStart, BlockStartList, block_starts};
+pub use template::{Template, template_of};
+pub use templates::{write_as_it_is, write_left, write_test};

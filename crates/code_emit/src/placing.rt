@@ -3,8 +3,9 @@ ghost use Rattle.std.specs.Prelude.{◌≡◌, ◌≤◌, ◌<◌, ◌++◌, ◌
 ghost use Rattle.std.specs.Vec.Iter.{into_iter_items};
 ghost use Rattle.class_model.specs.Pool.{Constants};
 ghost use Rattle.class_tree.specs.Headers.{Name};
-ghost use Rattle.code_emit.specs.Inner.Drafts.{AreDrafted, all_items, meaning, meant, target_of};
-ghost use Rattle.code_emit.specs.Inner.Parts.{IsNumbered, Joins, JoinsPart, draft_number, end_drafts, parts_of, placed_catch, placed_draft, placed_drafts, start_at};
+ghost use Rattle.code_emit.specs.Drafts.{AreDrafted, all_items, meaning, meant, target_of};
+ghost use Rattle.code_emit.specs.Numbering.{IsNumbered};
+ghost use Rattle.code_emit.specs.Inner.Parts.{Joins, JoinsPart, draft_number, end_drafts, parts_of, placed_catch, placed_draft, placed_drafts, start_at};
 ghost use Rattle.code_emit.specs.declared.draft.Target.{Target as Leading};
 ghost use Rattle.code_layout.specs.PlainItems.{plain_item, plain_items};
 ghost use Rattle.flow_code.specs.WrittenUnits.{written_units};
@@ -25,9 +26,9 @@ use std::alloc::Global;
 use std::vec::IntoIter;
 
 /// The items of all blocks with what blocks end with, where targets are numbers of items, and the number of the first item of each block.
-pub(crate) struct Numbered {
-    pub(crate) items: EmitItemList,
-    pub(crate) firsts: Vec<u16>,
+pub struct Numbered {
+    pub items: EmitItemList,
+    pub firsts: Vec<u16>,
 }
 
 // Written out: a derived drop would be spelled out, field by field, in each function that drops one, and be proved there.
@@ -42,7 +43,7 @@ impl Drop for Numbered {
 
 impl Numbered {
     /// The items, and the number of the first item of each block.
-    pub(crate) fn into_parts(self) -> (EmitItemList, Vec<u16>)
+    pub fn into_parts(self) -> (EmitItemList, Vec<u16>)
         ensures items { result.0 ≡ self.items }
         ensures firsts { result.1 ≡ self.firsts }
     {
@@ -55,7 +56,7 @@ impl Numbered {
 ///
 /// # Errors
 /// `NoMemory`, where memory runs out.
-pub(crate) fn number_items(
+pub fn number_items(
     alloc: Global,
     flat: &Flat,
     blocks: &[DraftBlock],

@@ -1,6 +1,6 @@
 //! Instructions that need no constant.
 ghost use Rattle.std.specs.Prelude.{◌∷◌, [], OnOk};
-ghost use Rattle.code_emit.specs.Inner.Puts.{IsPut, Puts};
+ghost use Rattle.code_emit.specs.Puts.{IsPut, Puts};
 ghost use Rattle.flow_code.specs.FlatCode.{FlatCode};
 ghost use Rattle.making_code.specs.Items.{WInstr};
 

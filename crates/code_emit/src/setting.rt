@@ -1,4 +1,6 @@
 //! What the code of a method is written from.
+ghost use Rattle.std.specs.Prelude.{◌≡◌};
+
 use class_tree::Tree;
 use field_constructors::Constructors;
 use flow_code::Flat;
@@ -7,7 +9,7 @@ use plan_flow::Plan;
 use std::marker::Model;
 
 /// A flat code of a method of a folder, a plan of it, and what is found once of the folder's classes and of the flat code.
-pub(crate) struct Setting<'t> {
+pub struct Setting<'t> {
     pub(crate) tree: &'t Tree,
     pub(crate) flat: &'t Flat,
     pub(crate) plan: &'t Plan,
@@ -28,9 +30,34 @@ impl Drop for Setting<'_> {
     }
 }
 
+impl<'t> Setting<'t> {
+    /// Of a flat code of a method of a folder and a plan of it.
+    pub fn new(
+        tree: &'t Tree,
+        flat: &'t Flat,
+        plan: &'t Plan,
+        constructors: &'t Constructors<'t>,
+        units: &'t Units<'t>,
+    ) -> Self
+        requires constructors { constructors.now ≡ tree.now }
+        requires units { units.now ≡ flat.now }
+        ensures classes { result.classes ≡ tree.now }
+        ensures flat { result.flat ≡ flat.now }
+        ensures plan { result.plan ≡ plan.now }
+    {
+        Setting {
+            tree,
+            flat,
+            plan,
+            constructors,
+            units,
+        }
+    }
+}
+
 impl<'t> Model for Setting<'t> {
     ghost use Rattle.std.specs.Prelude.{◌≡◌};
-    ghost use Rattle.code_emit.specs.Inner.Emits.{Writing};
+    ghost use Rattle.code_emit.specs.Emits.{Writing};
 
     ghost Value = { Writing };
 

@@ -5,7 +5,7 @@ ghost use Rattle.std.specs.List.{flat_map};
 ghost use Rattle.std.specs.Option.{option_copied};
 ghost use Rattle.class_model.specs.Frames.{depth};
 ghost use Rattle.code_emit.specs.Inner.CellWords.{cell_meant, shuffle_of};
-ghost use Rattle.code_emit.specs.Inner.Puts.{Puts};
+ghost use Rattle.code_emit.specs.Puts.{Puts};
 ghost use Rattle.flow_code.specs.FlatCode.{FlatCode};
 ghost use Rattle.plan_flow.specs.Written.Templates.{below_units, by_units, cells, dups, dups_among, plain_among, plain_units, pops, shuffles, swaps};
 

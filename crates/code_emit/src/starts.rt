@@ -2,8 +2,8 @@
 ghost use Rattle.std.specs.Prelude.{◌≡◌, List, IfOk};
 ghost use Rattle.code_emit.specs.BlockStarts.{block_starts, point_of};
 ghost use Rattle.code_emit.specs.Inner.DraftStarts.{draft_start, draft_starts};
-ghost use Rattle.code_emit.specs.Inner.Drafts.{AreDrafted, kind_of};
-ghost use Rattle.code_emit.specs.Inner.Parts.{block_firsts};
+ghost use Rattle.code_emit.specs.Drafts.{AreDrafted, kind_of};
+ghost use Rattle.code_emit.specs.Numbering.{block_firsts};
 ghost use Rattle.flow_code.specs.FlatCode.{FlatCode};
 ghost use Rattle.plan_flow.specs.Written.Blocks.{Block};
 ghost use Rattle.plan_flow.specs.Written.Finish.{finish};
@@ -41,7 +41,7 @@ pub type BlockStartList = ListOf<BlockStart>;
 ///
 /// # Errors
 /// `NoMemory`, where memory runs out.
-pub(crate) fn block_starts(
+pub fn block_starts(
     alloc: Global,
     blocks: Vec<DraftBlock>,
     firsts: &[u16],

@@ -2,8 +2,8 @@
 ghost use Rattle.std.specs.Prelude.{◌≡◌, ◌≤◌, ◌+◌, Some, IfOk, length};
 ghost use Rattle.std.specs.Option.{option_copied};
 ghost use Rattle.class_tree.specs.Headers.{Classes, headers_of};
-ghost use Rattle.code_emit.specs.Inner.TemplateWords.{IsFieldAt, half_jump, half_plain, template_meant};
-ghost use Rattle.code_emit.specs.Inner.Writable.{scope};
+ghost use Rattle.code_emit.specs.TemplateWords.{IsFieldAt, half_jump, half_plain, template_meant};
+ghost use Rattle.code_emit.specs.Writable.{scope};
 ghost use Rattle.flow_code.specs.ReadTypes.{is_site_object as is_site_type};
 ghost use Rattle.making_code.specs.Units.{fields_at};
 ghost use Rattle.member_link.specs.Machine.CallSteps.{is_object_init as is_object_constructor};
@@ -32,7 +32,7 @@ use virtual_state::{Slot, VState};
 
 /// What an instruction is written as.
 #[derive(Clone, Copy)]
-pub(crate) enum Template {
+pub enum Template {
     AsItIs,
     Nothing,
     /// The fields of a site's new object are set to zero.
@@ -54,7 +54,7 @@ pub(crate) enum Template {
 ///
 /// # Errors
 /// `NoMemory`, where memory runs out.
-pub(crate) fn template_of(
+pub fn template_of(
     setting: &Setting<'_>,
     at: usize,
     types: &Frame,

@@ -2,10 +2,10 @@
 ghost use Rattle.std.specs.Prelude.{◌≡◌, ◌∷◌, [], ℕ, List, OnOk, Some};
 ghost use Rattle.std.specs.Result.{IsErrOf};
 ghost use Rattle.class_tree.specs.Headers.{Name};
-ghost use Rattle.code_emit.specs.Inner.Emits.{Emits};
-ghost use Rattle.code_emit.specs.Inner.Puts.{Puts, PutsItems};
-ghost use Rattle.code_emit.specs.Inner.TemplateWords.{left_of, pop_if};
-ghost use Rattle.code_emit.specs.Inner.Writable.{AreMeant, IsLeftAt, IsRouteAt, IsWritable, scope};
+ghost use Rattle.code_emit.specs.Emits.{Emits};
+ghost use Rattle.code_emit.specs.Puts.{Puts, PutsItems};
+ghost use Rattle.code_emit.specs.TemplateWords.{left_of, pop_if};
+ghost use Rattle.code_emit.specs.Writable.{AreMeant, IsRouteAt, IsWritable, scope};
 ghost use Rattle.code_emit.specs.Inner.WrittenWords.{ahead_item, null_jump};
 ghost use Rattle.flow_code.specs.FlatCode.{FlatCode, point_at};
 ghost use Rattle.flow_code.specs.declared.point.FlatInstr.TheVariants as instrs;
@@ -13,7 +13,6 @@ ghost use Rattle.flow_code.specs.declared.point.Point.{Point};
 ghost use Rattle.flow_code.specs.declared.reason.Reason.{Reason};
 ghost use Rattle.materialise.specs.Growing.{IsFull};
 ghost use Rattle.member_link.specs.Machine.Programs.{Links};
-ghost use Rattle.plan_flow.specs.Written.Blocks.{state_written};
 ghost use Rattle.plan_flow.specs.Written.Routes.{Route};
 ghost use Rattle.plan_flow.specs.Written.Templates.{as_it_is, items_at, null_test};
 ghost use Rattle.plan_flow.specs.Written.WrittenConstants.{code_needs};
@@ -26,18 +25,21 @@ use crate::kept::KeptItems;
 use crate::putting::put;
 use crate::setting::Setting;
 use crate::stack_cells::{pop_entries, put_shuffle, write_shuffle};
-use crate::template::{Template, template_of};
+use crate::template::Template;
 use class_model::opcodes::{IFNONNULL, POP};
 use class_model::{Frame, Imm, Instr, Kind, ListOf, NoMemory};
-use flow_code::{FlatInstr, KeptFault};
+use flow_code::KeptFault;
 use materialise::Units;
-use plan_flow::{EdgeKind, held};
+use plan_flow::held;
 use pool_edit::{PoolEdit, an_edit_goes_back_to_what_it_was};
 use std::alloc::Global;
 use virtual_state::{Slot, VState};
 
-// Writes what a template leaves of an instruction, but for make code.
-fn write_left(
+/// Writes what a template leaves of an instruction, but for make code.
+///
+/// # Errors
+/// `NoMemory`, where memory runs out.
+pub fn write_left(
     alloc: Global,
     units: &Units<'_>,
     types: &Frame,
@@ -71,8 +73,11 @@ fn pop_if(alloc: Global, pops: bool, kept: &mut KeptItems) -> Result<(), NoMemor
     }
 }
 
-// Writes an instruction of a class as it is.
-fn write_as_it_is(
+/// Writes an instruction of a class as it is.
+///
+/// # Errors
+/// `Kept(PoolFull)`, exactly where a constant does not fit; `NoMemory`, where memory runs out. Constants may have been added then.
+pub fn write_as_it_is(
     alloc: Global,
     setting: &Setting<'_>,
     at: usize,
@@ -108,8 +113,11 @@ fn write_as_it_is(
 
 // ---- tests for null
 
-// Writes a test for null of a local unit: nothing, where it holds a virtual object.
-fn write_test(
+/// Writes a test for null of a local unit: nothing, where it holds a virtual object.
+///
+/// # Errors
+/// `Kept(PoolFull)`, exactly where a constant does not fit; `NoMemory`, where memory runs out. Constants may have been added then.
+pub fn write_test(
     alloc: Global,
     setting: &Setting<'_>,
     at: usize,

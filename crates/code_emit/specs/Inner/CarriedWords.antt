@@ -4,7 +4,7 @@ use Rattle.std.specs.List.{flat_map}
 use Rattle.class_model.specs.Pool.{Constants}
 use Rattle.class_model.specs.declared.instr.Instr.{Instr}
 use Rattle.class_tree.specs.Headers.{Name}
-use Rattle.code_emit.specs.Inner.Drafts.{catch_of, meaning, meant, meant_catch}
+use Rattle.code_emit.specs.Drafts.{catch_of, meaning, meant, meant_catch}
 use Rattle.code_emit.specs.declared.draft.DraftCatch.{DraftCatch}
 use Rattle.code_emit.specs.declared.draft.DraftItem.{DraftItem}
 use Rattle.flow_code.specs.declared.handlers.FlatHandler.{FlatHandler}

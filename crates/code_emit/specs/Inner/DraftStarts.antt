@@ -1,7 +1,7 @@
 -- Where drafts of blocks start.
 use Rattle.std.specs.Prelude.{ℕ, List, [], ◌∷◌}
 use Rattle.code_emit.specs.BlockStarts.{point_of}
-use Rattle.code_emit.specs.Inner.Drafts.{kind_of}
+use Rattle.code_emit.specs.Drafts.{kind_of}
 use Rattle.code_emit.specs.declared.draft.DraftBlock.{DraftBlock}
 use Rattle.code_emit.specs.declared.starts.BlockStart.{BlockStart}
 

@@ -1,6 +1,6 @@
 -- How drafts of blocks end: what blocks end with, said of drafts.
 use Rattle.std.specs.Prelude.{◌≡◌, ◌==◌, ℕ, Bool, true, false, List, [], ◌∷◌, drop, Option, Some, None, if◌then◌else◌}
-use Rattle.code_emit.specs.Inner.Drafts.{IsDrafted, kind_of}
+use Rattle.code_emit.specs.Drafts.{IsDrafted, kind_of}
 use Rattle.code_emit.specs.declared.draft.DraftBlock.{DraftBlock}
 use Rattle.code_emit.specs.declared.finishing.DraftEnd.{DraftEnd}
 use Rattle.code_emit.specs.declared.finishing.DraftEnd.TheVariants.{Goto, Nop, Nothing}

@@ -2,10 +2,8 @@
 use Rattle.std.specs.Prelude.{◌≡◌, ◌≤◌, ◌<◌, ℕ, ◌+◌, suc, Bool, true, false, List, [], ◌∷◌, ◌++◌, drop, length, map, take, Option, Some, None, unwrap_or, if◌then◌else◌}
 use Rattle.std.specs.List.{flat_map}
 use Rattle.std.specs.HashMap.{get}
-use Rattle.class_model.specs.Pool.{Constants}
 use Rattle.class_model.specs.declared.instr.Instr.TheVariants as instrs
-use Rattle.class_tree.specs.Headers.{Name}
-use Rattle.code_emit.specs.Inner.Drafts.{kind_of, target_of}
+use Rattle.code_emit.specs.Drafts.{kind_of, target_of}
 use Rattle.code_emit.specs.contracts.draft.TargetPartialEq.TheImpl.{ghosts as comparison}
 use Rattle.code_emit.specs.declared.draft.BlockKind.{BlockKind}
 use Rattle.code_emit.specs.declared.draft.DraftBlock.{DraftBlock}
@@ -17,14 +15,11 @@ use Rattle.code_emit.specs.declared.finishing.DraftEnd.{DraftEnd}
 use Rattle.code_emit.specs.declared.finishing.DraftEnd.TheVariants.{Goto, Nop, Nothing}
 use Rattle.code_emit.specs.declared.numbers.Starts.{Starts}
 use Rattle.code_emit.specs.declared.placing.Joined.{Joined}
-use Rattle.code_emit.specs.declared.placing.Numbered.{Numbered}
-use Rattle.code_layout.specs.PlainItems.{plain_items}
 use Rattle.making_code.specs.IndexedItems.{IndexedItem}
-use Rattle.plan_flow.specs.PlanScope.{PlanScope}
-use Rattle.plan_flow.specs.Written.Blocks.{Block, BlockOf}
-use Rattle.plan_flow.specs.Written.Finish.{Finished, begins_point, finish, finished_items}
-use Rattle.plan_flow.specs.Written.WrittenCode.{is_handler_pad, is_jump_pad, jumping_to, short, written_items}
-use Rattle.plan_flow.specs.Written.WrittenConstants.{indexed_items, is_near}
+use Rattle.plan_flow.specs.Written.Blocks.{BlockOf}
+use Rattle.plan_flow.specs.Written.Finish.{begins_point}
+use Rattle.plan_flow.specs.Written.WrittenCode.{is_handler_pad, is_jump_pad, jumping_to}
+use Rattle.plan_flow.specs.Written.WrittenConstants.{is_near}
 
 -- ---- blocks with their items
 
@@ -72,11 +67,6 @@ start_in to number (part ∷ parts) =
 abbrev pub firsts_in : ℕ → List Part → List ℕ
 firsts_in number [] = []
 firsts_in number (part ∷ parts) = number ∷ firsts_in (number + length part.items) parts
-
-abbrev pub block_firsts : ℕ → List Finished → List ℕ
-block_firsts number [] = []
-block_firsts number (one ∷ others) =
-    number ∷ block_firsts (number + length (finished_items one)) others
 
 -- what is known of it
 abbrev pub start_at : Starts → Target → Option ℕ
@@ -139,16 +129,3 @@ Joins parts joined true =
     × (joined.firsts.items ≡ firsts_in 0 parts)
     × ((to : Target)
     → unwrap_or (start_at joined.starts to) (length joined.items) ≡ start_in to 0 parts)
-
--- ---- what is answered
-
--- The items of all blocks with numbers for targets, and where each begins; or none where they are more than a code can have.
-abbrev pub IsNumbered :
-    PlanScope → (Name → List ℕ) → Constants → List Block → Option Numbered → Type 0
-IsNumbered s constructor pool blocks None =
-    65535 < length (written_items short (finish s.flat blocks))
-IsNumbered s constructor pool blocks (Some numbered) =
-    (length (written_items short (finish s.flat blocks)) ≤ 65535)
-    × (plain_items numbered.items
-    ≡ indexed_items s constructor pool short (finish s.flat blocks))
-    × (numbered.firsts.items ≡ block_firsts 0 (finish s.flat blocks))

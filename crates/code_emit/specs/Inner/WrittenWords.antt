@@ -5,11 +5,11 @@ use Rattle.class_model.specs.declared.instr.Imm.TheVariants as imms
 use Rattle.class_model.specs.declared.instr.Instr.{Instr}
 use Rattle.class_model.specs.declared.instr.Instr.TheVariants.{Const, IfNull}
 use Rattle.class_model.specs.declared.opcodes.TheConstants.{IFNONNULL}
-use Rattle.code_emit.specs.Inner.TemplateWords.{left_of}
+use Rattle.code_emit.specs.TemplateWords.{left_of}
 use Rattle.code_emit.specs.declared.template.Template.{Template}
 use Rattle.code_emit.specs.declared.template.Template.TheVariants as variants
 use Rattle.flow_code.specs.declared.point.Point.{Point}
-use Rattle.making_code.specs.Items.{WInstr, WItem, ahead, item, load, plain}
+use Rattle.making_code.specs.Items.{WItem, ahead, item, load, plain}
 use Rattle.making_code.specs.Units.{own}
 use Rattle.plan_flow.specs.PlanScope.{PlanScope}
 use Rattle.plan_flow.specs.Written.Routes.{Route}

@@ -3,7 +3,7 @@ use Rattle.std.proofs.lemmas.Grind.{common_steps}
 use Rattle.std.specs.Result.{IsErrOf}
 use Rattle.code_emit.proofs.CarriedLaws.{other_carried, other_needs}
 use Rattle.code_emit.proofs.carried.carried_instr.Goals as goal
-use Rattle.code_emit.specs.Inner.Writable.{scope}
+use Rattle.code_emit.specs.Writable.{scope}
 use Rattle.flow_code.specs.declared.reason.KeptFault.TheVariants.{Kept}
 use Rattle.making_code.specs.Constants.{Need}
 use Rattle.materialise.specs.Growing.{Grows, IsFull}

@@ -1,8 +1,8 @@
-use Rattle.std.proofs.Common.{rules, ◌≡◌, ◌==◌, ◌+◌, ◌-◌, ℕ, suc, pos, List, [], ◌∷◌, ◌++◌, drop, map, slice_get, Option, Some, None, option_and_then, option_map, false, true, IfOk, OnOk, refl, sym, ap, subst, ◌∙◌, arith}
+use Rattle.std.proofs.Common.{rules}
 use Rattle.std.specs.Result.{IsErrOf}
 use Rattle.code_emit.proofs.CarriedLaws.{carried_full, caught_full, draft_carried}
 use Rattle.code_emit.proofs.carried.draft_as_it_is.Goals as goal
-use Rattle.code_emit.specs.Inner.Writable.{scope}
+use Rattle.code_emit.specs.Writable.{scope}
 use Rattle.flow_code.specs.declared.reason.KeptFault.TheVariants.{Kept}
 
 pub returns-in_err-one-clause-full : goal.returns-in_err-one-clause-full

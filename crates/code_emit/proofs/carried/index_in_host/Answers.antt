@@ -3,7 +3,7 @@ use Rattle.std.proofs.lemmas.Grind.{common_steps}
 use Rattle.std.proofs.lemmas.Result.{on_ok_weaker}
 use Rattle.code_emit.proofs.CarriedLaws.{host_needs}
 use Rattle.code_emit.proofs.carried.index_in_host.Goals as goal
-use Rattle.code_emit.specs.Inner.Writable.{scope}
+use Rattle.code_emit.specs.Writable.{scope}
 use Rattle.making_code.specs.Constants.{Need}
 use Rattle.materialise.specs.Growing.{Grows}
 

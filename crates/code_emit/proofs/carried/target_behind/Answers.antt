@@ -1,8 +1,6 @@
-use Rattle.std.proofs.Common.{rules, ◌≡◌, ◌==◌, ◌+◌, ◌-◌, ℕ, suc, pos, List, [], ◌∷◌, ◌++◌, drop, map, slice_get, Option, Some, None, option_and_then, option_map, false, true, IfOk, OnOk, refl, sym, ap, subst, ◌∙◌, arith}
-use Rattle.std.specs.Result.{IsErrOf}
-use Rattle.code_emit.specs.Inner.Emits.{Writing}
-use Rattle.code_emit.specs.Inner.Drafts.{target_of}
-use Rattle.flow_code.specs.declared.reason.KeptFault.TheVariants.{Kept}
+use Rattle.std.proofs.Common.{◌≡◌, option_and_then, option_map, ap, ◌∙◌}
+use Rattle.code_emit.specs.Emits.{Writing}
+use Rattle.code_emit.specs.Drafts.{target_of}
 use Rattle.plan_flow.specs.PlanEdges.{made_edge_meant}
 use Rattle.plan_flow.specs.Plans.{planned}
 use Rattle.plan_flow.specs.Written.Routes.{edge_by}

@@ -1,4 +1,4 @@
-use Rattle.std.proofs.Common.{rules, ◌≡◌, ◌==◌, ◌+◌, ◌-◌, ℕ, suc, pos, List, [], ◌∷◌, ◌++◌, drop, map, slice_get, Option, Some, None, option_and_then, option_map, false, true, IfOk, OnOk, refl, sym, ap, subst, ◌∙◌, arith}
+use Rattle.std.proofs.Common.{sym, ◌∙◌}
 use Rattle.code_emit.proofs.CarriedLaws.{targets_end, targets_next}
 use Rattle.code_emit.proofs.carried.targets_of.Goals as goal
 use Rattle.plan_flow.specs.PlanTable.{targets_at}

@@ -2,7 +2,7 @@ use Rattle.std.proofs.Common.{◌-◌, length}
 use Rattle.class_tree.specs.Headers.{headers_of}
 use Rattle.code_emit.proofs.CarriedLaws.{TargetsLeft}
 use Rattle.code_emit.proofs.carried.targets_of.Given as goal
-use Rattle.code_emit.specs.Inner.Writable.{IsRouteAt}
+use Rattle.code_emit.specs.Writable.{IsRouteAt}
 use Rattle.member_link.specs.Machine.Links.{AreLinksOf}
 use Rattle.member_link.specs.Machine.Programs.{Links}
 use Rattle.plan_flow.specs.PlanTable.{targets_at}

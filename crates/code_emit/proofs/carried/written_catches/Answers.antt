@@ -1,9 +1,9 @@
-use Rattle.std.proofs.Common.{rules, ◌≡◌, ◌==◌, ◌+◌, ◌-◌, ℕ, suc, pos, List, [], ◌∷◌, ◌++◌, drop, map, slice_get, Option, Some, None, option_and_then, option_map, false, true, IfOk, OnOk, refl, sym, ap, subst, ◌∙◌, arith}
+use Rattle.std.proofs.Common.{List, [], ap, subst, ◌∙◌}
 use Rattle.std.proofs.lemmas.Result.{IfOk-weaker}
 use Rattle.code_emit.proofs.CarriedLaws.{handlers_are}
 use Rattle.code_emit.proofs.carried.written_catches.Goals as goal
 use Rattle.code_emit.specs.Inner.CarriedWords.{Catches, all_catch_needs}
-use Rattle.code_emit.specs.Inner.Emits.{Writing}
+use Rattle.code_emit.specs.Emits.{Writing}
 use Rattle.flow_code.specs.declared.handlers.FlatHandler.{FlatHandler}
 use Rattle.materialise.specs.Growing.{IsFull}
 use Rattle.plan_flow.specs.Written.Templates.{catches_from}

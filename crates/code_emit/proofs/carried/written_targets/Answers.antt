@@ -1,8 +1,8 @@
-use Rattle.std.proofs.Common.{rules, ◌≡◌, ◌==◌, ◌+◌, ◌-◌, ℕ, suc, pos, List, [], ◌∷◌, ◌++◌, drop, map, slice_get, Option, Some, None, option_and_then, option_map, false, true, IfOk, OnOk, refl, sym, ap, subst, ◌∙◌, arith}
+use Rattle.std.proofs.Common.{sym, ap, ◌∙◌}
 use Rattle.std.proofs.lemmas.Result.{IfOk-weaker}
 use Rattle.code_emit.proofs.WrittenLaws.{instr_is}
 use Rattle.code_emit.proofs.carried.written_targets.Goals as goal
-use Rattle.code_emit.specs.Inner.Emits.{Writing}
+use Rattle.code_emit.specs.Emits.{Writing}
 use Rattle.flow_code.specs.declared.point.FlatInstr.{FlatInstr}
 use Rattle.plan_flow.specs.PlanTable.{targets_at}
 use Rattle.plan_flow.specs.Written.Templates.{jump_targets}

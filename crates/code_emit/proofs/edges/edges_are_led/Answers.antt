@@ -2,7 +2,7 @@ use Rattle.std.proofs.Common.{subst}
 use Rattle.class_tree.specs.Headers.{headers_of}
 use Rattle.code_emit.proofs.LedLaws.{edges_led}
 use Rattle.code_emit.proofs.edges.edges_are_led.Goals as goal
-use Rattle.code_emit.specs.Inner.Emits.{Writing}
+use Rattle.code_emit.specs.Emits.{Writing}
 use Rattle.member_link.specs.Machine.Links.{AreLinksOf}
 
 pub returns : goal.returns

@@ -1,7 +1,7 @@
 use Rattle.std.proofs.Common.{[], sym, subst}
 use Rattle.class_tree.specs.Headers.{headers_of}
 use Rattle.code_emit.proofs.edges.effect_at.Goals as goal
-use Rattle.code_emit.specs.Inner.Emits.{Writing}
+use Rattle.code_emit.specs.Emits.{Writing}
 use Rattle.member_link.specs.Machine.Links.{AreLinksOf}
 use Rattle.plan_flow.specs.Must.{IsMust}
 use Rattle.plan_flow.specs.PlanScope.{scope_of}

@@ -2,7 +2,7 @@ use Rattle.std.proofs.Common.{ap, sym, subst, ◌∙◌, option_map}
 use Rattle.code_emit.proofs.EmitLaws.{if_ok}
 use Rattle.code_emit.proofs.LedLaws.{state_behind}
 use Rattle.code_emit.proofs.edges.state_on.Goals as goal
-use Rattle.code_emit.specs.Inner.LedEdges.{AreLed}
+use Rattle.code_emit.specs.LedEdges.{AreLed}
 use Rattle.plan_flow.specs.declared.edge.Edge.{Edge}
 
 pub returns : goal.returns

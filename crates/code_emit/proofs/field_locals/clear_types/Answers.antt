@@ -1,4 +1,4 @@
-use Rattle.std.proofs.Common.{rules, ◌≡◌, ◌==◌, ◌+◌, ◌-◌, ℕ, suc, pos, List, [], ◌∷◌, ◌++◌, drop, map, slice_get, Option, Some, None, option_and_then, option_map, false, true, IfOk, OnOk, refl, sym, ap, subst, ◌∙◌, arith}
+use Rattle.std.proofs.Common.{◌≡◌, ◌+◌, ℕ, suc, [], ◌∷◌, drop, slice_get, Some, sym, ap, ◌∙◌, arith}
 use Rattle.std.specs.Option.{option_copied}
 use Rattle.class_model.specs.Descriptors.{kind_of}
 use Rattle.code_emit.proofs.FieldLaws.{clear_step, cleared_end, cleared_more}

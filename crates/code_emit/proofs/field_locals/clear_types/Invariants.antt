@@ -1,6 +1,6 @@
 use Rattle.std.proofs.Common.{◌≡◌, ◌-◌, drop, length}
 use Rattle.code_emit.proofs.field_locals.clear_types.Given as goal
-use Rattle.code_emit.specs.Inner.Puts.{PutsRest}
+use Rattle.code_emit.specs.Puts.{PutsRest}
 use Rattle.making_code.specs.Units.{field_unit}
 use Rattle.materialise.specs.Inner.UnitWords.{kept_unit}
 use Rattle.plan_flow.specs.Written.Templates.{cleared_fields}

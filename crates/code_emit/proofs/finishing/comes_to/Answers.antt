@@ -3,7 +3,7 @@ use Rattle.std.proofs.lemmas.Grind.{common_steps}
 use Rattle.std.proofs.lemmas.Option.{slice_get-get_or}
 use Rattle.code_emit.proofs.EndLaws.{comes_on}
 use Rattle.code_emit.proofs.finishing.comes_to.Goals as goal
-use Rattle.code_emit.specs.Inner.Drafts.{kind_of}
+use Rattle.code_emit.specs.Drafts.{kind_of}
 use Rattle.code_emit.specs.Inner.Ends.{is_silent}
 use Rattle.plan_flow.specs.Written.Finish.{begins_point}
 

@@ -1,6 +1,6 @@
 use Rattle.code_emit.proofs.CellLaws.{popped_from}
 use Rattle.code_emit.proofs.stack_cells.pop_entries.Given as goal
-use Rattle.code_emit.specs.Inner.Puts.{PutsRest}
+use Rattle.code_emit.specs.Puts.{PutsRest}
 use Rattle.flow_code.specs.FlatCode.{FlatCode}
 use Rattle.plan_flow.specs.Written.Templates.{cells}
 

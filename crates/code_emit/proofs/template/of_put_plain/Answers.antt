@@ -1,7 +1,7 @@
-use Rattle.std.proofs.Common.{rules, ◌≡◌, ◌==◌, ◌+◌, ◌-◌, ℕ, suc, pos, List, [], ◌∷◌, ◌++◌, drop, map, slice_get, Option, Some, None, option_and_then, option_map, false, true, IfOk, OnOk, refl, sym, ap, subst, ◌∙◌, arith}
+use Rattle.std.proofs.Common.{sym, ap, ◌∙◌}
 use Rattle.code_emit.proofs.TemplateLaws.{put_none, put_some}
 use Rattle.code_emit.proofs.template.of_put_plain.Goals as goal
-use Rattle.code_emit.specs.Inner.Writable.{scope}
+use Rattle.code_emit.specs.Writable.{scope}
 use Rattle.plan_flow.specs.Written.Templates.{put_template}
 use Rattle.virtual_state.specs.declared.slot.Slot.TheVariants.{Plain, Virt}
 

@@ -1,9 +1,9 @@
-use Rattle.std.proofs.Common.{rules, ◌≡◌, ◌==◌, ◌+◌, ◌-◌, ℕ, suc, pos, List, [], ◌∷◌, ◌++◌, drop, map, slice_get, Option, Some, None, option_and_then, option_map, false, true, IfOk, OnOk, refl, sym, ap, subst, ◌∙◌, arith}
+use Rattle.std.proofs.Common.{◌≡◌, ◌==◌, sym, ap, subst, ◌∙◌}
 use Rattle.class_tree.specs.Headers.{headers_of}
 use Rattle.code_emit.proofs.template.template_of.Goals as goal
-use Rattle.code_emit.specs.Inner.Emits.{Writing}
-use Rattle.code_emit.specs.Inner.TemplateWords.{template_meant}
-use Rattle.code_emit.specs.Inner.Writable.{scope}
+use Rattle.code_emit.specs.Emits.{Writing}
+use Rattle.code_emit.specs.TemplateWords.{template_meant}
+use Rattle.code_emit.specs.Writable.{scope}
 use Rattle.class_model.specs.PoolChecks.{class_at}
 use Rattle.class_model.specs.declared.opcodes.TheConstants.{INVOKESPECIAL}
 use Rattle.flow_code.specs.FlatCode.{FlatCode}

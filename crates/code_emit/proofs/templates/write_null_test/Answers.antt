@@ -1,12 +1,7 @@
-use Rattle.std.proofs.Common.{rules, ◌≡◌, ◌==◌, ◌+◌, ◌-◌, ℕ, suc, pos, List, [], ◌∷◌, ◌++◌, drop, map, slice_get, Option, Some, None, option_and_then, option_map, false, true, IfOk, OnOk, refl, sym, ap, subst, ◌∙◌, arith}
+use Rattle.std.proofs.Common.{rules, [], ◌∷◌}
 use Rattle.std.specs.Result.{IsErrOf}
-use Rattle.std.proofs.lemmas.Result.{on_ok_weaker}
-use Rattle.code_emit.specs.Inner.Emits.{Emits, Writing}
-use Rattle.code_emit.specs.Inner.Writable.{scope}
+use Rattle.code_emit.specs.Writable.{scope}
 use Rattle.flow_code.specs.declared.reason.KeptFault.TheVariants.{Kept}
-use Rattle.making_code.specs.Items.{WItem}
-use Rattle.materialise.specs.Growing.{IsFull}
-use Rattle.plan_flow.specs.Written.WrittenConstants.{code_needs}
 use Rattle.code_emit.proofs.WrittenLaws.{draft_emits, draft_full, puts_full, puts_then, throw_draft, throw_item}
 use Rattle.code_emit.proofs.templates.write_null_test.Goals as goal
 use Rattle.code_emit.specs.Inner.WrittenWords.{null_jump}

@@ -1,9 +1,7 @@
-use Rattle.std.proofs.Common.{rules, ◌≡◌, ◌==◌, ◌+◌, ◌-◌, ℕ, suc, pos, List, [], ◌∷◌, ◌++◌, drop, map, slice_get, Option, Some, None, option_and_then, option_map, false, true, IfOk, OnOk, refl, sym, ap, subst, ◌∙◌, arith}
-use Rattle.std.specs.Result.{IsErrOf}
+use Rattle.std.proofs.Common.{◌≡◌, List, sym, ap, subst, ◌∙◌}
 use Rattle.std.proofs.lemmas.Result.{on_ok_weaker}
-use Rattle.code_emit.specs.Inner.Emits.{Emits, Writing}
-use Rattle.code_emit.specs.Inner.Writable.{scope}
-use Rattle.flow_code.specs.declared.reason.KeptFault.TheVariants.{Kept}
+use Rattle.code_emit.specs.Emits.{Emits}
+use Rattle.code_emit.specs.Writable.{scope}
 use Rattle.making_code.specs.Items.{WItem}
 use Rattle.materialise.specs.Growing.{IsFull}
 use Rattle.plan_flow.specs.Written.WrittenConstants.{code_needs}

@@ -1,7 +1,7 @@
-use Rattle.std.proofs.Common.{rules, ◌≡◌, ◌++◌, ◌∷◌, [], ℕ, List, length, ◌+◌, ◌<◌, ◌≤◌, Bool, true, false, sym, subst, arith}
-use Rattle.code_emit.proofs.KeptLaws.{counted_more, keeps_one, past_entries, past_length, stays_long}
-use Rattle.code_emit.specs.Inner.Counts.{AreCounted, handlers_of}
-use Rattle.code_emit.specs.Inner.Drafts.{Keeps}
+use Rattle.std.proofs.Common.{rules, ◌≡◌, ◌++◌, ◌∷◌, [], length, ◌+◌, ◌<◌, ◌≤◌, Bool, true, false, sym, subst}
+use Rattle.code_emit.proofs.KeptLaws.{counted_more, past_entries, past_length, stays_long}
+use Rattle.code_emit.specs.Counts.{AreCounted, handlers_of}
+use Rattle.code_emit.specs.Drafts.{Keeps}
 use Rattle.code_emit.proofs.kept.KeptItems.push.Goals as goal
 use Rattle.code_emit.proofs.kept.KeptItems.push.Goals.{then-len-ge-MOST-via-then-len-ge-MOST, then-len-ge-MOST-via-else-len-ge-MOST+then-entries-gt-MOST}
 

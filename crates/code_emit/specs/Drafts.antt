@@ -1,5 +1,5 @@
 -- Drafts of written code: what the code keeps of items and blocks before items have numbers, and what it means.
-use Rattle.std.specs.Prelude.{◌≡◌, ◌⊎◌, ◌<◌, ◌+◌, ℕ, Bool, true, false, List, [], ◌∷◌, ◌++◌, length, map, Option}
+use Rattle.std.specs.Prelude.{◌≡◌, ℕ, Bool, true, false, List, [], ◌∷◌, ◌++◌, length, map}
 use Rattle.std.specs.List.{flat_map}
 use Rattle.class_model.specs.Pool.{Constants}
 use Rattle.class_model.specs.declared.instr.Instr.{Instr}
@@ -13,10 +13,9 @@ use Rattle.code_emit.specs.declared.draft.DraftItem.{DraftItem}
 use Rattle.code_emit.specs.declared.draft.Target.{Target}
 use Rattle.code_emit.specs.declared.draft.Target.TheVariants as targets
 use Rattle.making_code.specs.Items.{WCatch, WItem, WTarget, ahead, to_handler_pad, to_jump_pad, to_point}
-use Rattle.materialise.specs.Growing.{Grows}
 use Rattle.plan_flow.specs.PlanScope.{PlanScope}
 use Rattle.plan_flow.specs.Written.Blocks.{Block, BlockOf, before_point, handler_pad, jump_pad, of_point, on_next_edge}
-use Rattle.plan_flow.specs.Written.WrittenConstants.{catch_index, code_needs, indexed_instr}
+use Rattle.plan_flow.specs.Written.WrittenConstants.{catch_index, indexed_instr}
 use Rattle.pool_edit.specs.Edits.{Edit, grown}
 
 -- ---- items

@@ -2,8 +2,8 @@
 use Rattle.std.specs.Prelude.{◌≡◌, ℕ, List, [], ◌∷◌, Option, Some, None, option_map}
 use Rattle.std.specs.List.{find}
 use Rattle.class_tree.specs.Headers.{headers_of}
-use Rattle.code_emit.specs.Inner.Emits.{Writing}
-use Rattle.code_emit.specs.Inner.Writable.{IsRouteAt, scope}
+use Rattle.code_emit.specs.Emits.{Writing}
+use Rattle.code_emit.specs.Writable.{IsRouteAt, scope}
 use Rattle.materialise.specs.MadeCode.{CanMake}
 use Rattle.member_link.specs.Machine.Links.{AreLinksOf}
 use Rattle.member_link.specs.Machine.Programs.{Links}

@@ -1,7 +1,7 @@
 -- What code is written from: a valid plan of a narrow flat code; and what it is meant by: links, the field constructors' descriptors, routes.
-use Rattle.std.specs.Prelude.{◌≡◌, ◌≤◌, ℕ, List, [], Option, Some, None, map}
+use Rattle.std.specs.Prelude.{◌≡◌, ◌≤◌, ℕ, List, [], Option, Some, None}
 use Rattle.class_tree.specs.Headers.{Name, headers_of}
-use Rattle.code_emit.specs.Inner.Emits.{Writing}
+use Rattle.code_emit.specs.Emits.{Writing}
 use Rattle.flow_code.specs.WrittenUnits.{written_units}
 use Rattle.making_code.specs.Items.{WItem}
 use Rattle.materialise.specs.MadeCode.{DescribesConstructors, HaveConstructors}
@@ -11,7 +11,7 @@ use Rattle.plan_flow.specs.Narrow.{IsNarrow}
 use Rattle.plan_flow.specs.PlanScope.{PlanScope, scope_of}
 use Rattle.plan_flow.specs.Plans.{FlowsInside, IsValid, PlannedPoint, planned, state_left}
 use Rattle.plan_flow.specs.Written.Blocks.{making}
-use Rattle.plan_flow.specs.Written.Routes.{IsRoute, Route, RouteEdge, edge_by}
+use Rattle.plan_flow.specs.Written.Routes.{IsRoute, Route, RouteEdge}
 use Rattle.virtual_state.specs.States.{State}
 
 -- what the plan and its routes read

@@ -1,7 +1,7 @@
 -- What code that writes items does: items behind others, and the constants that they need in the pool.
 use Rattle.std.specs.Prelude.{◌++◌, ℕ, Bool, List}
 use Rattle.class_tree.specs.Headers.{Classes, Name}
-use Rattle.code_emit.specs.Inner.Drafts.{KeepsIn}
+use Rattle.code_emit.specs.Drafts.{KeepsIn}
 use Rattle.code_emit.specs.declared.draft.DraftItem.{DraftItem}
 use Rattle.flow_code.specs.FlatCode.{FlatCode}
 use Rattle.making_code.specs.Items.{WItem}

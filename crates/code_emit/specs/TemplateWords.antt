@@ -8,7 +8,7 @@ use Rattle.class_model.specs.declared.opcodes.TheConstants.{POP}
 use Rattle.code_emit.specs.declared.template.Template.{Template}
 use Rattle.code_emit.specs.declared.template.Template.TheVariants as variants
 use Rattle.flow_code.specs.FlatCode.{FlatCode}
-use Rattle.making_code.specs.Items.{WInstr, WItem, item, plain}
+use Rattle.making_code.specs.Items.{WInstr, plain}
 use Rattle.making_code.specs.Units.{fields_at}
 use Rattle.member_link.specs.References.{Reference}
 use Rattle.plan_flow.specs.PlanScope.{PlanScope, field_number}

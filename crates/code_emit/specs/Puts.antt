@@ -3,8 +3,8 @@ use Rattle.std.specs.Prelude.{◌≡◌, ◌++◌, ℕ, List, [], map}
 use Rattle.class_model.specs.Pool.{Constants}
 use Rattle.class_model.specs.declared.instr.Instr.{Instr}
 use Rattle.class_tree.specs.Headers.{Classes, Name}
-use Rattle.code_emit.specs.Inner.Drafts.{Keeps}
-use Rattle.code_emit.specs.Inner.Emits.{Kept}
+use Rattle.code_emit.specs.Drafts.{Keeps}
+use Rattle.code_emit.specs.Emits.{Kept}
 use Rattle.flow_code.specs.FlatCode.{FlatCode}
 use Rattle.making_code.specs.Items.{WInstr, WItem, item}
 use Rattle.member_link.specs.Machine.Programs.{Links}
