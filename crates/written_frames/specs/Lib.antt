@@ -1,2 +1,3 @@
+pub mod BlockStarts
 pub mod FewLocals
 pub mod Inner

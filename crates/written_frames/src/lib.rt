@@ -6,7 +6,9 @@ mod behind;
 mod differences;
 mod locals;
 mod maker;
+mod starts;
 mod types;
 
 pub use differences::differ;
 pub use maker::{FrameMaker, state_frame};
+pub use starts::{BlockStart, BlockStartList};

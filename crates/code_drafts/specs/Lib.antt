@@ -1,0 +1,14 @@
+pub mod CodeOfPlans
+pub mod Counts
+pub mod Drafts
+pub mod Emits
+pub mod EmittedCode
+pub mod FlatForms
+pub mod Inner
+pub mod ItemPlaces
+pub mod Laws
+pub mod LedEdges
+pub mod Numbering
+pub mod Puts
+pub mod TemplateWords
+pub mod Writable
