@@ -126,7 +126,7 @@ module _ (major : ℕ) (pool more : Constants) (place : ℕ) (hold : AllHold (en
         rw (name_same major pool more place hold member there, desc_same major pool more place hold member there, grows.alike.same_name) refl
     dynamic_same index o e = refl
 
-    op_same : (max_locals : ℕ) (instr : Instr) → OperandFits pool major max_locals instr → instr_op links number after instr ≡ instr_op links number before instr
+    pub op_same : (max_locals : ℕ) (instr : Instr) → OperandFits pool major max_locals instr → instr_op links number after instr ≡ instr_op links number before instr
     op_same max_locals (Ldc index) h = load_same IsLoadable index (λ h. h) h
     op_same max_locals (Ldc2 index) h = load_same IsLoadable2 index (λ h. h) h
     op_same max_locals (GetStatic index) h = refers index _ _ (λ r. refl) (field_reads major pool more place hold index h)
