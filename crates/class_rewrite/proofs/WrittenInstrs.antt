@@ -1,9 +1,11 @@
--- Written code makes objects of its flat code's sites alone.
-use Rattle.std.proofs.Common.{◌≡◌, ◌+◌, ℕ, zero, suc, Bool, true, false, List, [], ◌∷◌, ◌++◌, map, slice_get, flat_map, Option, Some, None, refl, sym, subst, ap, ◌∙◌}
+-- What holds of each instruction of written code: of those of templates and make code, of those that are carried, and of ends.
+use Rattle.std.proofs.Common.{◌≡◌, ◌+◌, ℕ, zero, suc, Bool, true, false, List, [], ◌∷◌, ◌++◌, map, slice_get, flat_map, Option, Some, None, refl, sym, subst, ap, ◌∙◌, zero-add}
 use Rattle.std.specs.List.{AllByRecursion}
 use Rattle.std.proofs.lemmas.Option.{none-some, same_Some}
 use Rattle.class_model.specs.declared.instr.Instr.{Instr}
-use Rattle.class_model.specs.declared.instr.Instr.TheVariants.{Goto}
+use Rattle.class_model.specs.declared.instr.Imm.TheVariants as imms
+use Rattle.class_model.specs.declared.instr.Instr.TheVariants.{Enter, Goto, IfNull, Nop, Throw}
+use Rattle.class_model.specs.declared.opcodes.TheConstants.{DUP, IFNONNULL}
 use Rattle.class_tree.specs.Headers.{Name}
 use Rattle.code_drafts.specs.Laws.GoodBlocks.{all_flat, all_reached}
 use Rattle.code_drafts.specs.Laws.SimpleParts.{AllHold, HoldsOfSimple, OptionHolds, copied_locals_hold, copied_object_holds, each_holds, loaded_entry_holds, loaded_fields_hold, saves_hold, template_holds}
@@ -30,49 +32,37 @@ use Rattle.virtual_state.specs.declared.slot.Slot.{Slot}
 use Rattle.virtual_state.specs.declared.slot.Slot.TheVariants.{Plain, Virt, Unusable}
 use Rattle.virtual_state.specs.declared.slot.VObject.{VObject}
 
--- a site of the flat code has this class
-pub record IsSiteClass (flat : FlatCode) (class : Name) : Type 0 where
-  pub number : ℕ
-  pub site : Site
-  pub is_site : slice_get flat.sites number ≡ Some site
-  pub named : site.class ≡ class
+-- what is to be shown of each sort of instruction
+pub record HoldsOfWritten (s : PlanScope) (Q : WInstr → Type 0) : Type 0 where
+  pub simple : HoldsOfSimple Q
+  pub enter : Q (plain Enter)
+  pub made : (number : ℕ) (site : Site) → slice_get s.flat.sites number ≡ Some site → Q (makes site.class)
+  pub constructed : (number : ℕ) (site : Site) → slice_get s.flat.sites number ≡ Some site → Q (constructs site.class)
+  pub carries : (at : ℕ) (point : Point) (class : ℕ) (instr : Instr)
+      → slice_get s.flat.points at ≡ Some point
+      → point.instr ≡ Of class instr
+      → Q (carried class instr)
+  pub opposite : (class : ℕ) (instr other : Instr) → Q (carried class instr) → opposite_instr instr ≡ Some other → Q (carried class other)
+  pub goto : Q (plain (Goto 0))
+  pub nop : Q (plain Nop)
+  pub null_jump : Q (plain (IfNull IFNONNULL 0))
+  pub throw : Q (plain Throw)
 
--- what is made is an object of a site
-abbrev pub MakesSite : FlatCode → WInstr → Type 0
-MakesSite flat (carried number instr) = Unit {0}
-MakesSite flat (plain instr) = Unit {0}
-MakesSite flat (load kind unit) = Unit {0}
-MakesSite flat (store kind unit) = Unit {0}
-MakesSite flat (makes class) = IsSiteClass flat class
-MakesSite flat (constructs class) = Unit {0}
-
-abbrev pub ItemMakesSite : FlatCode → WItem → Type 0
-ItemMakesSite flat one = MakesSite flat one.instr
-
-module _ (s : PlanScope) where
-  abbrev P : WInstr → Type 0
-  P = MakesSite s.flat
-
+module _ (s : PlanScope) (P : WInstr → Type 0) (holds : HoldsOfWritten s P) where
   abbrev AreSites : List WInstr → Type 0
   AreSites instrs = AllByRecursion P instrs
 
   abbrev AreItems : List WItem → Type 0
-  AreItems items = AllByRecursion (ItemMakesSite s.flat) items
+  AreItems items = AllByRecursion (λ (one : WItem). P one.instr) items
 
   simple : HoldsOfSimple P
-  simple = record {
-    loads = λ kind unit. tt;
-    stores = λ kind unit. tt;
-    consts = λ value form. tt;
-    pures = λ opcode form. tt;
-    shuffles = λ opcode form. tt;
-  }
+  simple = holds.simple
 
   -- ---- make code
 
   enters_made : (site depth : ℕ) → AreSites (enters site depth)
   enters_made site zero = tt
-  enters_made site (suc depth) = (tt, (tt, enters_made site depth))
+  enters_made site (suc depth) = (simple.loads _ _, (holds.enter, enters_made site depth))
 
   object_made : (state : State) (site : ℕ) → AreSites (make_one s.flat state site)
   object_made state site = by (object_of state.objects site) refl (slice_get s.flat.sites site) refl where
@@ -82,12 +72,12 @@ module _ (s : PlanScope) where
     by (Some object) some None none = rw (some, none) tt
     by (Some object) some (Some one) is =
         rw (some, is) (
-          record { number = site; site = one; is_site = is; named = refl },
+          holds.made site one is,
           (
-            tt,
+            simple.shuffles DUP refl,
             holds_of_both P (load_fields_from object.site 0 one.fields object.fields) _
                 (loaded_fields_hold P simple object.site 0 one.fields object.fields)
-                (tt, (tt, (tt, enters_made object.site object.depth))),
+                (simple.consts imms.Null tt, (holds.constructed site one is, (simple.stores _ _, enters_made object.site object.depth))),
           ),
         )
 
@@ -129,22 +119,23 @@ module _ (s : PlanScope) where
     by None is = rw (is) tt
     by (Some edge) is = rw (is) (code_made edge.to edge.state edge.made edge.order)
 
-  instruction_made : (at : ℕ) (point : Point) (route : Route) → AreItems (items_at s at point (state_written route) route)
-  instruction_made at point route = by point.instr refl where
+  instruction_made : (at : ℕ) (point : Point) (route : Route) → slice_get s.flat.points at ≡ Some point
+      → AreItems (items_at s at point (state_written route) route)
+  instruction_made at point route there = by point.instr refl where
     before : State
     before = state_written route
 
     tested : (local : ℕ) (slot : Slot) → point.instr ≡ NullTest local → held before local ≡ slot → AreItems (items_at s at point before route)
-    tested local Plain is told = rw (is, told) (tt, (tt, (tt, (tt, tt))))
+    tested local Plain is told = rw (is, told) (simple.loads _ _, (holds.null_jump, (simple.consts imms.Null tt, (holds.throw, tt))))
     tested local (Virt site) is told = rw (is, told) tt
-    tested local Unusable is told = rw (is, told) (tt, (tt, (tt, (tt, tt))))
+    tested local Unusable is told = rw (is, told) (simple.loads _ _, (holds.null_jump, (simple.consts imms.Null tt, (holds.throw, tt))))
 
     of_template : (class : ℕ) (instr : Instr) (found : Option (List WInstr)) → point.instr ≡ Of class instr
         → template s at point.typed before route class instr ≡ found
         → OptionHolds P simple found
         → AreItems (items_at s at point before route)
-    of_template class instr None is told holds = rw (is, told) (tt, tt)
-    of_template class instr (Some instrs) is told holds = rw (is, told) (as_items instrs holds)
+    of_template class instr None is told all = rw (is, told) (holds.carries at point class instr there is, tt)
+    of_template class instr (Some instrs) is told all = rw (is, told) (as_items instrs all)
 
     by : (instr : FlatInstr) → point.instr ≡ instr → AreItems (items_at s at point before route)
     by (NullTest local) is = tested local (held before local) is refl
@@ -156,12 +147,13 @@ module _ (s : PlanScope) where
   next_made at None = tt
   next_made at (Some edge) = block_made (on_next_edge at) edge.to edge.state edge.made edge.order None
 
-  point_made : (at : ℕ) (point : Point) (route : Route) → AllByRecursion BlockMade (point_blocks s at point route)
-  point_made at point route =
+  point_made : (at : ℕ) (point : Point) (route : Route) → slice_get s.flat.points at ≡ Some point
+      → AllByRecursion BlockMade (point_blocks s at point route)
+  point_made at point route there =
       holds_of_both BlockMade (make_block s (before_point at) at route.state route.made route.order None ++ (instruction_block s at point route ∷ []))
       (next_block s at (edge_by route edges.Next))
       (holds_of_both BlockMade (make_block s (before_point at) at route.state route.made route.order None) (instruction_block s at point route ∷ [])
-      (block_made (before_point at) at route.state route.made route.order None) (instruction_made at point route, tt))
+      (block_made (before_point at) at route.state route.made route.order None) (instruction_made at point route there, tt))
       (next_made at (edge_by route edges.Next))
 
   jump_pads_made : (at : ℕ) (point : Point) (route : Route) → AllByRecursion BlockMade (jump_pads s at point route)
@@ -184,56 +176,108 @@ module _ (s : PlanScope) where
         of_kind edge edges.Next = tt
         of_kind edge (edges.Jump number) = tt
 
+  -- numbers count from nothing
+  counted : (made : ℕ → Point → Route → List Block) (n : ℕ) (point : Point) (route : Route)
+      → AllByRecursion BlockMade (made n point route) → AllByRecursion BlockMade (made (0 + n) point route)
+  counted made n point route holds_here =
+      subst (λ (at : ℕ). AllByRecursion BlockMade (made at point route)) (sym (zero-add n)) holds_here
+
   blocks_made : (routes : Routes) → AllByRecursion BlockMade (blocks_of s routes)
   blocks_made routes =
       holds_of_both BlockMade _ _
-      (holds_of_both BlockMade _ _ (all_reached BlockMade (point_blocks s) 0 s.flat.points routes (λ n point route is is_route. point_made n point route))
-      (all_reached BlockMade (jump_pads s) 0 s.flat.points routes (λ n point route is is_route. jump_pads_made n point route)))
-      (all_reached BlockMade (handler_pads s) 0 s.flat.points routes (λ n point route is is_route. handler_pads_made n point route))
+      (holds_of_both BlockMade _ _
+      (all_reached BlockMade (point_blocks s) 0 s.flat.points routes (λ n point route is is_route. counted (point_blocks s) n point route (point_made n point route is)))
+      (all_reached BlockMade (jump_pads s) 0 s.flat.points routes (λ n point route is is_route. counted (jump_pads s) n point route (jump_pads_made n point route))))
+      (all_reached BlockMade (handler_pads s) 0 s.flat.points routes (λ n point route is is_route. counted (handler_pads s) n point route (handler_pads_made n point route)))
 
   -- ---- ends, and the wide form
 
   ends_made : (end : End) → AreItems (end_items end)
   ends_made no_end = tt
-  ends_made (goto_end to) = (tt, tt)
-  ends_made nop_end = (tt, tt)
+  ends_made (goto_end to) = (holds.goto, tt)
+  ends_made nop_end = (holds.nop, tt)
 
-  widened_made : (one : WItem) → ItemMakesSite s.flat one → AreItems (widened one)
+  widened_made : (one : WItem) → P one.instr → AreItems (widened one)
   widened_made one made = by one.instr refl where
+    alone : widened one ≡ one ∷ [] → AreItems (widened one)
+    alone is = subst AreItems (sym is) (made, tt)
+
     by : (instr : WInstr) → one.instr ≡ instr → AreItems (widened one)
     by (carried class instr) is = over (opposite_instr instr) refl where
       over : (other : Option Instr) → opposite_instr instr ≡ other → AreItems (widened one)
-      over None none = rw (is, none) (made, tt)
-      over (Some other) some = rw (is, some) (tt, (tt, tt))
-    by (plain instr) is = rw (is) (made, tt)
-    by (load kind unit) is = rw (is) (made, tt)
-    by (store kind unit) is = rw (is) (made, tt)
-    by (makes class) is = rw (is) (made, tt)
-    by (constructs class) is = rw (is) (made, tt)
+      over None none = alone (rw (is, none) refl)
+      over (Some other) some = rw (is, some) (holds.opposite class instr other (subst P is made) some, (holds.goto, tt))
+    by (plain instr) is = alone (rw (is) refl)
+    by (load kind unit) is = alone (rw (is) refl)
+    by (store kind unit) is = alone (rw (is) refl)
+    by (makes class) is = alone (rw (is) refl)
+    by (constructs class) is = alone (rw (is) refl)
 
   form_made : (form : Form) (items : List WItem) → AreItems items → AreItems (in_form form items)
   form_made short items made = made
   form_made wide [] made = tt
   form_made wide (one ∷ items) made =
-      holds_of_both (ItemMakesSite s.flat) (widened one) (flat_map widened items) (widened_made one made.0) (form_made wide items made.1)
+      holds_of_both (λ (one : WItem). P one.instr) (widened one) (flat_map widened items) (widened_made one made.0) (form_made wide items made.1)
 
   finished_made : (form : Form) (blocks : List Block) → AllByRecursion BlockMade blocks → AreItems (written_items form (finish s.flat blocks))
   finished_made form [] made = tt
   finished_made form (block ∷ blocks) made =
       let behind : List Finished = finish s.flat blocks in
       let one : Finished = record { block = block; end = end_of s.flat block behind } in
-      holds_of_both (ItemMakesSite s.flat) (block_items form one) (written_items form behind)
-      (form_made form (finished_items one) (holds_of_both (ItemMakesSite s.flat) block.items (end_items one.end) made.0 (ends_made one.end)))
+      holds_of_both (λ (one : WItem). P one.instr) (block_items form one) (written_items form behind)
+      (form_made form (finished_items one) (holds_of_both (λ (one : WItem). P one.instr) block.items (end_items one.end) made.0 (ends_made one.end)))
       (finished_made form blocks made.1)
 
-  -- What an item of written code makes is an object of a site.
-  pub made_of_sites : (form : Form) (routes : Routes) (number : ℕ) (one : WItem)
+  -- It holds of each item of written code.
+  pub each_written : (form : Form) (routes : Routes) → AreItems (written_items form (finish s.flat (blocks_of s routes)))
+  each_written form routes = finished_made form (blocks_of s routes) (blocks_made routes)
+
+  pub item_written : (form : Form) (routes : Routes) (number : ℕ) (one : WItem)
       → slice_get (written_items form (finish s.flat (blocks_of s routes))) number ≡ Some one
-      → MakesSite s.flat one.instr
-  made_of_sites form routes number one is = among (written_items form (finish s.flat (blocks_of s routes))) number
-      (finished_made form (blocks_of s routes) (blocks_made routes)) is where
-    among : (items : List WItem) (place : ℕ) → AreItems items → slice_get items place ≡ Some one → MakesSite s.flat one.instr
+      → P one.instr
+  item_written form routes number one is = among (written_items form (finish s.flat (blocks_of s routes))) number (each_written form routes) is where
+    among : (items : List WItem) (place : ℕ) → AreItems items → slice_get items place ≡ Some one → P one.instr
     among [] place all got = absurd (none-some one got)
-    among (first ∷ items) zero all got =
-        subst (ItemMakesSite s.flat) (same_Some first one got) all.0
+    among (first ∷ items) zero all got = subst (λ (found : WItem). P found.instr) (same_Some first one got) all.0
     among (first ∷ items) (suc place) all got = among items place all.1 got
+
+-- ---- what is made
+
+-- a site of the flat code has this class
+pub record IsSiteClass (flat : FlatCode) (class : Name) : Type 0 where
+  pub number : ℕ
+  pub site : Site
+  pub is_site : slice_get flat.sites number ≡ Some site
+  pub named : site.class ≡ class
+
+-- what is made is an object of a site
+abbrev pub MakesSite : FlatCode → WInstr → Type 0
+MakesSite flat (carried number instr) = Unit {0}
+MakesSite flat (plain instr) = Unit {0}
+MakesSite flat (load kind unit) = Unit {0}
+MakesSite flat (store kind unit) = Unit {0}
+MakesSite flat (makes class) = IsSiteClass flat class
+MakesSite flat (constructs class) = Unit {0}
+
+-- What an item of written code makes is an object of a site.
+pub made_of_sites : (s : PlanScope) (form : Form) (routes : Routes) (number : ℕ) (one : WItem)
+    → slice_get (written_items form (finish s.flat (blocks_of s routes))) number ≡ Some one
+    → MakesSite s.flat one.instr
+made_of_sites s = item_written s (MakesSite s.flat) (record {
+  simple = record {
+    loads = λ kind unit. tt;
+    stores = λ kind unit. tt;
+    consts = λ value form. tt;
+    pures = λ opcode form. tt;
+    shuffles = λ opcode form. tt;
+  };
+  enter = tt;
+  made = λ number site is. record { number = number; site = site; is_site = is; named = refl };
+  constructed = λ number site is. tt;
+  carries = λ at point class instr there is. tt;
+  opposite = λ class instr other holds is. tt;
+  goto = tt;
+  nop = tt;
+  null_jump = tt;
+  throw = tt;
+})
