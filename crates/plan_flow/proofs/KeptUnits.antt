@@ -1,29 +1,30 @@
 -- Local units that stay as they are.
-use Rattle.std.proofs.Common.{◌≡◌, ◌≢◌, ◌⊎◌, ◌+◌, ◌-◌, ◌<◌, ◌≤◌, ℕ, zero, suc, Bool, true, false, List, [], ◌∷◌, ◌++◌, map, length, take, drop, replicate, get_or, slice_get, Option, Some, None, refl, sym, ap, subst, ◌∙◌, inl, inr, arith}
-use Rattle.std.proofs.lemmas.Bool.{cases_Bool, true≢false, false≢true}
-use Rattle.std.proofs.lemmas.List.{get_or-map, get_or-take, get_or_append_left, length-append, length-map, length-take-le, take_all, take_more}
-use Rattle.std.proofs.lemmas.Option.{slice_get-get_or}
+use Rattle.std.proofs.Common.{◌≡◌, ◌≢◌, ◌⊎◌, ◌+◌, ◌-◌, ◌<◌, ◌≤◌, ℕ, zero, suc, Bool, true, false, List, [], ◌∷◌, ◌++◌, map, length, take, drop, replicate, get_or, slice_get, Option, Some, None, if◌then◌else◌, refl, sym, ap, ◌∙◌, inl, inr, arith}
+use Rattle.std.proofs.lemmas.Bool.{true≢false, false≢true}
+use Rattle.std.proofs.lemmas.List.{get_or-map, get_or-take, get_or_append_left, length-append, length-map, length-take, length-take-le, take_all, take_more}
+use Rattle.std.proofs.lemmas.Option.{same_Some, slice_get-get_or}
 use Rattle.class_model.specs.Frames.{is_top}
 use Rattle.class_model.specs.declared.frame.Frame.{Frame}
 use Rattle.class_model.specs.declared.frame.VType.{VType}
 use Rattle.plan_flow.specs.Inner.Fitting.{local_of}
-use Rattle.plan_flow.specs.Inner.Fronts.{KeepsSlot, locals_held, tops_before}
+use Rattle.plan_flow.specs.Inner.Fronts.{IsNextTop, KeepsSlot, locals_held, tops_before}
 use Rattle.plan_flow.specs.PlanSlots.{fit_locals, held, readable}
 use Rattle.plan_flow.specs.PlanTable.{operand}
 use Rattle.plan_flow.proofs.LocalUnits.{fits_more, held_there, kept_front, other_there, stored_there}
 use Rattle.virtual_state.specs.Gaps.{true_from}
-use Rattle.virtual_state.specs.Laws.Objects.{same_or_not, some_or_none}
+use Rattle.virtual_state.specs.Laws.Gaps.{none_more, one_more}
+use Rattle.virtual_state.specs.Laws.Objects.{same_or_not}
 use Rattle.virtual_state.specs.States.{State, is_unusable}
 use Rattle.virtual_state.specs.declared.slot.Slot.{Slot}
 use Rattle.virtual_state.specs.declared.slot.Slot.TheVariants.{Plain, Virt, Unusable}
 
 -- ---- tests that hold at the same indices
 
-head_of : List ℕ → ℕ → ℕ
-head_of [] else = else
-head_of (number ∷ numbers) else = number
+abbrev head_of : List ℕ → ℕ → ℕ
+head_of [] other = other
+head_of (number ∷ numbers) other = number
 
-tail_of : List ℕ → List ℕ
+abbrev tail_of : List ℕ → List ℕ
 tail_of [] = []
 tail_of (number ∷ numbers) = numbers
 
@@ -41,6 +42,37 @@ same_tests first (true ∷ tests) (true ∷ others) len is = ap (λ (list : List
 same_tests first (false ∷ tests) (false ∷ others) len is = ap (λ (list : List Bool). false ∷ list) (same_tests (suc first) tests others (omega (arith, len)) is)
 same_tests first (true ∷ tests) (false ∷ others) len is = let low = at_least (suc first) first (true_from (suc first) tests) others (sym is) in absurd (omega (arith, low))
 same_tests first (false ∷ tests) (true ∷ others) len is = let low = at_least (suc first) first (true_from (suc first) others) tests is in absurd (omega (arith, low))
+
+-- ---- local units that are Top
+
+pub none_there : (types : List VType) (at : ℕ) → slice_get types at ≡ None → get_or types at VType.Top ≡ VType.Top
+none_there [] at is = refl
+none_there (type ∷ types) zero is = absurd cc
+none_there (type ∷ types) (suc at) is = none_there types at is
+
+pub next_found :
+    (types : List VType) (from end at : ℕ)
+    → at < end
+    → end ≤ length types
+    → tops_before types at ≡ tops_before types from
+    → is_top (get_or types at VType.Top) ≡ true
+    → IsNextTop types from end (Some at)
+next_found types from end at low inside so_far top = record {
+  some = λ one is.
+      let same : at ≡ one = same_Some at one is in (
+        omega (arith, low, same),
+        ap (λ (number : ℕ). tops_before types (number + 1)) (sym same) ∙ one_more is_top types at VType.Top (omega (arith, low, inside)) top ∙ (λ i. so_far i ++ same i ∷ []),
+      );
+  none = λ is. absurd cc;
+}
+
+pub next_later :
+    (types : List VType) (from at : ℕ)
+    → at < length types
+    → tops_before types at ≡ tops_before types from
+    → is_top (get_or types at VType.Top) ≡ false
+    → tops_before types (at + 1) ≡ tops_before types from
+next_later types from at low so_far usable = none_more is_top types at VType.Top low usable ∙ so_far
 
 -- ---- one local unit
 
@@ -96,7 +128,7 @@ kept_before state f stored types front listed (suc count) low inside few here th
     let holds = holds_same state f stored front count slot (omega (arith, within, few)) (here count lower) (there count lower) keeps in
     let typed : slice_get types count ≡ Some type = slice_get-get_or types count VType.Top within in
     let is : slot ≡ local_of (slice_get types count) (slice_get (locals_held state f stored) count) =
-        fits_unit slot holds.0 type (tests count lower) holds.2 ∙ (λ i. local_of (sym typed i) (sym holds.1 i)) in
+    fits_unit slot holds.0 type (tests count lower) holds.2 ∙ (λ i. local_of (sym typed i) (sym holds.1 i)) in
     let next : count + 1 ≡ suc count = omega arith in
     fits_more types (locals_held state f stored) (take count listed) (take (suc count) listed) count (suc count) slot
     (kept_before state f stored types front listed count (omega (arith, low)) inside few here there tests keeps) within refl is
@@ -120,14 +152,19 @@ kept_units state f stored types front listed gaps count first is noted same_len 
     same_len same_count tops where
       long : length front ≡ length listed + length (replicate (length front - length listed) Unusable)
       long = ap {B = ℕ} (λ (slots : List Slot). length slots) is ∙ length-append listed (replicate (length front - length listed) Unusable)
+
       inside : length listed ≤ length types
       inside = omega (arith, long, same_len)
+
       got : (at : ℕ) → at < length listed → get_or front at Plain ≡ get_or listed at Plain
       got at low = ap (λ (slots : List Slot). get_or slots at Plain) is ∙ get_or_append_left listed (replicate (length front - length listed) Unusable) Plain at low
+
       here : (at : ℕ) → at < length listed → slice_get front at ≡ Some (get_or listed at Plain)
       here at low = slice_get-get_or front at Plain (omega (arith, low, long)) ∙ ap (λ (slot : Slot). Some slot) (got at low)
+
       took : length front ≡ length (take (length front) state.slots)
       took = ap {B = ℕ} (λ (slots : List Slot). length slots) first
+
       there : (at : ℕ) → at < length listed → slice_get state.slots at ≡ Some (get_or listed at Plain)
       there at low =
           let below : at < length front = omega (arith, low, long) in
@@ -135,14 +172,17 @@ kept_units state f stored types front listed gaps count first is noted same_len 
           ∙ ap (λ (slot : Slot). Some slot) (sym (ap (λ (slots : List Slot). get_or slots at Plain) first ∙ get_or-take (length front) state.slots at Plain below) ∙ got at low) where
             before : (at : ℕ) → at < length front → at < length state.slots
             before at below = let len = length-take (length front) state.slots in omega (arith, took, len, below)
+
       same_len_tests : length (map is_top (take count types)) ≡ length (map is_unusable listed)
       same_len_tests =
           length-map {A = VType} {B = Bool} (take count types) is_top
           ∙ length-take-le count types (omega (arith, same_count, inside))
           ∙ sym same_count
           ∙ sym (length-map {A = Slot} {B = Bool} listed is_unusable)
+
       alike : map is_top (take count types) ≡ map is_unusable listed
       alike = same_tests 0 (map is_top (take count types)) (map is_unusable listed) same_len_tests (same ∙ noted)
+
       tests : (at : ℕ) → at < length listed → is_unusable (get_or listed at Plain) ≡ is_top (get_or types at VType.Top)
       tests at low =
           let below : at < count = omega (arith, low, same_count) in

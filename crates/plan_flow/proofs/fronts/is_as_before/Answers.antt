@@ -1,4 +1,5 @@
-use Rattle.std.proofs.Common.{◌≡◌, ◌∙◌, length, sym, arith}
+use Rattle.std.proofs.Common.{◌≡◌, ◌∙◌, length, sym, ap, arith, rules}
+use Rattle.plan_flow.specs.Inner.Fronts.{tops_before}
 use Rattle.plan_flow.proofs.KeptUnits.{kept_units}
 use Rattle.plan_flow.proofs.fronts.is_as_before.Goals as goal
 
@@ -20,4 +21,4 @@ returns c = λ told.
     let count : length listed ≡ c.listed.result = omega (arith, three) in
     kept_units c.args.state.now types c.args.stored target front listed c.listed_with_gaps.result.1.now c.listed.result
     c.requires.first c.listed_with_gaps.ensures.listed c.listed_with_gaps.ensures.gaps same_len few count c.listed.ensures.tops
-    (c.has_tops_at.ensures told) (search rules)
+    (ap (tops_before target) (sym count) ∙ c.has_tops_at.ensures told) (search rules)

@@ -1,5 +1,4 @@
-use Rattle.std.proofs.Common.{◌≡◌, ◌+◌, ◌<◌, ◌++◌, ◌∷◌, [], ℕ, List, true, false, map, take, length, get_or, suc, sym, ap, ◌∙◌, arith, rules}
-use Rattle.virtual_state.specs.Gaps.{true_from}
+use Rattle.std.proofs.Common.{◌≡◌, ◌<◌, ◌++◌, ◌∷◌, [], ℕ, List, true, false, length, get_or, sym, ap, ◌∙◌, arith}
 use Rattle.virtual_state.specs.Laws.Gaps.{none_more, one_more}
 use Rattle.virtual_state.specs.States.{is_unusable}
 use Rattle.virtual_state.specs.declared.slot.Slot.{Slot}

@@ -1,4 +1,4 @@
-use Rattle.std.proofs.Common.{◌≡◌, List, sym, ap, ◌∙◌, refl}
+use Rattle.std.proofs.Common.{List, sym, ap, ◌∙◌}
 use Rattle.std.specs.List.{filter}
 use Rattle.virtual_state.specs.Inner.Listed.{holds_object}
 use Rattle.virtual_state.proofs.Fronts.{held_listed}
