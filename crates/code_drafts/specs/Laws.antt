@@ -13,3 +13,4 @@ pub mod CarriedItems
 pub mod GrownNames
 pub mod IndexedPlaces
 pub mod CountedPlaces
+pub mod WideWidths
