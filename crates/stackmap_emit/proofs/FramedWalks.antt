@@ -1,14 +1,11 @@
 -- Where frames are those of written code, going over the items finds them.
-use Rattle.std.proofs.Common.{◌≡◌, ◌+◌, ◌<◌, ℕ, zero, suc, Bool, true, false, max, min, List, [], ◌∷◌, length, map, slice_get, Option, Some, None, option_map, refl, sym, ap, subst, ◌∙◌, arith, if◌then◌else◌}
-use Rattle.std.proofs.lemmas.Option.{none-some, same_Some}
+use Rattle.std.proofs.Common.{◌≡◌, ◌+◌, ◌<◌, ℕ, zero, suc, Bool, max, List, [], ◌∷◌, length, slice_get, Option, Some, option_map, refl, sym, ap, subst, ◌∙◌, arith}
 use Rattle.class_model.specs.Pool.{Constants}
 use Rattle.class_model.specs.declared.frame.Frame.{Frame}
-use Rattle.class_model.specs.declared.instr.Instr.{Instr}
 use Rattle.code_layout.specs.PlainItems.{plain_item, plain_items}
 use Rattle.code_layout.specs.declared.emitted.EmitItem.{EmitItem}
 use Rattle.flow_code.specs.FlatCode.{FlatCode}
-use Rattle.making_code.specs.IndexedItems.{IndexedItem}
-use Rattle.member_link.specs.Bodies.{Body, BodyPoint, flows_on}
+use Rattle.member_link.specs.Bodies.{Body}
 use Rattle.member_link.specs.Machine.Replaced.{map_numbered}
 use Rattle.member_link.specs.RowScope.{RowScope}
 use Rattle.member_link.specs.Scope.{Scope}

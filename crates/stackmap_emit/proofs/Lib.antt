@@ -8,3 +8,4 @@ pub mod WidePlaces
 pub mod FilledTables
 pub mod WalkedItems
 pub mod PlacedItems
+pub mod PlacedForms

@@ -3,7 +3,6 @@ use Rattle.std.proofs.Common.{◌≡◌, ◌==◌, ◌||◌, ◌+◌, ◌<◌, �
 use Rattle.std.specs.List.{list_any}
 use Rattle.std.proofs.lemmas.Bool.{eq-eqb, ne_eqb}
 use Rattle.std.proofs.lemmas.List.{drop_all, length-replicate}
-use Rattle.code_layout.specs.PlainItems.{plain_item, plain_items}
 use Rattle.code_layout.specs.declared.emitted.Catch.{Catch}
 use Rattle.code_layout.specs.declared.emitted.EmitItem.{EmitItem}
 use Rattle.class_model.specs.Instructions.{targets}

@@ -1,5 +1,5 @@
 -- Going over items, one after the other, places what is stated and finds how deep the stack gets.
-use Rattle.std.proofs.Common.{◌≡◌, ◌+◌, ◌<◌, ◌≤◌, ℕ, zero, suc, Bool, true, false, max, min, List, [], ◌∷◌, ◌++◌, length, drop, Option, Some, None, refl, sym, ap, subst, ◌∙◌, arith, append-nil, append_assoc, if◌then◌else◌}
+use Rattle.std.proofs.Common.{◌≡◌, ◌≤◌, ℕ, suc, max, min, List, [], ◌∷◌, ◌++◌, length, drop, Option, Some, None, refl, sym, ap, subst, ◌∙◌, arith, append-nil, append_assoc, if◌then◌else◌}
 use Rattle.std.proofs.lemmas.List.{drop_all}
 use Rattle.class_model.specs.Frames.{depth}
 use Rattle.class_model.specs.declared.frame.Frame.{Frame}
@@ -11,19 +11,18 @@ use Rattle.member_link.specs.Bodies.{falls_through}
 use Rattle.member_link.specs.RowScope.{RowScope}
 use Rattle.plan_flow.specs.Written.FramedCode.{depth_in}
 use Rattle.row_frames.specs.Behind.{NamesTexts}
-use Rattle.stackmap_emit.specs.Inner.Walking.{AreWalkedTo, IsScope, IsWalk, IsWalked, NamesAlong, NamesAt, Stating, Steps, WalkedTo, behind_instr, depth_along, depth_at, goes_on, had_at, next_flow, placed_if, stated_along, stated_at, stating_of}
-use Rattle.stackmap_emit.specs.PlacedFrames.{frame_at, placed_frames}
-use Rattle.stackmap_emit.specs.declared.walk.Walk.{Walk}
+use Rattle.stackmap_emit.specs.Inner.Walking.{AreWalkedTo, IsWalk, NamesAlong, NamesAt, Reads, Stating, Steps, WalkedTo, behind_instr, depth_along, depth_at, goes_on, had_at, next_flow, placed_if, stated_along, stated_at, stating_of}
+use Rattle.stackmap_emit.specs.PlacedFrames.{placed_frames}
 use Rattle.stackmap_emit.specs.declared.walk.WrittenFrames.{WrittenFrames}
 
 -- ---- one item
 
-module _ (walk : Walk) (s : RowScope) (number : ℕ) (instr : Instr) (flow : Option Frame) (old new : WrittenFrames) where
+module _ (walk : Reads) (s : RowScope) (number : ℕ) (instr : Instr) (flow : Option Frame) (old new : WrittenFrames) where
   abbrev w : Stating
   w = stating_of walk
 
   abbrev placed_here : List PlacedFrame
-  placed_here = placed_if (start_in walk.offsets.now) number (stated_at w number flow)
+  placed_here = placed_if (start_in walk.offsets) number (stated_at w number flow)
 
   no_more : (n : ℕ) → n ≡ max n (min 0 65535)
   no_more n = omega arith
@@ -72,12 +71,12 @@ placed_first place number (Some frame) more = refl
 deeper : (old new here more all : ℕ) → new ≡ max old (min here 65535) → max old (min (max here more) 65535) ≡ all → max new (min more 65535) ≡ all
 deeper old new here more all is before = omega (arith, is, before)
 
-module _ (walk : Walk) (entry : Frame) (items : List EmitItem) where
+module _ (walk : Reads) (entry : Frame) (items : List EmitItem) where
   abbrev stating : Stating
   stating = stating_of walk
 
   abbrev place : ℕ → ℕ
-  place = start_in walk.offsets.now
+  place = start_in walk.offsets
 
   pub walked_none : (made : WrittenFrames) → made.placed ≡ [] → made.max_stack ≡ 0 → AreWalkedTo walk entry items 0 (Some entry) items made
   walked_none made empty flat = λ s scope. record {
@@ -114,7 +113,7 @@ module _ (walk : Walk) (entry : Frame) (items : List EmitItem) where
   pub walked_next : (number : ℕ) (flow next : Option Frame) (item : EmitItem) (rest : List EmitItem) (old new : WrittenFrames)
       → drop number items ≡ item ∷ rest
       → AreWalkedTo walk entry items number flow (drop number items) old
-      → ((s : RowScope) → s.pool ≡ walk.pool.now → s.own.name ≡ walk.own.now → Steps walk s number item.instr flow old next new)
+      → ((s : RowScope) → s.pool ≡ walk.pool → s.own.name ≡ walk.own → Steps walk s number item.instr flow old next new)
       → AreWalkedTo walk entry items (suc number) next rest new
   walked_next number flow next item rest old new is before steps = λ s scope.
       next_walked s number flow next item rest old new

@@ -1,5 +1,5 @@
 -- The starts of blocks in the wide form, by the numbers of items there.
-use Rattle.std.proofs.Common.{◌≡◌, ◌==◌, ◌+◌, ◌<◌, ◌≤◌, ℕ, zero, suc, Bool, true, false, List, [], ◌∷◌, ◌++◌, length, drop, map, slice_index_or, Option, Some, None, is_some, refl, sym, ap, subst, ◌∙◌, arith, flat_map, length-append, if◌then◌else◌}
+use Rattle.std.proofs.Common.{◌≡◌, ◌==◌, ◌+◌, ◌≤◌, ℕ, zero, suc, Bool, true, false, List, [], ◌∷◌, ◌++◌, length, drop, map, slice_index_or, Option, Some, None, is_some, refl, sym, ap, ◌∙◌, arith, flat_map, length-append, if◌then◌else◌}
 use Rattle.std.specs.List.{AllByRecursion}
 use Rattle.class_model.specs.Pool.{Constants}
 use Rattle.class_model.specs.declared.instr.Instr.{Instr}

@@ -3,7 +3,6 @@
 -- There is one list of frames at most that written code has, and where the code is typed there is one (`IsFramed`). What is promised is promised of it.
 use Rattle.std.specs.Prelude.{◌≡◌, ℕ, length, min, slice_get, List, Option, Some, None, if◌then◌else◌}
 use Rattle.std.specs.List.{AllByRecursion}
-use Rattle.class_model.specs.Header.{header_of}
 use Rattle.class_model.specs.Methods.{entry_of, home_of}
 use Rattle.class_model.specs.Pool.{Constants}
 use Rattle.class_model.specs.declared.frame.Frame.{Frame}

@@ -1,5 +1,5 @@
 //! The frames of the blocks of written code, by the items with which these begin.
-ghost use Rattle.std.specs.Prelude.{◌≡◌, ◌<◌, ◌==◌, ℕ, None, get_or, slice_index_or, if◌then◌else◌, IfOk, OnOk};
+ghost use Rattle.std.specs.Prelude.{◌≡◌, ◌<◌, ◌≤◌, ◌==◌, ℕ, None, get_or, if◌then◌else◌, IfOk, OnOk};
 ghost use Rattle.std.specs.Option.{option_copied};
 ghost use Rattle.flow_code.specs.WrittenUnits.{written_units};
 ghost use Rattle.stackmap_emit.specs.Inner.BlockTables.{first_item, form_number, frame_by, last_block};
@@ -140,7 +140,12 @@ fn items_by_point(
     while at > 0 {
         at -= 1;
         if let Some(point) = starts[at].of {
-            put_item(&mut items, point, form_number(numbers, end, starts[at].item), end)?;
+            put_item(
+                &mut items,
+                point,
+                form_number(numbers, end, starts[at].item),
+                end,
+            )?;
         }
     }
     Ok(items)

@@ -12,6 +12,7 @@ ghost use Rattle.plan_flow.specs.Written.Routes.{Routes};
 ghost use Rattle.plan_flow.specs.Written.WrittenCode.{Form, written_items};
 ghost use Rattle.stackmap_emit.specs.FramedItems.{AreEmitted, ArePlacedBy, entry_with, finished_by, form_of};
 ghost use Rattle.stackmap_emit.specs.Inner.BlockTables.{AreStarts, form_number};
+ghost use Rattle.stackmap_emit.specs.Inner.Walking.{IsWalk, reads};
 ghost use Rattle.written_frames.specs.FewLocals.{HasFewLocals};
 
 use crate::blocks::Blocks;
@@ -53,7 +54,8 @@ pub fn place_frames(
     requires units { written_units code.now.flat.now ≤ 65535 }
     requires locals { (at : ℕ) → HasFewLocals code.now.flat.now at }
     requires few { length emitted.now ≤ 65535 }
-    ensures { IfOk result (λ made. (s : PlanScope) (host : Scope) (constructor : Name → List ℕ) (routes : Routes)
+    ensures { IfOk result (λ made. (s : PlanScope) (host : Scope) (constructor : Name → List ℕ)
+        (routes : Routes)
         → s.flat ≡ code.now.flat.now
         → (header_of host.class).name ≡ code.now.own.now
         → code.now.entry.now ≡ entry_with host s.flat
@@ -62,12 +64,24 @@ pub fn place_frames(
         (chosen_items emitted.now) laid.now.starts made.placed made.max_stack) }
 {
     if is_short(emitted) {
-        return frames_of(alloc, code, emitted.as_slice(), None, laid.starts.as_slice());
+        return frames_of(
+            alloc,
+            code,
+            emitted.as_slice(),
+            None,
+            laid.starts.as_slice(),
+        );
     }
     let numbers = wide_numbers(alloc, emitted.as_slice())?;
     let wide = widened(alloc, emitted)?;
     let numbers = Some(numbers.as_slice());
-    frames_of(alloc, code, wide.as_slice(), numbers, laid.starts.as_slice())
+    frames_of(
+        alloc,
+        code,
+        wide.as_slice(),
+        numbers,
+        laid.starts.as_slice(),
+    )
 }
 
 // The frames of items of a form. Items of the wide one have numbers by those of the short one.
@@ -92,12 +106,30 @@ fn frames_of(
 {
     let led = led_items(alloc, items)?;
     let blocks = Blocks::new(alloc, code.flat, code.starts, numbers, items.len() as u32)?;
+    walked(alloc, code, items, &blocks, led.as_slice(), offsets)
+}
+
+// The frames of items whose blocks these are.
+fn walked(
+    alloc: Global,
+    code: &WrittenCode<'_>,
+    items: &[EmitItem],
+    blocks: &Blocks<'_>,
+    led: &[bool],
+    offsets: &[u32],
+) -> Result<WrittenFrames, NoMemory>
+    requires locals { (at : ℕ) → HasFewLocals blocks.now.maker at }
+    requires few { length items.now < 2 ^ 32 }
+    ensures { IfOk result
+        (IsWalk (reads code.now.pool.now code.now.own.now blocks.now led.now offsets.now)
+        code.now.entry.now items.now) }
+{
     let walk = Walk {
         alloc,
         pool: code.pool,
         own: code.own,
-        blocks: &blocks,
-        led: led.as_slice(),
+        blocks,
+        led,
         offsets,
     };
     walk.over(code.entry, items)

@@ -28,11 +28,7 @@ pub(crate) fn frame_at(
 }
 
 // The types of stack entries so.
-fn stack_at(
-    alloc: Global,
-    starts: &Renumbering<'_>,
-    types: &[VType],
-) -> Result<VTypeList, NoMemory>
+fn stack_at(alloc: Global, starts: &Renumbering<'_>, types: &[VType]) -> Result<VTypeList, NoMemory>
     ensures { IfOk result (λ placed. placed
         ≡ map (type_at (number_by starts.now.numbers.now starts.now.other)) types.now) }
 {

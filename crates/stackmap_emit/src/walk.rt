@@ -6,7 +6,7 @@ ghost use Rattle.code_layout.specs.Layout.{start_in};
 ghost use Rattle.member_link.specs.Bodies.{falls_through};
 ghost use Rattle.member_link.specs.RowScope.{RowScope};
 ghost use Rattle.plan_flow.specs.Written.FramedCode.{depth_in, stands};
-ghost use Rattle.stackmap_emit.specs.Inner.Walking.{IsWalk, Steps, had_at, placed_if, stated_at, stating_of};
+ghost use Rattle.stackmap_emit.specs.Inner.Walking.{IsWalk, Steps, had_at, placed_if, reads_of, stated_at, stating_of};
 ghost use Rattle.written_frames.specs.FewLocals.{HasFewLocals};
 
 use crate::blocks::Blocks;
@@ -38,16 +38,16 @@ impl Drop for WrittenFrames {
 /// What the frames of items depend on: the constants that they name and the name of the class; the blocks; for each item whether a jump or
 /// handler leads to it, and its offset.
 #[derive(Clone, Copy)]
-pub(crate) struct Walk<'a> {
+pub(crate) struct Walk<'a, 'b, 'f> {
     pub(crate) alloc: Global,
     pub(crate) pool: &'a Pool,
     pub(crate) own: &'a Text,
-    pub(crate) blocks: &'a Blocks<'a>,
+    pub(crate) blocks: &'b Blocks<'f>,
     pub(crate) led: &'a [bool],
     pub(crate) offsets: &'a [u32],
 }
 
-impl Walk<'_> {
+impl Walk<'_, '_, '_> {
     /// The frames of all items, where this one flows into the first.
     ///
     /// # Errors
@@ -55,7 +55,7 @@ impl Walk<'_> {
     pub(crate) fn over(&self, entry: &Frame, items: &[EmitItem]) -> Result<WrittenFrames, NoMemory>
         requires locals { (at : ℕ) → HasFewLocals self.now.blocks.now.maker at }
         requires few { length items.now < 2 ^ 32 }
-        ensures { IfOk result (IsWalk self.now entry.now items.now) }
+        ensures { IfOk result (IsWalk (reads_of self.now) entry.now items.now) }
     {
         let mut made = WrittenFrames {
             placed: ListOf::new(self.alloc),
@@ -81,7 +81,7 @@ impl Walk<'_> {
         ensures { IfOk result (λ next. (s : RowScope)
             → s.pool ≡ self.now.pool.now
             → s.own.name ≡ self.now.own.now
-            → Steps self.now s number instr.now flow made.old next made.new) }
+            → Steps (reads_of self.now) s number instr.now flow made.old next made.new) }
     {
         let Some(had) = self.had(number, flow, &mut made.placed)? else {
             return Ok(None);
@@ -104,10 +104,10 @@ impl Walk<'_> {
         placed: &mut PlacedFrameList,
     ) -> Result<Option<Frame>, NoMemory>
         requires { (at : ℕ) → HasFewLocals self.now.blocks.now.maker at }
-        ensures had { IfOk result (λ had. had ≡ had_at (stating_of self.now) number flow) }
+        ensures had { IfOk result (λ had. had ≡ had_at (stating_of (reads_of self.now)) number flow) }
         ensures placed { OnOk result (placed.new ≡ placed.old
             ++ placed_if (start_in self.now.offsets.now) number
-            (stated_at (stating_of self.now) number flow)) }
+            (stated_at (stating_of (reads_of self.now)) number flow)) }
     {
         let Some(stated) = self.stated(number, flow.as_ref())? else {
             return Ok(flow);
@@ -121,7 +121,7 @@ impl Walk<'_> {
     fn stated(&self, number: u32, flow: Option<&Frame>) -> Result<Option<Frame>, NoMemory>
         requires { (at : ℕ) → HasFewLocals self.now.blocks.now.maker at }
         ensures { IfOk result (λ stated. stated
-            ≡ stated_at (stating_of self.now) number (option_copied flow.entry)) }
+            ≡ stated_at (stating_of (reads_of self.now)) number (option_copied flow.entry)) }
     {
         let Some(frame) = self.blocks.frame(self.alloc, number as usize)? else {
             return Ok(None);

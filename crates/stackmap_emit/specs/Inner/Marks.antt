@@ -1,5 +1,5 @@
 -- Marks of items, one for each: those to which a jump or a handler leads.
-use Rattle.std.specs.Prelude.{◌≡◌, ◌==◌, ◌||◌, ◌<◌, ℕ, Bool, false, List, get_or, length, map}
+use Rattle.std.specs.Prelude.{◌≡◌, ◌==◌, ◌||◌, ◌<◌, ℕ, Bool, false, List, get_or, length}
 use Rattle.std.specs.List.{list_any}
 use Rattle.class_model.specs.declared.instr.Pair.{Pair}
 use Rattle.code_layout.specs.PlainItems.{plain_item, plain_items}

@@ -1,5 +1,5 @@
 -- The frames of items, one after the other: what flows into each, whether a block's frame is stated there, and what flows on.
-use Rattle.std.specs.Prelude.{◌≡◌, ◌++◌, ℕ, zero, suc, Bool, false, max, min, get_or, List, [], ◌∷◌, Option, Some, None, if◌then◌else◌}
+use Rattle.std.specs.Prelude.{◌≡◌, ◌++◌, ℕ, suc, Bool, false, max, min, get_or, List, [], ◌∷◌, Option, Some, None, if◌then◌else◌}
 use Rattle.std.specs.Option.{option_copied}
 use Rattle.class_model.specs.Frames.{depth}
 use Rattle.class_model.specs.Pool.{Constants}
@@ -18,20 +18,37 @@ use Rattle.row_frames.specs.Behind.{NamesTexts}
 use Rattle.stackmap_emit.specs.Inner.BlockTables.{frame_by}
 use Rattle.stackmap_emit.specs.Inner.PlacedUnits.{number_by}
 use Rattle.stackmap_emit.specs.PlacedFrames.{frame_at, placed_frames}
+use Rattle.stackmap_emit.specs.declared.blocks.Blocks.{Blocks}
 use Rattle.stackmap_emit.specs.declared.walk.Walk.{Walk}
 use Rattle.stackmap_emit.specs.declared.walk.WrittenFrames.{WrittenFrames}
+
+-- What frames of items depend on.
+pub record Reads : Type 0 where
+  pub pool : Constants
+  pub own : Name
+  pub blocks : Blocks
+  pub led : List Bool
+  pub offsets : List ℕ
+
+abbrev pub reads : Constants → Name → Blocks → List Bool → List ℕ → Reads
+reads pool own blocks led offsets =
+    record { pool = pool; own = own; blocks = blocks; led = led; offsets = offsets }
+
+abbrev pub reads_of : Walk → Reads
+reads_of walk =
+    reads walk.pool.now walk.own.now walk.blocks.now walk.led.now walk.offsets.now
 
 -- The frame of the block that begins with an item, if one does, and whether a jump or a handler leads to the item.
 pub record Stating : Type 0 where
   pub block : ℕ → Option Frame
   pub led : ℕ → Bool
 
-abbrev pub stating_of : Walk → Stating
+abbrev pub stating_of : Reads → Stating
 stating_of walk = record {
   block = λ number.
-      frame_by walk.blocks.now.maker (number_by walk.blocks.now.by_point.items walk.blocks.now.end)
-      (option_copied (get_or walk.blocks.now.by_item.items number None));
-  led = λ number. get_or walk.led.now number false;
+      frame_by walk.blocks.maker (number_by walk.blocks.by_point.items walk.blocks.end)
+      (option_copied (get_or walk.blocks.by_item.items number None));
+  led = λ number. get_or walk.led number false;
 }
 
 -- ---- one item
@@ -96,12 +113,12 @@ placed_if place number None = []
 placed_if place number (Some frame) = record { at = place number; frame = frame_at place frame } ∷ []
 
 -- One item was gone over: what is stated there stands behind the others, and this flows on.
-pub record Steps (walk : Walk) (s : RowScope) (number : ℕ) (instr : Instr) (flow : Option Frame)
+pub record Steps (walk : Reads) (s : RowScope) (number : ℕ) (instr : Instr) (flow : Option Frame)
     (old : WrittenFrames) (next : Option Frame) (new : WrittenFrames)
     : Type 0 where
   pub placed : new.placed
       ≡ old.placed
-      ++ placed_if (start_in walk.offsets.now) number (stated_at (stating_of walk) number flow)
+      ++ placed_if (start_in walk.offsets) number (stated_at (stating_of walk) number flow)
   pub goes : NamesAt s number instr (had_at (stating_of walk) number flow)
       → next ≡ goes_on s number instr (had_at (stating_of walk) number flow)
   pub deepest : NamesAt s number instr (had_at (stating_of walk) number flow)
@@ -109,41 +126,41 @@ pub record Steps (walk : Walk) (s : RowScope) (number : ℕ) (instr : Instr) (fl
       ≡ max old.max_stack (min (depth_at s number instr (had_at (stating_of walk) number flow)) 65535)
 
 -- So were those before the item of a number, into which this flows.
-pub record WalkedTo (walk : Walk) (entry : Frame) (items : List EmitItem) (s : RowScope)
+pub record WalkedTo (walk : Reads) (entry : Frame) (items : List EmitItem) (s : RowScope)
     (number : ℕ) (flow : Option Frame) (rest : List EmitItem) (made : WrittenFrames)
     : Type 0 where
   pub names : NamesAlong s (stating_of walk) number flow rest
   pub placed : made.placed
-      ++ placed_frames (start_in walk.offsets.now) number
+      ++ placed_frames (start_in walk.offsets) number
       (stated_along s (stating_of walk) number flow rest)
-      ≡ placed_frames (start_in walk.offsets.now) 0
+      ≡ placed_frames (start_in walk.offsets) 0
       (stated_along s (stating_of walk) 0 (Some entry) items)
   pub deepest : max made.max_stack (min (depth_along s (stating_of walk) number flow rest) 65535)
       ≡ min (depth_along s (stating_of walk) 0 (Some entry) items) 65535
 
 -- A scope with the constants and the class, in which the names that items push are texts.
-pub record IsScope (walk : Walk) (entry : Frame) (items : List EmitItem) (s : RowScope) : Type 0 where
-  pub pool : s.pool ≡ walk.pool.now
-  pub own : s.own.name ≡ walk.own.now
+pub record IsScope (walk : Reads) (entry : Frame) (items : List EmitItem) (s : RowScope) : Type 0 where
+  pub pool : s.pool ≡ walk.pool
+  pub own : s.own.name ≡ walk.own
   pub names : NamesAlong s (stating_of walk) 0 (Some entry) items
 
 abbrev pub AreWalkedTo :
-    Walk → Frame → List EmitItem → ℕ → Option Frame → List EmitItem → WrittenFrames → Type 0
+    Reads → Frame → List EmitItem → ℕ → Option Frame → List EmitItem → WrittenFrames → Type 0
 AreWalkedTo walk entry items number flow rest made =
     (s : RowScope)
     → IsScope walk entry items s
     → WalkedTo walk entry items s number flow rest made
 
 -- So were all.
-pub record IsWalked (walk : Walk) (entry : Frame) (items : List EmitItem) (s : RowScope)
+pub record IsWalked (walk : Reads) (entry : Frame) (items : List EmitItem) (s : RowScope)
     (made : WrittenFrames)
     : Type 0 where
   pub placed : made.placed
-      ≡ placed_frames (start_in walk.offsets.now) 0
+      ≡ placed_frames (start_in walk.offsets) 0
       (stated_along s (stating_of walk) 0 (Some entry) items)
   pub deepest : made.max_stack
       ≡ min (depth_along s (stating_of walk) 0 (Some entry) items) 65535
 
-abbrev pub IsWalk : Walk → Frame → List EmitItem → WrittenFrames → Type 0
+abbrev pub IsWalk : Reads → Frame → List EmitItem → WrittenFrames → Type 0
 IsWalk walk entry items made =
     (s : RowScope) → IsScope walk entry items s → IsWalked walk entry items s made

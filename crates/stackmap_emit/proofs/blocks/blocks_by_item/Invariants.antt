@@ -1,7 +1,7 @@
-use Rattle.std.proofs.Common.{◌≡◌, ◌<◌, ℕ, None, drop, get_or}
+use Rattle.std.proofs.Common.{drop}
 use Rattle.std.specs.Option.{option_copied}
 use Rattle.stackmap_emit.proofs.blocks.blocks_by_item.Given as goal
-use Rattle.stackmap_emit.specs.Inner.BlockTables.{AreFilled, form_number, last_block}
+use Rattle.stackmap_emit.specs.Inner.BlockTables.{AreFilled, form_number}
 
 abbrev pub invariant-loop-start : goal.invariant-loop-start
 invariant-loop-start l =

@@ -1,4 +1,4 @@
-use Rattle.std.proofs.Common.{◌≡◌, ◌||◌, ℕ, Bool, List, ap, ◌∙◌, rules}
+use Rattle.std.proofs.Common.{◌≡◌, ◌||◌, ℕ, List, ap, ◌∙◌, rules}
 use Rattle.class_model.specs.Instructions.{targets}
 use Rattle.code_layout.specs.declared.emitted.Catch.{Catch}
 use Rattle.stackmap_emit.proofs.MarkedItems.{item_both, marked_both}

@@ -1,4 +1,4 @@
-use Rattle.std.proofs.Common.{◌≡◌, ◌==◌, ◌||◌, ℕ, Bool, List, ap, ◌∙◌, rules}
+use Rattle.std.proofs.Common.{◌==◌, ◌||◌, ℕ, Bool, List, ap, ◌∙◌, rules}
 use Rattle.class_model.specs.Instructions.{targets}
 use Rattle.class_model.specs.declared.instr.Instr.{Instr}
 use Rattle.class_model.specs.declared.instr.Pair.{Pair}
