@@ -1,11 +1,11 @@
 -- Written items in the wide form: a conditional jump of the flat code is over a goto there, and no other item is more than itself.
-use Rattle.std.proofs.Common.{◌≡◌, ◌==◌, ◌+◌, ℕ, zero, suc, Bool, true, false, List, [], ◌∷◌, ◌++◌, length, map, slice_get, flat_map, Option, Some, None, refl, sym, ap, subst, ◌∙◌, if◌then◌else◌}
+use Rattle.std.proofs.Common.{◌≡◌, ◌+◌, ℕ, zero, suc, Bool, true, false, List, [], ◌∷◌, ◌++◌, length, map, slice_get, flat_map, Option, Some, None, refl, sym, subst}
 use Rattle.std.specs.List.{AllByRecursion}
 use Rattle.class_model.specs.declared.descriptor.Kind.TheVariants as kinds
 use Rattle.class_model.specs.declared.instr.Imm.TheVariants as imms
 use Rattle.class_model.specs.declared.instr.Instr.{Instr}
 use Rattle.class_model.specs.declared.instr.Instr.TheVariants.{Const}
-use Rattle.code_drafts.specs.CodeOfPlans.{KeepsWidth, finished_blocks, opposite_of}
+use Rattle.code_drafts.specs.CodeOfPlans.{KeepsWidth, finished_blocks}
 use Rattle.code_drafts.specs.Laws.GoodBlocks.{all_flat, all_reached}
 use Rattle.code_drafts.specs.Laws.SimpleParts.{HoldsOfSimple, OptionHolds, copied_locals_hold, copied_object_holds, each_holds, loaded_entry_holds, loaded_fields_hold, saves_hold, template_holds}
 use Rattle.code_layout.specs.WideForm.{width}
@@ -26,7 +26,7 @@ use Rattle.plan_flow.specs.Written.Blocks.{Block, BlockOf, before_point, blocks_
 use Rattle.plan_flow.specs.Written.Finish.{End, end_items, end_of, finish, goto_end, no_end, nop_end}
 use Rattle.plan_flow.specs.Written.Routes.{Route, RouteEdge, Routes, edge_by}
 use Rattle.plan_flow.specs.Written.Templates.{as_it_is, items_at, jump_target, jump_targets, made_on_jump, template, to_or_pad}
-use Rattle.plan_flow.specs.Written.WrittenCode.{over_goto, short, widened, written_items}
+use Rattle.plan_flow.specs.Written.WrittenCode.{over_goto, short, written_items}
 use Rattle.plan_flow.specs.Written.WrittenConstants.{is_near}
 use Rattle.plan_flow.specs.declared.edge.EdgeKind.{EdgeKind}
 use Rattle.plan_flow.specs.declared.edge.EdgeKind.TheVariants as edges
