@@ -12,3 +12,4 @@ pub mod PlacedBlocks
 pub mod CarriedItems
 pub mod IndexedPlaces
 pub mod CountedPlaces
+pub mod WideWidths

@@ -3,3 +3,4 @@ pub mod FrameConstants
 pub mod FramesAttribute
 pub mod Inner
 pub mod Laws
+pub mod FramedItems

@@ -2,8 +2,15 @@
 #![tactic(auto)]
 
 mod attribute;
+mod blocks;
 mod classes;
+mod depths;
+mod led;
 mod noting;
+mod place;
 mod placing;
+mod walk;
 
 pub use attribute::frames_attribute;
+pub use place::{WrittenCode, place_frames};
+pub use walk::WrittenFrames;
