@@ -13,3 +13,7 @@ pub mod CarriedItems
 pub mod GrownNames
 pub mod IndexedPlaces
 pub mod CountedPlaces
+pub mod EmittedParts
+pub mod KeptCounts
+pub mod LedRoutes
+pub mod SitesInside
