@@ -87,37 +87,11 @@ pub(crate) fn write_make_block(
     Ok(())
 }
 
-/// Writes the blocks of a point, if it is reached.
+/// Writes the blocks of a point that is reached, by the state in which its instruction is written.
 ///
 /// # Errors
 /// As `write_make_block`.
 pub(crate) fn write_point(
-    alloc: Global,
-    setting: &Setting<'_>,
-    at: usize,
-    pool: &mut PoolEdit,
-    drafts: &mut Drafts,
-) -> Result<(), KeptFault>
-    requires { IsWritable setting.now }
-    ensures ok { OnOk result
-        (WritesAt setting.now at point_blocks pool.old pool.new drafts.old drafts.new) }
-    ensures full { (reason : Reason)
-        → IsErrOf result (KeptFault.Kept reason)
-        → AreBlocksFull setting.now at point_blocks pool.old reason }
-    ensures more { Continues pool.old pool.new }
-{
-    an_edit_goes_back_to_what_it_was();
-    let Some(state) = left_at(alloc, setting, at)? else {
-        return Ok(());
-    };
-    let written = write_parts(alloc, setting, at, &state, pool, drafts);
-    // let go by a call, so that its drop is proved once
-    drop(state);
-    written
-}
-
-// The same of a point that is reached, by the state in which its instruction is written.
-fn write_parts(
     alloc: Global,
     setting: &Setting<'_>,
     at: usize,

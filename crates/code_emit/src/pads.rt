@@ -10,7 +10,7 @@ ghost use Rattle.plan_flow.specs.PlanScope.{PlanScope};
 ghost use Rattle.plan_flow.specs.Written.Routes.{RouteEdge};
 ghost use Rattle.pool_edit.specs.Edits.{Continues};
 
-use crate::blocks::{left_at, write_make_block};
+use crate::blocks::write_make_block;
 use crate::drafts::Drafts;
 use code_drafts::{BlockKind, Setting, edges_are_led, effect_at, is_decided};
 use flow_code::KeptFault;
@@ -26,7 +26,7 @@ pub(crate) enum Pads {
     Handler,
 }
 
-/// Writes the pads of a point, if it is reached.
+/// Writes the pads of a point that is reached, by the state in which its instruction is written.
 ///
 /// # Errors
 /// `Kept(PoolFull)`, exactly where a constant does not fit; `NoMemory`, where memory runs out. Constants may have been added then.
@@ -35,10 +35,12 @@ pub(crate) fn write_pads(
     setting: &Setting<'_>,
     of: Pads,
     at: usize,
+    state: &VState,
     pool: &mut PoolEdit,
     drafts: &mut Drafts,
 ) -> Result<(), KeptFault>
-    requires { IsWritable setting.now }
+    requires can { IsWritable setting.now }
+    requires left { IsLeftAt setting.now at state.now }
     ensures ok { OnOk result
         (WritesAt setting.now at (pads_at of) pool.old pool.new drafts.old drafts.new) }
     ensures full { (reason : Reason)
@@ -50,13 +52,7 @@ pub(crate) fn write_pads(
     if !may_make(setting.plan(), at) {
         return Ok(());
     }
-    let Some(state) = left_at(alloc, setting, at)? else {
-        return Ok(());
-    };
-    let written = write_made_pads(alloc, setting, of, at, &state, pool, drafts);
-    // let go by a call, so that its drop is proved once
-    drop(state);
-    written
+    write_made_pads(alloc, setting, of, at, state, pool, drafts)
 }
 
 // Whether objects may be made on an edge of a point.
@@ -74,7 +70,7 @@ fn may_make(plan: &Plan, at: usize) -> bool
     true
 }
 
-// Writes the pads of a point that is reached, by the state in which its instruction is written.
+// The same, edge by edge.
 fn write_made_pads(
     alloc: Global,
     setting: &Setting<'_>,

@@ -1,5 +1,5 @@
 -- The blocks of all points, pass by pass, whatever links, descriptors of field constructors and routes are meant.
-use Rattle.std.specs.Prelude.{ℕ, List}
+use Rattle.std.specs.Prelude.{◌≡◌, ℕ, List}
 use Rattle.class_tree.specs.Headers.{Name}
 use Rattle.code_drafts.specs.Drafts.{all_items}
 use Rattle.code_drafts.specs.Emits.{Writing}
@@ -24,6 +24,11 @@ abbrev pub blocks_at : Pass → BlocksOf
 blocks_at Points s at point route = point_blocks s at point route
 blocks_at JumpPads s at point route = pads_at sorts.Jump s at point route
 blocks_at HandlerPads s at point route = pads_at sorts.Handler s at point route
+
+-- nothing was written
+pub record IsUntouched (old new : Edit) (before after : Drafts) : Type 0 where
+  pub pool : new ≡ old
+  pub drafts : after ≡ before
 
 -- ---- all points
 
