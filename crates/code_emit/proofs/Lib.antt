@@ -6,3 +6,4 @@ mod MadeLaws
 mod PadLaws
 mod PassLaws
 mod PointLaws
+mod PutLaws
