@@ -54,6 +54,31 @@ pub no_point : {A : Type 0} (w : Writing) (at : ℕ) (inside : FlatCode) (of : P
 no_point w at inside of point none same there =
     none-some (of point) (none ∙ ap (λ (f : FlatCode). option_map of (point_at f at)) same ∙ ap (option_map of) there)
 
+-- ---- an instruction as it is
+
+module _ (w : Writing) (at class : ℕ) (instr : Instr) where
+  pub as_it_is_written : (old new : Edit) (before after : Kept)
+      → ((links : Links) (constructor : Name → List ℕ) (point : Point) (route : Route)
+      → AreMeant w links constructor
+      → point_at w.flat at ≡ Some point
+      → IsRouteAt w links at route
+      → Emits (scope w links) constructor old (as_it_is at point route class instr) new before after)
+      → EmitsAt w at (λ s n point route. as_it_is n point route class instr) old new before after
+  as_it_is_written old new before after emits = record {
+    each = λ links constructor point route reached. emits links constructor point route reached.meant reached.there reached.here;
+  }
+
+  pub as_it_is_full : (edit : Edit) (reason : Reason)
+      → ((links : Links) (constructor : Name → List ℕ) (point : Point) (route : Route)
+      → AreMeant w links constructor
+      → point_at w.flat at ≡ Some point
+      → IsRouteAt w links at route
+      → IsFull edit (code_needs (scope w links) constructor (as_it_is at point route class instr)) reason)
+      → AreFullAt w at (λ s n point route. as_it_is n point route class instr) edit reason
+  as_it_is_full edit reason full = record {
+    each = λ links constructor point route reached. full links constructor point route reached.meant reached.there reached.here;
+  }
+
 -- ---- make code on a jump
 
 pub made_is : (s : PlanScope) (route : Route) → making_on s (edge_by route (edges.Jump 0)) ≡ map item (made_on_jump s route)
