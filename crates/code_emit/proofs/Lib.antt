@@ -1,3 +1,4 @@
+mod DecidedLaws
 mod DraftedLaws
 mod EdgeLaws
 mod EmittedLaws

@@ -1,16 +1,18 @@
 -- The pads of a point, edge by edge.
-use Rattle.std.proofs.Common.{◌≡◌, ◌+◌, ◌<◌, ◌≤◌, ℕ, zero, suc, Bool, true, false, List, [], ◌∷◌, ◌++◌, drop, length, slice_get, Option, Some, None, option_and_then, option_map, refl, sym, ap, subst, ◌∙◌, arith}
+use Rattle.std.proofs.Common.{◌≡◌, ◌+◌, ◌<◌, ◌≤◌, ℕ, zero, suc, Bool, true, false, List, [], ◌∷◌, ◌++◌, drop, length, slice_get, Option, Some, None, option_and_then, option_map, refl, sym, ap, subst, ◌∙◌, arith, inl, inr}
 use Rattle.std.specs.List.{AllByRecursion, flat_map}
+use Rattle.std.proofs.lemmas.Bool.{cases_lt}
 use Rattle.std.proofs.lemmas.List.{drop_all}
-use Rattle.std.proofs.lemmas.Option.{none-some, same_Some}
-use Rattle.class_model.specs.Laws.Lists.{drop_item}
+use Rattle.std.proofs.lemmas.Option.{none-some, same_Some, slice_get_within}
+use Rattle.class_model.specs.Laws.Lists.{drop_item, none_behind}
 use Rattle.class_tree.specs.Headers.{Name, headers_of}
 use Rattle.code_drafts.specs.Drafts.{all_items, kind_of}
 use Rattle.code_drafts.specs.Emits.{Writing}
-use Rattle.code_drafts.specs.Laws.LedRoutes.{AreBoth, AreFound, HasEdges, both_at, found_at, left_is_written, none_both, none_found, one_both, one_found, route_edges}
+use Rattle.code_drafts.specs.Laws.LedRoutes.{AreBoth, AreFound, HasEdges, both_at, found_at, none_both, none_found, one_both, one_found, route_edges}
 use Rattle.code_drafts.specs.LedEdges.{AreLed, IsLed}
 use Rattle.code_drafts.specs.Writable.{IsLeftAt, IsRouteAt, IsWritable, scope}
 use Rattle.code_drafts.specs.declared.draft.BlockKind.{BlockKind}
+use Rattle.code_emit.proofs.DecidedLaws.{IsDecidedTest, decided_is}
 use Rattle.code_emit.proofs.DraftedLaws.{to_end, to_first, to_full, to_more, writes_none}
 use Rattle.code_emit.specs.Inner.DraftedBlocks.{Writes, WritesTo}
 use Rattle.code_emit.specs.Inner.MadeBlocks.{IsFullBlock, WritesMade}
@@ -19,7 +21,7 @@ use Rattle.code_emit.specs.Inner.ReachedPoints.{AreBlocksFull, EdgeBlocks, IsBlo
 use Rattle.code_emit.specs.declared.drafts.Drafts.{Drafts}
 use Rattle.code_emit.specs.declared.pads.Pads.{Pads}
 use Rattle.code_emit.specs.declared.pads.Pads.TheVariants as sorts
-use Rattle.flow_code.specs.FlatCode.{FlatCode, point_at}
+use Rattle.flow_code.specs.FlatCode.{FlatCode}
 use Rattle.flow_code.specs.declared.point.Point.{Point}
 use Rattle.flow_code.specs.declared.reason.Reason.{Reason}
 use Rattle.making_code.specs.MakeOrder.{IsMakeOrder}
@@ -30,7 +32,7 @@ use Rattle.member_link.specs.Machine.Programs.{Links}
 use Rattle.plan_flow.specs.PlanEdges.{made_edge_meant}
 use Rattle.plan_flow.specs.PlanScope.{PlanScope}
 use Rattle.plan_flow.specs.Plans.{MadeEdge, Plan, PlannedPoint, planned}
-use Rattle.plan_flow.specs.Written.Blocks.{Block, handler_pad_of, is_decided, jump_pad_of, make_block, state_written}
+use Rattle.plan_flow.specs.Written.Blocks.{Block, handler_pad_of, is_decided, jump_pad_of, make_block}
 use Rattle.plan_flow.specs.Written.Routes.{AreEdgeRoutes, IsEdgeRoute, Route, RouteEdge}
 use Rattle.plan_flow.specs.Written.WrittenConstants.{code_needs}
 use Rattle.plan_flow.specs.declared.edge.Edge.{Edge}
@@ -300,18 +302,13 @@ pads_same sorts.Jump s at point route decided same =
     ap (λ (d : Bool). flat_map (λ (edge : RouteEdge). jump_pad_of s at d edge edge.by) route.edges) same
 pads_same sorts.Handler s at point route decided same = refl
 
--- whether the jump is decided, by the code's test
-abbrev pub IsDecidedTest : FlatCode → ℕ → State → Bool → Type 0
-IsDecidedTest flat at state decided =
-    (point : Point) (route : Route) → point_at flat at ≡ Some point → state ≡ state_written route → decided ≡ is_decided point route
-
 module _ (w : Writing) (of : Pads) (at : ℕ) (state : State) (decided : Bool) (flat : FlatCode) (left : IsLeftAt w at state)
     (test : IsDecidedTest flat at state decided) (same : flat ≡ w.flat) where
   pads_are : (links : Links) (constructor : Name → List ℕ) (point : Point) (route : Route) → IsReached w links constructor at point route
       → edge_pads of decided (scope w links) at point route ≡ pads_at of (scope w links) at point route
   pads_are links constructor point route reached =
       pads_same of (scope w links) at point route decided
-      (test point route (ap (λ (f : FlatCode). point_at f at) same ∙ reached.there) (left_is_written w links at state route left reached.here))
+      (decided_is w at state flat decided left test same links point route reached.there reached.here)
 
   pub pads_written : (old new : Edit) (before after : Drafts) → WritesAt w at (edge_pads of decided) old new before after → WritesAt w at (pads_at of) old new before after
   pads_written old new before after writes = record {
@@ -372,3 +369,54 @@ none_padded w can of at plan links constructor point route none same reached =
     (λ number edge is. none.each reached.here.point number edge (ap (λ (p : Plan). planned p at) same ∙ reached.here.reached) is)) where
       has : HasEdges w can links reached.meant.is_links at reached.here.point.edges route.edges
       has = route_edges w can links reached.meant.is_links at route reached.here
+
+-- ---- looking for an object that is made
+
+-- no object is made on the edges below a number
+pub record MakesNoneBelow (plan : Plan) (at count : ℕ) : Type 0 where
+  pub each :
+      (point : PlannedPoint) (number : ℕ) (edge : MadeEdge)
+      → planned plan at ≡ Some point
+      → number < count
+      → slice_get point.edges number ≡ Some edge
+      → edge.made ≡ []
+
+pub below_first : (plan : Plan) (at : ℕ) → MakesNoneBelow plan at 0
+below_first plan at = record { each = λ point number edge reached low is. absurd (omega (arith, low)) }
+
+found_in : (plan : Plan) (at number : ℕ) (point : PlannedPoint) (found : Option PlanEdge)
+    → planned plan at ≡ Some point
+    → option_map made_edge_meant found ≡ in_plan plan at number
+    → slice_get point.edges number ≡ option_map made_edge_meant found
+found_in plan at number point by_code reached given =
+    sym (given ∙ ap (option_and_then (λ (p : PlannedPoint). slice_get p.edges number)) reached)
+
+pub below_more : (plan : Plan) (at count : ℕ) (found : Option PlanEdge) (own : PlanEdge)
+    → MakesNoneBelow plan at count
+    → option_map made_edge_meant found ≡ in_plan plan at count
+    → found ≡ Some own
+    → own.made.now ≡ []
+    → MakesNoneBelow plan at (count + 1)
+below_more plan at count found own so_far given is none = record {
+  each = λ point number edge reached low there. elim (cases_lt number count) [
+    | inl less ↦ so_far.each point number edge reached less there
+    | inr more ↦
+        let same : number ≡ count = omega (arith, low, more) in
+        let here : Some edge ≡ Some (made_edge_meant own) =
+        sym there ∙ ap (slice_get point.edges) same ∙ found_in plan at count point found reached given ∙ ap (option_map made_edge_meant) is in
+        ap (λ (one : MadeEdge). one.made) (same_Some edge (made_edge_meant own) here) ∙ none
+  ];
+}
+
+pub below_all : (plan : Plan) (at count : ℕ) (found : Option PlanEdge)
+    → MakesNoneBelow plan at count
+    → option_map made_edge_meant found ≡ in_plan plan at count
+    → found ≡ None
+    → MakesNone plan at
+below_all plan at count found so_far given is = record {
+  each = λ point number edge reached there.
+      let none = found_in plan at count point found reached given ∙ ap (option_map made_edge_meant) is in
+      let few = none_behind point.edges count none in
+      let within = slice_get_within point.edges number edge there in
+      so_far.each point number edge reached (omega (arith, few, within)) there;
+}

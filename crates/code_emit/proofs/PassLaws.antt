@@ -97,21 +97,21 @@ which s plan at routes point routed low =
           let found = route_of s 0 plan routes at route routed is in
           at_some route is (subst (λ (n : ℕ). IsRouteOf s plan at n route) (omega arith) found)
 
+pub record WritesPointsTo (w : Writing) (of : BlocksOf) (at : ℕ) (old now : Edit) (before between : Drafts) : Type 0 where
+  pub each :
+      (links : Links) (constructor : Name → List ℕ) (routes : Routes)
+      → AreMeant w links constructor
+      → IsRouted (scope w links) w.plan routes
+      → WritesTo (scope w links) constructor old (left_from (of (scope w links)) 0 w.flat.points routes) (left_from (of (scope w links)) at w.flat.points routes) now before between
+
+pub points_first : (w : Writing) (of : BlocksOf) (edit : Edit) (drafts : Drafts) → WritesPointsTo w of 0 edit edit drafts drafts
+points_first w of edit drafts = record {
+  each = λ links constructor routes meant routed. to_first (scope w links) constructor edit (left_from (of (scope w links)) 0 w.flat.points routes) drafts;
+}
+
 module _ (w : Writing) (can : IsWritable w) (of : BlocksOf) where
   abbrev from : PlanScope → ℕ → Routes → List Block
   from s at routes = left_from (of s) at s.flat.points routes
-
-  pub record WritesPointsTo (at : ℕ) (old now : Edit) (before between : Drafts) : Type 0 where
-    pub each :
-        (links : Links) (constructor : Name → List ℕ) (routes : Routes)
-        → AreMeant w links constructor
-        → IsRouted (scope w links) w.plan routes
-        → WritesTo (scope w links) constructor old (from (scope w links) 0 routes) (from (scope w links) at routes) now before between
-
-  pub points_first : (edit : Edit) (drafts : Drafts) → WritesPointsTo 0 edit edit drafts drafts
-  points_first edit drafts = record {
-    each = λ links constructor routes meant routed. to_first (scope w links) constructor edit (from (scope w links) 0 routes) drafts;
-  }
 
   module _ (at : ℕ) (links : Links) (constructor : Name → List ℕ) (routes : Routes) (meant : AreMeant w links constructor)
       (routed : IsRouted (scope w links) w.plan routes) where
@@ -166,10 +166,10 @@ module _ (w : Writing) (can : IsWritable w) (of : BlocksOf) where
 
   pub points_more : (at : ℕ) (old now new : Edit) (before between after : Drafts)
       → at < length w.flat.points
-      → WritesPointsTo at old now before between
+      → WritesPointsTo w of at old now before between
       → WritesAt w at of now new between after
       → (planned w.plan at ≡ None → IsUntouched now new between after)
-      → WritesPointsTo (at + 1) old new before after
+      → WritesPointsTo w of (at + 1) old new before after
   points_more at old now new before between after low so_far writes unreached = record {
     each = λ links constructor routes meant routed.
         let point = some_item w.flat.points at low in
@@ -179,7 +179,7 @@ module _ (w : Writing) (can : IsWritable w) (of : BlocksOf) where
 
   pub points_full : (at : ℕ) (old now : Edit) (before between : Drafts) (reason : Reason)
       → at < length w.flat.points
-      → WritesPointsTo at old now before between
+      → WritesPointsTo w of at old now before between
       → planned w.plan at ≢ None
       → AreBlocksFull w at of now reason
       → AreAllFull w all_of old reason
@@ -192,7 +192,7 @@ module _ (w : Writing) (can : IsWritable w) (of : BlocksOf) where
 
   pub points_end : (at : ℕ) (old now : Edit) (before between : Drafts)
       → length w.flat.points ≤ at
-      → WritesPointsTo at old now before between
+      → WritesPointsTo w of at old now before between
       → WritesAll w all_of old now before between
   points_end at old now before between high so_far = record {
     each = λ links constructor routes meant routed.
@@ -204,7 +204,7 @@ module _ (w : Writing) (can : IsWritable w) (of : BlocksOf) where
 -- ---- passes
 
 module _ (w : Writing) (front back : AllBlocks) where
-  abbrev both_passes : AllBlocks
+  abbrev pub both_passes : AllBlocks
   both_passes s routes = front s routes ++ back s routes
 
   pub both_passed : (first middle last : Edit) (before between after : Drafts)

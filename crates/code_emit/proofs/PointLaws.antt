@@ -87,7 +87,7 @@ never_written w at blocks edit drafts none = record {
 -- ---- parts
 
 module _ (w : Writing) (at : ℕ) (front back : BlocksOf) where
-  abbrev both_blocks : BlocksOf
+  abbrev pub both_blocks : BlocksOf
   both_blocks s n point route = front s n point route ++ back s n point route
 
   pub both_written : (first middle last : Edit) (before between after : Drafts)

@@ -1,5 +1,6 @@
 //! Pads: the make code on jump edges and on handler edges.
 ghost use Rattle.std.specs.Prelude.{◌≡◌, false, slice_get, OnOk, Some};
+ghost use Rattle.std.specs.Option.{option_copied};
 ghost use Rattle.std.specs.Result.{IsErrOf};
 ghost use Rattle.code_drafts.specs.LedEdges.{AreLed};
 ghost use Rattle.code_drafts.specs.Writable.{IsLeftAt, IsWritable};
@@ -157,7 +158,7 @@ fn write_edge(
     ensures more { Continues pool.old pool.new }
 {
     an_edit_goes_back_to_what_it_was();
-    let Some(edge) = edges.get(number) else {
+    let Some(edge) = edge_at(edges, number) else {
         return Ok(());
     };
     let Some(kind) = pad_kind(of, at, decided, edge.by) else {
@@ -177,6 +178,13 @@ fn write_edge(
         pool,
         drafts,
     )
+}
+
+// The edge of a number, if there is one.
+fn edge_at(edges: &[Edge], number: usize) -> Option<&Edge>
+    ensures { option_copied result ≡ slice_get edges.now number }
+{
+    edges.get(number)
 }
 
 // The pad of an edge of a kind, if it can have one of this sort.
