@@ -13,3 +13,7 @@ pub mod CarriedItems
 pub mod IndexedPlaces
 pub mod CountedPlaces
 pub mod WideWidths
+pub mod EmittedParts
+pub mod KeptCounts
+pub mod LedRoutes
+pub mod SitesInside

@@ -21,7 +21,7 @@ mod templates;
 
 pub use decided::is_decided;
 pub use draft::{BlockKind, DraftBlock, DraftCatch, DraftItem, Target};
-pub use edges::state_on;
+pub use edges::{edges_are_led, effect_at, state_on};
 pub use kept::KeptItems;
 pub use laws::{
     code_of_a_plan_makes_what_the_plan_says, items_of_a_plan_are_emitted_code,

@@ -3,12 +3,14 @@ use Rattle.std.proofs.Common.{◌≡◌, ℕ, zero, suc, Bool, true, false, List
 use Rattle.std.specs.List.{AllByRecursion, find}
 use Rattle.std.proofs.lemmas.Option.{none-some, same_Some}
 use Rattle.class_model.specs.Laws.Lists.{at_index}
+use Rattle.class_model.specs.declared.frame.Frame.{Frame}
 use Rattle.class_tree.specs.Headers.{headers_of}
-use Rattle.code_drafts.proofs.SiteLaws.{AreInside, effect_inside, fewer_inside, reached_inside}
+use Rattle.code_drafts.specs.Laws.SitesInside.{AreInside, effect_inside, fewer_inside, reached_inside}
 use Rattle.code_drafts.specs.Emits.{Writing}
 use Rattle.code_drafts.specs.LedEdges.{AllAreLed, AreEffects, AreLed, IsLed, IsStateOn, planned_edge}
 use Rattle.code_drafts.specs.Writable.{IsLeftAt, IsRouteAt, IsWritable, scope}
 use Rattle.flow_code.specs.FlatCode.{FlatCode, point_at}
+use Rattle.flow_code.specs.declared.point.FlatInstr.{FlatInstr}
 use Rattle.flow_code.specs.declared.point.Point.{Point}
 use Rattle.making_code.specs.MakeOrder.{IsMakeOrder}
 use Rattle.materialise.specs.MadeCode.{CanMake, HasFewLocals}
@@ -31,7 +33,7 @@ use Rattle.virtual_state.specs.Without.{IsClosed, without}
 
 -- ---- where objects can be made
 
-few_locals : (flat : FlatCode) (at : ℕ) → IsNarrow flat → HasFewLocals flat at
+pub few_locals : (flat : FlatCode) (at : ℕ) → IsNarrow flat → HasFewLocals flat at
 few_locals flat at narrow = λ point is. (at_index IsNarrowPoint flat.points at point narrow.points is).locals
 
 -- ---- a reached point
@@ -316,3 +318,24 @@ state_behind w at by edges state led is = record {
       → option_map (λ (edge : RouteEdge). edge.state) route ≡ option_map (λ (edge : Edge). edge.state) edge
   route_there none_found = refl
   route_there (one_found edge made route is_led is_route) = ap (λ (s : State). Some s) is_route.state
+
+-- ---- what the code finds
+
+pub instr_is : (inside : FlatCode) (w : Writing) (at : ℕ) (point : Point) (instr : FlatInstr)
+    → Some instr ≡ option_map (λ (p : Point). p.instr) (point_at inside at)
+    → inside ≡ w.flat
+    → point_at w.flat at ≡ Some point
+    → point.instr ≡ instr
+instr_is inside w at point instr is same there =
+    sym
+    (same_Some instr point.instr
+    (is ∙ ap (λ (f : FlatCode). option_map (λ (p : Point). p.instr) (point_at f at)) same ∙ ap (option_map (λ (p : Point). p.instr)) there))
+
+pub typed_is : (inside : FlatCode) (w : Writing) (at : ℕ) (point : Point) (types : Frame)
+    → Some types ≡ option_map (λ (p : Point). p.typed) (point_at inside at)
+    → inside ≡ w.flat
+    → point_at w.flat at ≡ Some point
+    → types ≡ point.typed
+typed_is inside w at point types is same there =
+    same_Some types point.typed
+    (is ∙ ap (λ (f : FlatCode). option_map (λ (p : Point). p.typed) (point_at f at)) same ∙ ap (option_map (λ (p : Point). p.typed)) there)

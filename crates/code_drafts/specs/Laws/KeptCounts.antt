@@ -5,7 +5,7 @@ use Rattle.std.proofs.lemmas.List.{length-append, length-map, map-append}
 use Rattle.class_model.specs.Pool.{Constants}
 use Rattle.class_tree.specs.Headers.{Name}
 use Rattle.code_drafts.specs.Counts.{AreCounted, handlers_of}
-use Rattle.code_drafts.specs.EmittedCode.{AreTooMany, table_entries as entries_of}
+use Rattle.code_drafts.specs.Counts.{AreTooMany, table_entries as entries_of}
 use Rattle.code_drafts.specs.Drafts.{Keeps, Meant, catch_of, keeps_all, keeps_none, meaning, meant, meant_catch}
 use Rattle.code_drafts.specs.declared.draft.DraftItem.{DraftItem}
 use Rattle.making_code.specs.Items.{WItem}

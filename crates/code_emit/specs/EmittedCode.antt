@@ -1,7 +1,9 @@
 -- What code is emitted from, and what it is. It is this project's profile.
-use Rattle.std.specs.Prelude.{◌≡◌, ◌≤◌, ◌<◌, ◌+◌, ◌⊎◌, ℕ, List, [], ◌∷◌, length, Option, Some}
+use Rattle.std.specs.Prelude.{◌≡◌, ◌≤◌, ℕ, List, Option, Some}
 use Rattle.class_model.specs.Pool.{Constants}
 use Rattle.class_tree.specs.Headers.{Classes, Name, headers_of}
+use Rattle.code_drafts.specs.CodeOfPlans.{finished_blocks}
+use Rattle.code_drafts.specs.Counts.{AreTooMany}
 use Rattle.code_drafts.specs.FlatForms.{AreFormed}
 use Rattle.code_layout.specs.PlainItems.{plain_items}
 use Rattle.code_layout.specs.declared.emitted.EmitItem.{EmitItem}
@@ -18,12 +20,12 @@ use Rattle.member_link.specs.Machine.Programs.{Links}
 use Rattle.plan_flow.specs.Narrow.{IsNarrow}
 use Rattle.plan_flow.specs.PlanScope.{PlanScope, scope_of}
 use Rattle.plan_flow.specs.Plans.{FlowsInside, IsValid, Plan}
-use Rattle.plan_flow.specs.Written.Blocks.{blocks_of}
-use Rattle.plan_flow.specs.Written.Finish.{Finished, finish}
 use Rattle.plan_flow.specs.Written.Routes.{IsRouted, Routes}
 use Rattle.plan_flow.specs.Written.WrittenCode.{short, written_items}
 use Rattle.plan_flow.specs.Written.WrittenConstants.{code_needs, indexed_items}
 use Rattle.pool_edit.specs.Edits.{Edit, grown}
+use Rattle.written_frames.specs.BlockStarts.{block_starts}
+use Rattle.written_frames.specs.declared.starts.BlockStart.{BlockStart}
 
 -- ---- what is asked
 
@@ -42,19 +44,7 @@ pub record CanEmit (classes : Classes) (flat : FlatCode) (plan : Plan) : Type 0 
 
 -- ---- what is given
 
--- the entries that items take in the exception table
-abbrev pub table_entries : List WItem → ℕ
-table_entries [] = 0
-table_entries (item ∷ items) = length item.catches + table_entries items
-
--- more items than a code has bytes, or more entries than an exception table has (JVM Specification SE 8, 4.7.3)
-abbrev pub AreTooMany : List WItem → Type 0
-AreTooMany items = (65535 < length items) ⊎ (65535 < table_entries items)
-
--- the blocks of a plan with their ends, and their items
-abbrev pub finished_blocks : PlanScope → Routes → List Finished
-finished_blocks s routes = finish s.flat (blocks_of s routes)
-
+-- the items of a plan
 abbrev pub emitted_items : PlanScope → Routes → List WItem
 emitted_items s routes = written_items short (finished_blocks s routes)
 
@@ -86,3 +76,32 @@ pub data IsKeptFor (s : PlanScope) (constructor : Name → List ℕ) (routes : R
       ≡ Some more
       → AreTooMany (emitted_items s routes)
       → IsKeptFor s constructor routes edit reasons.Long
+
+-- ---- by whatever is meant
+
+-- emitted code, whatever links, descriptors of field constructors and routes are meant: there are one of each
+pub record IsEmittedFor (classes : Classes) (flat : FlatCode) (plan : Plan) (old new : Edit)
+    (emitted : List EmitItem)
+    : Type 0 where
+  pub each :
+      (links : Links) (constructor : Name → List ℕ) (routes : Routes)
+      → IsMeantBy classes flat plan links constructor routes
+      → IsEmittedCode (scope_of classes links flat) constructor routes old new emitted
+
+-- where the blocks start
+pub record StartsBlocks (classes : Classes) (flat : FlatCode) (plan : Plan)
+    (starts : List BlockStart)
+    : Type 0 where
+  pub each :
+      (links : Links) (constructor : Name → List ℕ) (routes : Routes)
+      → IsMeantBy classes flat plan links constructor routes
+      → starts ≡ block_starts 0 (finished_blocks (scope_of classes links flat) routes)
+
+-- why the method is kept
+pub record IsKeptAs (classes : Classes) (flat : FlatCode) (plan : Plan) (edit : Edit)
+    (reason : Reason)
+    : Type 0 where
+  pub each :
+      (links : Links) (constructor : Name → List ℕ) (routes : Routes)
+      → IsMeantBy classes flat plan links constructor routes
+      → IsKeptFor (scope_of classes links flat) constructor routes edit reason

@@ -4,16 +4,19 @@ use Rattle.std.specs.List.{flat_map}
 use Rattle.std.proofs.lemmas.Grind.{flat_map-append}
 use Rattle.class_model.specs.Pool.{Constants, entries_of}
 use Rattle.class_model.specs.declared.pool.Const.{Const}
-use Rattle.class_tree.specs.Headers.{Name}
+use Rattle.class_tree.specs.Headers.{Classes, Name}
 use Rattle.code_drafts.specs.Drafts.{Keeps, KeepsIn, meaning, meant}
 use Rattle.code_drafts.specs.Emits.{Emits, Kept}
+use Rattle.code_drafts.specs.Puts.{PutsItems}
 use Rattle.code_drafts.specs.declared.draft.DraftItem.{DraftItem}
+use Rattle.flow_code.specs.FlatCode.{FlatCode}
 use Rattle.flow_code.specs.declared.reason.Reason.{Reason}
 use Rattle.making_code.specs.Constants.{Need, grow}
 use Rattle.making_code.specs.Items.{WItem}
 use Rattle.making_code.specs.Laws.GrownPools.{grow_both}
 use Rattle.materialise.specs.Growing.{Grows, IsFull}
-use Rattle.plan_flow.specs.PlanScope.{PlanScope}
+use Rattle.member_link.specs.Machine.Programs.{Links}
+use Rattle.plan_flow.specs.PlanScope.{PlanScope, scope_of}
 use Rattle.plan_flow.specs.Written.WrittenConstants.{code_needs, item_needs}
 use Rattle.pool_edit.specs.Edits.{Continues, Edit, grown}
 
@@ -142,6 +145,35 @@ module _ (s : PlanScope) (constructor : Name → List ℕ) where
   full_behind first middle front back before between reason one full =
       subst (λ (needs : List Need). IsFull first needs reason) (sym (needs_both front back))
       (full_then first middle (code_needs s constructor front) (code_needs s constructor back) reason one.grows full)
+
+-- ---- items without constants
+
+-- they leave the pool as it is
+pub puts_emit : (classes : Classes) (links : Links) (flat : FlatCode) (constructor : Name → List ℕ) (edit : Edit) (items : List WItem) (before after : Kept)
+    → PutsItems flat items before after
+    → Emits (scope_of classes links flat) constructor edit items edit before after
+puts_emit classes links flat constructor edit items before after puts = record {
+  grows = subst (λ (needs : List Need). Grows edit needs edit) (sym (puts.needless classes links constructor)) (grows_none edit);
+  keeps = λ front kept more. puts.keeps classes links constructor _ front (kept more);
+}
+
+-- behind items without constants
+module _ (classes : Classes) (links : Links) (flat : FlatCode) (constructor : Name → List ℕ) where
+  pub puts_then : (old new : Edit) (front back : List WItem) (before middle after : Kept)
+      → PutsItems flat front before middle
+      → Emits (scope_of classes links flat) constructor old back new middle after
+      → Emits (scope_of classes links flat) constructor old (front ++ back) new before after
+  puts_then old new front back before middle after puts emits =
+      emits_both (scope_of classes links flat) constructor old old new front back before middle after
+      (puts_emit classes links flat constructor old front before middle puts) emits
+
+  pub puts_full : (old : Edit) (front back : List WItem) (before middle : Kept) (reason : Reason)
+      → PutsItems flat front before middle
+      → IsFull old (code_needs (scope_of classes links flat) constructor back) reason
+      → IsFull old (code_needs (scope_of classes links flat) constructor (front ++ back)) reason
+  puts_full old front back before middle reason puts full =
+      full_behind (scope_of classes links flat) constructor old old front back before middle reason
+      (puts_emit classes links flat constructor old front before middle puts) full
 
 -- ---- answers
 
