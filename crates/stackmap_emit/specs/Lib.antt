@@ -1,5 +1,6 @@
 pub mod PlacedFrames
 pub mod FrameConstants
 pub mod FramesAttribute
+pub mod TypedMethods
 pub mod Inner
 pub mod Laws
