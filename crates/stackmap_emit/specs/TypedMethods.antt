@@ -10,7 +10,7 @@ use Rattle.class_model.specs.declared.instr.Instr.TheVariants.{New}
 use Rattle.class_tree.specs.Headers.{IsClassFile}
 use Rattle.code_layout.specs.Emitting.{HasInstr, IsEmitted}
 use Rattle.code_layout.specs.Layout.{start_in}
-use Rattle.code_layout.specs.PlainItems.{plain_item, plain_items}
+use Rattle.code_layout.specs.PlainItems.{plain_items}
 use Rattle.code_layout.specs.declared.emitted.EmitItem.{EmitItem}
 use Rattle.code_layout.specs.declared.laid.Laid.{Laid}
 use Rattle.flow_code.specs.FlatCode.{FlatCode}
@@ -18,7 +18,6 @@ use Rattle.flow_code.specs.WrittenUnits.{written_units}
 use Rattle.making_code.specs.Constants.{grow}
 use Rattle.making_code.specs.IndexedItems.{IndexedItem}
 use Rattle.member_link.specs.Bodies.{Body}
-use Rattle.member_link.specs.BodyTyping.{HasFrames}
 use Rattle.member_link.specs.RowScope.{RowScope}
 use Rattle.member_link.specs.Rows.Table.{row_of}
 use Rattle.member_link.specs.Scope.{Scope}

@@ -5,8 +5,8 @@ ghost use Rattle.stackmap_emit.specs.TypedMethods.{AreWhole, HasLaidCode, IsGrow
 ghost use Rattle.type_rules.specs.Typed.{Typed};
 
 use type_rules::{
-    a_grown_class_keeps_its_code, a_method_stands_in_order, frames_type_a_body_by_its_places,
-    grown_classes_are_found_alike, rows_hold_among_grown_classes,
+    a_grown_class_has_a_grown_header, a_grown_class_keeps_its_code, a_method_stands_in_order,
+    frames_type_a_body_by_its_places, grown_classes_are_found_alike, rows_hold_among_grown_classes,
 };
 
 /// What types written items by their numbers types the method of the written class that has them laid out, by the offsets of its
@@ -20,6 +20,7 @@ pub fn what_types_items_types_the_laid_method()
         → AreWhole w
         → Typed s (frames_by_offset w) }
 {
+    a_grown_class_has_a_grown_header();
     a_grown_class_keeps_its_code();
     a_method_stands_in_order();
     frames_type_a_body_by_its_places();

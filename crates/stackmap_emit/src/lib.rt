@@ -3,7 +3,9 @@
 
 mod attribute;
 mod classes;
+mod laws;
 mod noting;
 mod placing;
 
 pub use attribute::frames_attribute;
+pub use laws::what_types_items_types_the_laid_method;

@@ -1,0 +1,10 @@
+-- What types items types the method that has them laid out.
+pub mod ItemHandlers
+pub mod ItemPoints
+pub mod ItemRows
+pub mod MorePools
+pub mod NamedClasses
+pub mod Offsets
+pub mod PlacedStates
+pub mod RowsOverPools
+pub mod WholeMethod
