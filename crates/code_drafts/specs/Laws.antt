@@ -10,6 +10,5 @@ pub mod EmittedItems
 pub mod WrittenPlaces
 pub mod PlacedBlocks
 pub mod CarriedItems
-pub mod GrownNames
 pub mod IndexedPlaces
 pub mod CountedPlaces

@@ -17,7 +17,7 @@ Compares = (one other : Const) → IsTrue (comparison.eq one other) ↔ (one ≡
 -- ---- where a constant is
 
 -- the first index of a constant stays where the pool grows
-index_stays : (pool more : Constants) (base index : ℕ) (constant : Const) → index_from base constant pool ≡ Some index
+pub index_stays : (pool more : Constants) (base index : ℕ) (constant : Const) → index_from base constant pool ≡ Some index
     → index_from base constant (pool ++ more) ≡ Some index
 index_stays [] more base index constant is = absurd (none-some index is)
 index_stays (None ∷ pool) more base index constant is = index_stays pool more (suc base) index constant is
@@ -49,38 +49,39 @@ constant_there same (Some one ∷ pool) base index constant is = by (comparison.
           let there = rest (sym (rw (told) refl) ∙ is) in
           let number = there.1 in (suc there.0, omega (arith, number), there.2)
 
-index_there : Compares → (pool : Constants) (index : ℕ) (constant : Const) → index_of pool constant ≡ Some index
+pub index_there : Compares → (pool : Constants) (index : ℕ) (constant : Const) → index_of pool constant ≡ Some index
     → slice_get pool index ≡ Some (Some constant)
 index_there same pool index constant is =
     let there = constant_there same pool 0 index constant is in
     let number : index ≡ there.0 = let sum = there.1 in omega (arith, sum) in
     ap (slice_get pool) number ∙ there.2
 
-found_or_zero : (pool : Constants) (index : ℕ) (constant : Const) → index_of pool constant ≡ Some index → index_or_zero pool constant ≡ index
+pub found_or_zero : (pool : Constants) (index : ℕ) (constant : Const) → index_of pool constant ≡ Some index → index_or_zero pool constant ≡ index
 found_or_zero pool index constant is = rw (is) refl
 
 -- ---- a constant that is added
 
-index_behind : Compares → (pool : Constants) (base : ℕ) (constant : Const)
-    → (index : ℕ) × (index_from base constant (pool ++ (Some constant ∷ [])) ≡ Some index)
-index_behind same [] base constant = (base, rw ((same constant constant).1 refl) refl)
-index_behind same (None ∷ pool) base constant = index_behind same pool (suc base) constant
-index_behind same (Some one ∷ pool) base constant = by (comparison.eq one constant) refl (index_behind same pool (suc base) constant) where
+index_behind : Compares → (pool rest : Constants) (base : ℕ) (constant : Const)
+    → (index : ℕ) × (index_from base constant (pool ++ (Some constant ∷ rest)) ≡ Some index)
+index_behind same [] rest base constant = (base, rw ((same constant constant).1 refl) refl)
+index_behind same (None ∷ pool) rest base constant = index_behind same pool rest (suc base) constant
+index_behind same (Some one ∷ pool) more base constant = by (comparison.eq one constant) refl (index_behind same pool more (suc base) constant) where
   by : (equal : Bool) → comparison.eq one constant ≡ equal
-      → (index : ℕ) × (index_from (suc base) constant (pool ++ (Some constant ∷ [])) ≡ Some index)
-      → (index : ℕ) × (index_from base constant (Some one ∷ (pool ++ (Some constant ∷ []))) ≡ Some index)
+      → (index : ℕ) × (index_from (suc base) constant (pool ++ (Some constant ∷ more)) ≡ Some index)
+      → (index : ℕ) × (index_from base constant (Some one ∷ (pool ++ (Some constant ∷ more))) ≡ Some index)
   by true told rest = (base, rw (told) refl)
   by false told rest = (rest.0, rw (told) rest.1)
 
-added_there : Compares → (limit : ℕ) (pool : Constants) (constant : Const) (grown : Constants)
-    → entries_of constant ≡ Some constant ∷ []
+-- it is there, with the second entry of a long or a double behind it
+pub added_with : Compares → (limit : ℕ) (pool : Constants) (constant : Const) (grown rest : Constants)
+    → entries_of constant ≡ Some constant ∷ rest
     → with_constant limit pool constant ≡ Some grown
     → (index : ℕ) × (index_of grown constant ≡ Some index)
-added_there same limit pool constant grown one is = by (index_of pool constant) refl where
+added_with same limit pool constant grown rest one is = by (index_of pool constant) refl where
   if_fits : (fits : Bool) → (if fits then Some (pool ++ entries_of constant) else None) ≡ Some grown
       → (index : ℕ) × (index_of grown constant ≡ Some index)
   if_fits true e =
-      let behind = index_behind same pool 0 constant in (
+      let behind = index_behind same pool rest 0 constant in (
         behind.0,
         ap (λ (all : Constants). index_of all constant)
             (sym (same_Some (pool ++ entries_of constant) grown e) ∙ ap (λ (more : Constants). pool ++ more) one)
@@ -97,6 +98,12 @@ added_there same limit pool constant grown one is = by (index_of pool constant) 
       ≡ (if nat_le (length pool + length (entries_of constant)) limit then Some (pool ++ entries_of constant) else None) = rw found refl in
       if_fits (nat_le (length pool + length (entries_of constant)) limit) (sym whole ∙ is)
 
+pub added_there : Compares → (limit : ℕ) (pool : Constants) (constant : Const) (grown : Constants)
+    → entries_of constant ≡ Some constant ∷ []
+    → with_constant limit pool constant ≡ Some grown
+    → (index : ℕ) × (index_of grown constant ≡ Some index)
+added_there same limit pool constant grown one is = added_with same limit pool constant grown [] one is
+
 -- ---- growth in parts
 
 pub grow_split : (limit : ℕ) (pool : Constants) (front back : List Need) (grown : Constants) → grow limit pool (front ++ back) ≡ Some grown
@@ -109,7 +116,7 @@ grow_split limit pool front back grown is = by (grow limit pool front) refl (sym
   by (Some middle) some rest = (middle, some, rest)
 
 -- one need
-grow_one : (limit : ℕ) (pool : Constants) (need : Need) (grown : Constants) → grow limit pool (need ∷ []) ≡ Some grown
+pub grow_one : (limit : ℕ) (pool : Constants) (need : Need) (grown : Constants) → grow limit pool (need ∷ []) ≡ Some grown
     → with_constant limit pool (constant_of pool need) ≡ Some grown
 grow_one limit pool need grown is = by (with_constant limit pool (constant_of pool need)) refl is where
   by : (found : Option Constants) → with_constant limit pool (constant_of pool need) ≡ found
