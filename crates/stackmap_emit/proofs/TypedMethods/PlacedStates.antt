@@ -20,12 +20,13 @@ use Rattle.class_tree.specs.Headers.{Name}
 use Rattle.code_layout.specs.Layout.{Spelled, len_of, placed_from, start_in, starts_from}
 use Rattle.code_layout.specs.declared.emitted.EmitItem.{EmitItem}
 use Rattle.making_code.specs.Constants.{index_in, needs_class}
+use Rattle.making_code.specs.Laws.AddedConstants.{IsNamed as IsNamedClass}
 use Rattle.map_frames.specs.Writing.{HasFrame, HasFrames, HasType, index_of, or_zero}
 use Rattle.map_frames.specs.declared.writing.NamedIndex.{NamedIndex}
 use Rattle.member_link.specs.Targets.{with_targets}
 use Rattle.row_frames.specs.Laws.RenumberedTypes.{units_same}
 use Rattle.stackmap_emit.proofs.TypedMethods.MorePools.{class_more}
-use Rattle.stackmap_emit.proofs.TypedMethods.NamedClasses.{Compares, HasClass, HasFrameClasses, HasTypeClass, class_named}
+use Rattle.stackmap_emit.proofs.TypedMethods.NamedClasses.{HasFrameClasses, HasTypeClass}
 use Rattle.stackmap_emit.proofs.TypedMethods.Offsets.{TakeBytes, offset, offset_apart, offset_start}
 use Rattle.stackmap_emit.specs.FrameConstants.{frame_needs, type_needs}
 use Rattle.stackmap_emit.specs.FramesAttribute.{IsNamed, placed_needs}
@@ -191,7 +192,7 @@ module _ (spelled : Spelled) (items : List EmitItem) (take : TakeBytes spelled 0
 
     -- ---- where they are read
 
-    module _ (same : Compares) (pool more : Constants) (names : List NamedIndex)
+    module _ (pool more : Constants) (names : List NamedIndex)
         (indices : AllByRecursion (λ (named : NamedIndex). named.index ≡ index_in pool (needs_class named.class)) names)
         (max_locals max_stack : ℕ) where
       abbrev setting : Setting
@@ -202,10 +203,10 @@ module _ (spelled : Spelled) (items : List EmitItem) (take : TakeBytes spelled 0
         code = placed_from spelled place 0 items;
       }
 
-      class_read : (name : Name) → HasClass pool name → IsNamed names (needs_class name) → HasType setting names (Object name)
+      class_read : (name : Name) → IsNamedClass pool name → IsNamed names (needs_class name) → HasType setting names (Object name)
       class_read name has (n, named, is, class) =
           class_more pool more (or_zero (index_of names name)) name
-          (ap (class_at pool) (named_index pool names name indices n named is class) ∙ class_named same pool name has)
+          (ap (class_at pool) (named_index pool names name indices n named is class) ∙ has)
 
       type_read : (type : VType) → HasTypeClass pool type → HasNew items type
           → AllByRecursion (IsNamed names) (type_needs (type_at place type))

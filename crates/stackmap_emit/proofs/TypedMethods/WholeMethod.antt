@@ -31,6 +31,7 @@ use Rattle.code_layout.specs.PlainItems.{plain_item}
 use Rattle.flow_code.specs.WrittenUnits.{written_units}
 use Rattle.making_code.specs.Constants.{text_index}
 use Rattle.making_code.specs.IndexedItems.{IndexedItem}
+use Rattle.making_code.specs.Laws.AddedConstants.{Compares}
 use Rattle.making_code.specs.Laws.GrownPools.{Begins, begins_through, grow_begins}
 use Rattle.map_frames.specs.Writing.{HasFrames as CanState}
 use Rattle.member_link.specs.Bodies.{Body, BodyPoint, CodeItem, asked_access, frame_behind, item_row}
@@ -48,7 +49,7 @@ use Rattle.row_frames.specs.Laws.RenumberedEntry.{entry_same}
 use Rattle.stackmap_emit.proofs.TypedMethods.ItemPoints.{From, Known, table_throws, typed_from}
 use Rattle.stackmap_emit.proofs.TypedMethods.ItemRows.{StandsIn}
 use Rattle.stackmap_emit.proofs.TypedMethods.MorePools.{text_more}
-use Rattle.stackmap_emit.proofs.TypedMethods.NamedClasses.{Compares, HasTable, table_had, text_named}
+use Rattle.stackmap_emit.proofs.TypedMethods.NamedClasses.{HasTable, table_had}
 use Rattle.stackmap_emit.proofs.TypedMethods.Offsets.{TakeBytes, ends_there, offset, take_bytes}
 use Rattle.stackmap_emit.proofs.TypedMethods.PlacedStates.{frames_read, stated_at_item}
 use Rattle.stackmap_emit.specs.FrameConstants.{stated_frames, table_needs}
@@ -311,7 +312,7 @@ module _ (laws : Laws) (w : LaidCode) (s : Scope) (grown : IsGrownMethod w.host 
         let text : utf8_at s.class.pool index ≡ Some stack_map_table =
         ap (λ (all : Constants). utf8_at all index) code.has
         ∙ text_more code.pool code.more index stack_map_table
-        (text_named laws.compares code.pool stack_map_table (table.name frame frames is)) in
+        (table.name frame frames is) in
         ap (is_text stack_map_table) text
 
   abbrev setting : Setting
@@ -338,7 +339,7 @@ module _ (laws : Laws) (w : LaidCode) (s : Scope) (grown : IsGrownMethod w.host 
       name_there (λ none. some (same ∙ none)) in
       let can : CanState setting names frames_there =
       subst (λ (all : Constants). CanState (record setting { pool = all }) names frames_there) (sym code.has)
-      (frames_read spelled w.items take w.state laws.compares code.pool code.more names named.0 s.part.max_locals s.part.max_stack 0 w.items
+      (frames_read spelled w.items take w.state code.pool code.more names named.0 s.part.max_locals s.part.max_stack 0 w.items
       (omega arith) whole_here deep table.classes (subst (λ (list : List PlacedFrame). AllByRecursion (IsNamed names) (placed_needs list)) same named.1)) in
       let given : stack_map_table_at setting entry bytes ≡ Ok frames =
       read setting (subst (CanState setting names) (sym same) can) in
