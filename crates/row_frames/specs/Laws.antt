@@ -1,4 +1,6 @@
--- Laws of rows: those of an instruction at another number, behind frames whose uninitialised objects have other numbers.
+-- Laws of rows: those of an instruction at another number, behind frames whose uninitialised objects have other numbers; and what constants name
+-- where a pool has more of them.
+pub mod MorePools
 pub mod NumberedFrames
 pub mod RenumberedArithmetic
 pub mod RenumberedArrays

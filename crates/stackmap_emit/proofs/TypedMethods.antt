@@ -2,7 +2,6 @@
 pub mod ItemHandlers
 pub mod ItemPoints
 pub mod ItemRows
-pub mod MorePools
 pub mod NamedClasses
 pub mod Offsets
 pub mod PlacedStates

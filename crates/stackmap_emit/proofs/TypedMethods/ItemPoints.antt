@@ -33,7 +33,7 @@ use Rattle.row_frames.specs.Laws.RenumberedTargets.{falls_same, targets_numbered
 use Rattle.row_frames.specs.Laws.RenumberedTypes.{frame_assignable_kept}
 use Rattle.stackmap_emit.proofs.TypedMethods.ItemHandlers.{none_behind, own_catches}
 use Rattle.stackmap_emit.proofs.TypedMethods.ItemRows.{StandsIn, holds_there}
-use Rattle.stackmap_emit.proofs.TypedMethods.MorePools.{class_more}
+use Rattle.row_frames.specs.Laws.MorePools.{class_more}
 use Rattle.stackmap_emit.proofs.TypedMethods.Offsets.{TakeBytes, offset, targets_by}
 use Rattle.stackmap_emit.proofs.TypedMethods.PlacedStates.{place_is}
 use Rattle.stackmap_emit.specs.PlacedFrames.{spelled_in}

@@ -29,7 +29,7 @@ use Rattle.row_frames.specs.Laws.RenumberedMembers.{KeepsNews}
 use Rattle.row_frames.specs.Laws.RenumberedRows.{Moves, frame_moves, operands_fit, stack_moves}
 use Rattle.row_frames.specs.Laws.RenumberedTable.{row_moves}
 use Rattle.row_frames.specs.Laws.RenumberedTypes.{units_same}
-use Rattle.stackmap_emit.proofs.TypedMethods.MorePools.{class_more}
+use Rattle.row_frames.specs.Laws.MorePools.{class_more}
 use Rattle.stackmap_emit.proofs.TypedMethods.Offsets.{TakeBytes, offset, offset_apart, offset_least}
 use Rattle.stackmap_emit.proofs.TypedMethods.RowsOverPools.{over, row_stays}
 

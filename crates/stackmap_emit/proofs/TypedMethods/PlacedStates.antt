@@ -25,7 +25,7 @@ use Rattle.map_frames.specs.Writing.{HasFrame, HasFrames, HasType, index_of, or_
 use Rattle.map_frames.specs.declared.writing.NamedIndex.{NamedIndex}
 use Rattle.member_link.specs.Targets.{with_targets}
 use Rattle.row_frames.specs.Laws.RenumberedTypes.{units_same}
-use Rattle.stackmap_emit.proofs.TypedMethods.MorePools.{class_more}
+use Rattle.row_frames.specs.Laws.MorePools.{class_more}
 use Rattle.stackmap_emit.proofs.TypedMethods.NamedClasses.{HasFrameClasses, HasTypeClass}
 use Rattle.stackmap_emit.proofs.TypedMethods.Offsets.{TakeBytes, offset, offset_apart, offset_start}
 use Rattle.stackmap_emit.specs.FrameConstants.{frame_needs, type_needs}

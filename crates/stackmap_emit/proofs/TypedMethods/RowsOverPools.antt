@@ -24,7 +24,7 @@ use Rattle.member_link.specs.Rows.Operands.{AllFit, Fits, Need, array_among, arr
 use Rattle.member_link.specs.Rows.Row.{Row, access_aside, either, no_row, plain, row_frame, stack_behind}
 use Rattle.member_link.specs.Rows.Table.{cast_row, row_of}
 use Rattle.member_link.specs.Signatures.{reference_of, result_of}
-use Rattle.stackmap_emit.proofs.TypedMethods.MorePools.{class_more, constant_more, descriptor_more, reference_more}
+use Rattle.row_frames.specs.Laws.MorePools.{class_more, constant_more, descriptor_more, reference_more}
 
 module _ (s : RowScope) (more : Constants) (news : ℕ → Option Name)
     (kept : (at : ℕ) (class : Name) → s.new_class at ≡ Some class → news at ≡ Some class) where

@@ -48,7 +48,7 @@ use Rattle.row_frames.specs.Laws.NumberedFrames.{numbered_frame}
 use Rattle.row_frames.specs.Laws.RenumberedEntry.{entry_same}
 use Rattle.stackmap_emit.proofs.TypedMethods.ItemPoints.{From, Known, table_throws, typed_from}
 use Rattle.stackmap_emit.proofs.TypedMethods.ItemRows.{StandsIn}
-use Rattle.stackmap_emit.proofs.TypedMethods.MorePools.{text_more}
+use Rattle.row_frames.specs.Laws.MorePools.{text_more}
 use Rattle.stackmap_emit.proofs.TypedMethods.NamedClasses.{HasTable, table_had}
 use Rattle.stackmap_emit.proofs.TypedMethods.Offsets.{TakeBytes, ends_there, offset, take_bytes}
 use Rattle.stackmap_emit.proofs.TypedMethods.PlacedStates.{frames_read, stated_at_item}
