@@ -6,8 +6,10 @@ ghost use Rattle.class_tree.specs.Headers.{Name, Headers};
 ghost use Rattle.member_link.specs.Scope.{Scope};
 ghost use Rattle.type_rules.specs.Typed.{Typed};
 ghost use Rattle.written_files.specs.FieldConstructors.{IsConstructorIn};
+ghost use Rattle.written_files.specs.LinkedConstructors.{HasLinkedMembers, IsLinkedMethod};
 
 use code_bytes::the_chosen_spelling_is_of_the_table;
+use member_link::{a_look_up_finds_one_field, a_look_up_finds_one_method};
 use type_rules::a_grown_class_has_a_grown_header;
 
 /// Frames type the field constructor of a class where it stands in the written class (JVM Specification SE 8, 4.10.1.6), access to protected
@@ -19,5 +21,19 @@ pub fn a_field_constructor_is_typed()
 {
     the_chosen_spelling_is_of_the_table();
     a_grown_class_has_a_grown_header();
+    class_model::constants_compare_by_value();
+}
+
+/// Every reference of that constructor passes (JVM Specification SE 8, 5.4.3 and 5.4.4), where the constructor that it calls may be called.
+pub fn a_field_constructor_is_linked()
+    ensures { (headers : Headers) (constructor : Name → List ℕ) (file : ClassFile) (s : Scope)
+        (is : IsConstructorIn headers constructor file s)
+        → HasLinkedMembers headers constructor file is.above s
+        → IsLinkedMethod s }
+{
+    the_chosen_spelling_is_of_the_table();
+    a_grown_class_has_a_grown_header();
+    a_look_up_finds_one_field();
+    a_look_up_finds_one_method();
     class_model::constants_compare_by_value();
 }

@@ -3,4 +3,4 @@
 
 mod laws;
 
-pub use laws::a_field_constructor_is_typed;
+pub use laws::{a_field_constructor_is_linked, a_field_constructor_is_typed};

@@ -28,7 +28,7 @@ use Rattle.class_tree.specs.Headers.{Name, Headers}
 use Rattle.class_tree.specs.Layouts.{instance_fields}
 use Rattle.class_tree.specs.Names.{object}
 use Rattle.code_bytes.specs.Forms.{instr_bytes, kind_index}
-use Rattle.making_code.specs.Constants.{index_in, needs_member, of_method}
+use Rattle.making_code.specs.Constants.{MemberKind, index_in, needs_member, of_method, reference_of_kind}
 use Rattle.making_code.specs.ConstructorCode.{depth_of_call, indexed_instr}
 use Rattle.making_code.specs.FieldConstructor.{CInstr, calls_constructor, calls_object, loads_from, puts_from, simple, super_call, units_of_fields}
 use Rattle.member_link.specs.RowScope.{RowScope}
@@ -37,7 +37,8 @@ use Rattle.member_link.specs.Rows.Operands.{AllFit, Need, assignable_to}
 use Rattle.member_link.specs.References.{Reference}
 use Rattle.member_link.specs.Signatures.{reference_of}
 use Rattle.written_files.proofs.FieldConstructors.Bytes.{IsSmall}
-use Rattle.written_files.proofs.FieldConstructors.Constants.{Names, Refers}
+use Rattle.written_files.proofs.FieldConstructors.Constants.{Names, Refers, refers_by}
+use Rattle.making_code.specs.Laws.MeantConstants.{NamesMember}
 use Rattle.written_files.proofs.FieldConstructors.Sequences.{arguments_fit, entries, entries_deep, held, loads_steps, no_this}
 use Rattle.written_files.proofs.FieldConstructors.Steps.{Steps, call_step, framed, load_step, null_step, steps_both}
 use Rattle.written_files.specs.FieldConstructors.{IsDescribed}
@@ -146,7 +147,7 @@ module _ (headers : Headers) (constructor : Name → List ℕ) (t : RowScope) (p
         let known : AllByRecursion (Names constructor pool t.pool) (simple (Load kinds.Ref 0) ∷ calls_object ∷ []) =
         subst (AllByRecursion (Names constructor pool t.pool)) items names in
         subst (λ (all : List CInstr). Steps t (map (indexed_instr pool constructor) all) (framed before []) (framed after [])) (sym items)
-        (object_steps is (omega (arith, deep, room)) known.1.0)
+        (object_steps is (omega (arith, deep, room)) (refers_by t.pool (index_in pool (needs_member of_method object init (codes "()V"))) of_method object init (codes "()V") known.1.0))
     by false e =
         let front : List CInstr = (simple (Load kinds.Ref 0) ∷ []) ++ loads_from 1 (instance_fields headers above) in
         let items : super_call headers above ≡ front ++ (simple (Const imms.Null) ∷ calls_constructor above ∷ []) = rw (e) refl in
@@ -155,7 +156,8 @@ module _ (headers : Headers) (constructor : Name → List ℕ) (t : RowScope) (p
         let known : AllByRecursion (Names constructor pool t.pool) (simple (Const imms.Null) ∷ calls_constructor above ∷ []) =
         names_last front (simple (Const imms.Null) ∷ calls_constructor above ∷ []) (subst (AllByRecursion (Names constructor pool t.pool)) items names) in
         subst (λ (all : List CInstr). Steps t (map (indexed_instr pool constructor) all) (framed before []) (framed after [])) (sym items)
-        (above_steps (described apart) (omega (arith, deep, room)) known.1.0)
+        (above_steps (described apart) (omega (arith, deep, room))
+        (refers_by t.pool (index_in pool (needs_member of_method above init (constructor above))) of_method above init (constructor above) known.1.0))
 
 -- ---- small instructions
 
@@ -192,16 +194,19 @@ small_call : (index : ℕ) → index < 2 ^ 16 → IsSmall (Invoke INVOKESPECIAL 
 unfolding instr_bytes
 small_call index within = record { no_targets = refl; form = λ at. inl (refl, refl); numbers = (within, omega arith); short = λ at. omega arith }
 
--- an index that refers to something is one of the pool
-index_within : (pool : Constants) (index : ℕ) (r : Reference) → reference_of pool (constant_at pool index) ≡ Some r → length pool ≤ 65535 → index < 2 ^ 16
-index_within pool index r refers count = by (constant_at pool index) refl where
+-- an index that names a member is one of the pool
+index_within : (pool : Constants) (index : ℕ) (kind : MemberKind) (class : Name) (name desc : List ℕ)
+    → NamesMember pool index kind class name desc
+    → length pool ≤ 65535
+    → index < 2 ^ 16
+index_within pool index kind class name desc named count = by (constant_at pool index) refl where
   there : (all : Constants) (n : ℕ) (c : Constant) → constant_at all n ≡ Some c → n < length all
   there [] n c is = absurd (none-some c is)
   there (entry ∷ all) zero c is = omega arith
   there (entry ∷ all) (suc n) c is = let rest = there all n c is in omega (arith, rest)
 
   by : (o : Option Constant) → constant_at pool index ≡ o → index < 2 ^ 16
-  by None e = absurd (none-some r (sym (ap (reference_of pool) e) ∙ refers))
+  by None e = absurd (none-some (reference_of_kind kind named.of_class named.named) (sym e ∙ named.is))
   by (Some c) e = let low = there pool index c e in omega (arith, low, count)
 
 module _ (pool grown : Constants) (constructor : Name → List ℕ) (count : length grown ≤ 65535) where
@@ -230,7 +235,7 @@ module _ (pool grown : Constants) (constructor : Name → List ℕ) (count : len
     (
       small_load (kind_of (type_of field.desc)) unit (omega (arith, within)),
       (
-        small_put _ (index_within grown _ _ names.1.1.0 count),
+        small_put _ (index_within grown _ _ _ _ _ names.1.1.0 count),
         puts_small class (unit + units_of (kind_of (type_of field.desc))) fields (omega (arith, within)) names.1.1.1,
       ),
     ),
@@ -248,13 +253,13 @@ module _ (pool grown : Constants) (constructor : Name → List ℕ) (count : len
         else ((simple (Load kinds.Ref 0) ∷ []) ++ loads_from 1 (instance_fields headers above)) ++ (simple (Const imms.Null) ∷ calls_constructor above ∷ []))
         → AreSmall (if b then simple (Load kinds.Ref 0) ∷ calls_object ∷ []
         else ((simple (Load kinds.Ref 0) ∷ []) ++ loads_from 1 (instance_fields headers above)) ++ (simple (Const imms.Null) ∷ calls_constructor above ∷ []))
-    by true known = (small_load kinds.Ref 0 (omega arith), (small_call _ (index_within grown _ _ known.1.0 count), tt))
+    by true known = (small_load kinds.Ref 0 (omega arith), (small_call _ (index_within grown _ _ _ _ _ known.1.0 count), tt))
     by false known =
         let front : List CInstr = (simple (Load kinds.Ref 0) ∷ []) ++ loads_from 1 (instance_fields headers above) in
         let back : List CInstr = simple (Const imms.Null) ∷ calls_constructor above ∷ [] in
         let named = last_of front back known in
         both_small front back (small_load kinds.Ref 0 (omega arith), loads_small 1 (instance_fields headers above) (omega (arith, few)))
-        (small_null, (small_call _ (index_within grown _ _ named.1.0 count), tt))
+        (small_null, (small_call _ (index_within grown _ _ _ _ _ named.1.0 count), tt))
 
 -- ---- how many they are
 

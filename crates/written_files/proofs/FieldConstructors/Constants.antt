@@ -14,7 +14,7 @@ use Rattle.making_code.specs.Laws.AddedConstants.{Compares, added_there, found_o
 use Rattle.making_code.specs.Laws.GrownPools.{Begins, grow_begins}
 use Rattle.making_code.specs.Laws.MeantConstants.{NamesMember, needed_means}
 use Rattle.member_link.specs.Signatures.{reference_of}
-use Rattle.row_frames.specs.Laws.MorePools.{reference_more}
+use Rattle.row_frames.specs.Laws.MorePools.{class_more, constant_more, descriptor_more, name_more}
 
 -- ---- texts
 
@@ -57,14 +57,12 @@ needs_of_one of_interface_method class name desc = refl
 pub member_had : Compares → (limit : ℕ) (pool middle grown : Constants) (kind : MemberKind) (class : Name) (name desc : List ℕ)
     → grow limit pool (member_needs kind class name desc) ≡ Some middle
     → Begins middle grown
-    → Refers grown (index_in grown (needs_member kind class name desc)) class name desc
+    → NamesMember grown (index_in grown (needs_member kind class name desc)) kind class name desc
 member_had same limit pool middle grown kind class name desc is begins =
     let old = one_member kind class name desc in
     let needs = needs_of_one kind class name desc in
     let means = needed_means same limit old pool middle grown 6 (subst (λ (n : List Need). grow limit pool n ≡ Some middle) (sym needs) is) begins in
-    let named : NamesMember grown (index_in grown (needs_member kind class name desc)) kind class name desc =
-    by_last (needs_at old 6) needs (means.member kind 2 5 class name desc refl refl refl refl) in
-    ap (reference_of grown) named.is ∙ of_parts grown kind named.of_class named.named class name desc named.class_is named.name_is named.desc_is
+    by_last (needs_at old 6) needs (means.member kind 2 5 class name desc refl refl refl refl)
   where
     by_last : (needs : List Need) → needs ≡ member_needs kind class name desc
         → NamesMember grown (index_of_last grown needs) kind class name desc
@@ -72,35 +70,53 @@ member_had same limit pool middle grown kind class name desc is begins =
     by_last needs same_needs named =
         subst (λ (n : List Need). NamesMember grown (index_of_last grown n) kind class name desc) same_needs named
 
+-- and where the pool has more constants
+named_more : (pool more : Constants) (index : ℕ) (kind : MemberKind) (class : Name) (name desc : List ℕ)
+    → NamesMember pool index kind class name desc
+    → NamesMember (pool ++ more) index kind class name desc
+named_more pool more index kind class name desc named = record {
+  of_class = named.of_class;
+  named = named.named;
+  is = constant_more pool more index (reference_of_kind kind named.of_class named.named) named.is;
+  class_is = class_more pool more named.of_class class named.class_is;
+  name_is = name_more pool more named.named name named.name_is;
+  desc_is = descriptor_more pool more named.named desc named.desc_is;
+}
+
+pub refers_by : (pool : Constants) (index : ℕ) (kind : MemberKind) (class : Name) (name desc : List ℕ)
+    → NamesMember pool index kind class name desc
+    → Refers pool index class name desc
+refers_by pool index kind class name desc named =
+    ap (reference_of pool) named.is ∙ of_parts pool kind named.of_class named.named class name desc named.class_is named.name_is named.desc_is
+
 -- ---- instructions
 
--- the constant of an instruction refers to what it names
+-- the constant of an instruction names what it means
 abbrev pub Names : (Name → List ℕ) → Constants → Constants → CInstr → Type 0
 Names constructor pool grown (simple instr) = Unit {0}
 Names constructor pool grown calls_object =
-    Refers grown (index_in pool (needs_member of_method object init (codes "()V"))) object init (codes "()V")
+    NamesMember grown (index_in pool (needs_member of_method object init (codes "()V"))) of_method object init (codes "()V")
 Names constructor pool grown (calls_constructor class) =
-    Refers grown (index_in pool (needs_member of_method class init (constructor class))) class init (constructor class)
+    NamesMember grown (index_in pool (needs_member of_method class init (constructor class))) of_method class init (constructor class)
 Names constructor pool grown (puts_field class name desc) =
-    Refers grown (index_in pool (needs_member of_field class name desc)) class name desc
+    NamesMember grown (index_in pool (needs_member of_field class name desc)) of_field class name desc
 
 module _ (same : Compares) (limit : ℕ) (constructor : Name → List ℕ) (pool more : Constants) where
+  one_named : (start middle : Constants) (kind : MemberKind) (class : Name) (name desc : List ℕ)
+      → grow limit start (member_needs kind class name desc) ≡ Some middle
+      → Begins middle pool
+      → NamesMember (pool ++ more) (index_in pool (needs_member kind class name desc)) kind class name desc
+  one_named start middle kind class name desc is begins =
+      named_more pool more (index_in pool (needs_member kind class name desc)) kind class name desc
+      (member_had same limit start middle pool kind class name desc is begins)
+
   item_named : (start middle : Constants) (item : CInstr) → grow limit start (item_needs constructor item) ≡ Some middle
       → Begins middle pool
       → Names constructor pool (pool ++ more) item
   item_named start middle (simple instr) is begins = tt
-  item_named start middle calls_object is begins =
-      reference_more pool more (index_in pool (needs_member of_method object init (codes "()V")))
-      (record { class = object; name = init; desc = codes "()V" })
-      (member_had same limit start middle pool of_method object init (codes "()V") is begins)
-  item_named start middle (calls_constructor class) is begins =
-      reference_more pool more (index_in pool (needs_member of_method class init (constructor class)))
-      (record { class = class; name = init; desc = constructor class })
-      (member_had same limit start middle pool of_method class init (constructor class) is begins)
-  item_named start middle (puts_field class name desc) is begins =
-      reference_more pool more (index_in pool (needs_member of_field class name desc))
-      (record { class = class; name = name; desc = desc })
-      (member_had same limit start middle pool of_field class name desc is begins)
+  item_named start middle calls_object is begins = one_named start middle of_method object init (codes "()V") is begins
+  item_named start middle (calls_constructor class) is begins = one_named start middle of_method class init (constructor class) is begins
+  item_named start middle (puts_field class name desc) is begins = one_named start middle of_field class name desc is begins
 
   pub items_named : (start : Constants) (items : List CInstr) → grow limit start (flat_map (item_needs constructor) items) ≡ Some pool
       → AllByRecursion (Names constructor pool (pool ++ more)) items

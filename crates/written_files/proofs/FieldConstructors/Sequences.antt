@@ -21,7 +21,7 @@ use Rattle.member_link.specs.Assignability.{from_null, to_same}
 use Rattle.member_link.specs.RowScope.{RowScope}
 use Rattle.member_link.specs.Rows.MemberRows.{NoUninitThis}
 use Rattle.member_link.specs.Rows.Operands.{AllFit, IsOfKind, assignable_to}
-use Rattle.written_files.proofs.FieldConstructors.Constants.{Names}
+use Rattle.written_files.proofs.FieldConstructors.Constants.{Names, refers_by}
 use Rattle.written_files.proofs.FieldConstructors.Steps.{Step, Steps, framed, load_step, put_step}
 
 -- ---- the types of fields
@@ -218,7 +218,8 @@ module _ (t : RowScope) where
               framed held [],
               subst (λ (type : VType). Step t (indexed_instr pool constructor (puts_field t.own.name field.name field.desc))
                   (framed held (type ∷ entry_type field ∷ [])) (framed held [])) (sym own)
-                  (put_step t (index_in pool (needs_member of_field t.own.name field.name field.desc)) field.name field.desc names.1.1.0 held),
+                  (put_step t (index_in pool (needs_member of_field t.own.name field.name field.desc)) field.name field.desc
+                  (refers_by t.pool (index_in pool (needs_member of_field t.own.name field.name field.desc)) of_field t.own.name field.name field.desc names.1.1.0) held),
               puts_steps own (front ++ field ∷ []) mid (unit + width) (are ∙ one_more front mid field) (next_unit front field unit is)
                   (omega (arith, later, deep)) names.1.1.1,
             ),

@@ -179,17 +179,17 @@ module _ (laws : Laws) (headers : Headers) (constructor : Name → List ℕ) (fi
 
   -- ---- its part
 
-  part_same : s.part ≡ c.method.part
+  pub part_same : s.part ≡ c.method.part
   part_same =
       same_Some s.part c.method.part (sym c.code ∙ ap code_of c.method.attrs)
 
   code_is : s.part.code ≡ bytes_from 0 (constructor_instrs headers c.pool constructor name)
   code_is = ap (λ (part : CodePart). part.code) part_same ∙ c.method.is_part.code
 
-  no_handlers : s.part.handlers ≡ []
+  pub no_handlers : s.part.handlers ≡ []
   no_handlers = ap (λ (part : CodePart). part.handlers) part_same ∙ c.method.is_part.handlers
 
-  no_attrs : s.part.attrs ≡ []
+  pub no_attrs : s.part.attrs ≡ []
   no_attrs = ap (λ (part : CodePart). part.attrs) part_same ∙ c.method.is_part.attrs
 
   stack_is : s.part.max_stack ≡ constructor_depth headers name
@@ -263,10 +263,10 @@ module _ (laws : Laws) (headers : Headers) (constructor : Name → List ℕ) (fi
   abbrev by_above : Option Name → List CInstr
   by_above super = call_above headers super ++ puts_from name (1 + units_of_fields (fields_above headers super)) own
 
-  abbrev first_put : ℕ
+  abbrev pub first_put : ℕ
   first_put = 1 + units_of_fields (instance_fields headers c.above)
 
-  abbrev front : List CInstr
+  abbrev pub front : List CInstr
   front = super_call headers c.above ++ puts_from name first_put own
 
   items_are : constructor_items headers name ≡ front ++ simple (Return None) ∷ []
@@ -297,10 +297,10 @@ module _ (laws : Laws) (headers : Headers) (constructor : Name → List ℕ) (fi
   named_front : AllByRecursion (Names constructor c.pool scope.pool) front
   named_front = first_of (Names constructor c.pool scope.pool) front (simple (Return None) ∷ []) named_all
 
-  named_call : AllByRecursion (Names constructor c.pool scope.pool) (super_call headers c.above)
+  pub named_call : AllByRecursion (Names constructor c.pool scope.pool) (super_call headers c.above)
   named_call = first_of (Names constructor c.pool scope.pool) (super_call headers c.above) (puts_from name first_put own) named_front
 
-  named_puts : AllByRecursion (Names constructor c.pool scope.pool) (puts_from name first_put own)
+  pub named_puts : AllByRecursion (Names constructor c.pool scope.pool) (puts_from name first_put own)
   named_puts = last_of (Names constructor c.pool scope.pool) (super_call headers c.above) (puts_from name first_put own) named_front
 
   -- ---- its bytes
@@ -329,10 +329,10 @@ module _ (laws : Laws) (headers : Headers) (constructor : Name → List ℕ) (fi
       let parts = length-append (super_call headers c.above) (puts_from name first_put own) in
       omega (arith, few, units_sum, calls, puts, all, whole, parts)
 
-  abbrev instrs : List Instr
+  abbrev pub instrs : List Instr
   instrs = indexed front ++ Return None ∷ []
 
-  decodes : decoded s.part.code ≡ Ok (placed 0 instrs)
+  pub decodes : decoded s.part.code ≡ Ok (placed 0 instrs)
   decodes =
       ap decoded code_is
       ∙ ap (λ (all : List CInstr). decoded (bytes_from 0 (indexed all))) items_are
