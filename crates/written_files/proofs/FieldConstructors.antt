@@ -3,6 +3,7 @@ pub mod Bytes
 pub mod Calls
 pub mod Constants
 pub mod Linking
+pub mod Member
 pub mod Sequences
 pub mod Steps
 pub mod Typing

@@ -1,28 +1,33 @@
 -- The field constructor of a class in the class file that is written of it. It is this project's profile.
-use Rattle.std.specs.Prelude.{◌≡◌, ◌≢◌, ◌≤◌, ◌++◌, ℕ, List, [], ◌∷◌, length, Some, None}
+use Rattle.std.specs.Prelude.{◌≡◌, ◌≢◌, ◌≤◌, ◌+◌, ◌++◌, ℕ, List, [], ◌∷◌, length, Some, None}
 use Rattle.class_model.specs.Descriptors.{kind_of, parameters_of}
 use Rattle.class_model.specs.Header.{header_of}
+use Rattle.class_model.specs.Members.{PUBLIC}
 use Rattle.class_model.specs.MethodCode.{code_of}
+use Rattle.class_model.specs.Names.{init}
 use Rattle.class_model.specs.Pool.{Constants}
 use Rattle.class_model.specs.declared.class_file.ClassFile.{ClassFile}
 use Rattle.class_model.specs.declared.descriptor.FieldType.{FieldType}
 use Rattle.class_model.specs.declared.descriptor.Kind.TheVariants.{Ref}
+use Rattle.class_model.specs.declared.header.Member.{Member}
 use Rattle.class_tree.specs.Headers.{IsClassFile, Headers, Name}
 use Rattle.class_tree.specs.Layouts.{instance_fields, own_fields}
 use Rattle.class_tree.specs.Names.{object}
 use Rattle.making_code.specs.Constants.{grow}
-use Rattle.making_code.specs.ConstructorCode.{IsConstructorMethod}
+use Rattle.making_code.specs.ConstructorCode.{IsConstructorMethod, SYNTHETIC}
 use Rattle.making_code.specs.FieldConstructor.{constructor_method_needs, superclass_of, units_of_fields}
 use Rattle.member_link.specs.FieldConstructors.{field_types}
+use Rattle.member_link.specs.References.{TypeNames}
 use Rattle.member_link.specs.Scope.{Scope}
 use Rattle.member_link.specs.Signatures.{result_of}
 use Rattle.type_rules.specs.Grown.{IsGrownClass}
 
--- The descriptor of a class's field constructor: its parameters are the fields of the class's chain and behind them a reference, and it has no
--- result.
+-- The descriptor of a class's field constructor: its parameters are the fields of the class's chain and behind them a reference whose type names no
+-- class, and it has no result.
 pub record IsDescribed (headers : Headers) (constructor : Name → List ℕ) (class : Name) : Type 0 where
   pub last : FieldType
   pub is_reference : kind_of last ≡ Ref
+  pub names_none : TypeNames (λ name. ⊥) last
   pub parameters : parameters_of (constructor class) ≡ field_types headers class ++ last ∷ []
   pub no_result : result_of (constructor class) ≡ None
 
@@ -49,3 +54,8 @@ pub record IsConstructorIn (headers : Headers) (constructor : Name → List ℕ)
   pub count : length s.class.pool ≤ 65535
   pub method : IsConstructorMethod headers constructor (header_of file).name pool s.method
   pub code : code_of s.method.attrs ≡ Some s.part
+
+-- what the headers of the written folder say of it: it is public and synthetic (JVM Specification SE 8, 4.6)
+abbrev pub constructor_member : (Name → List ℕ) → Name → Member
+constructor_member constructor class =
+    record { flags = PUBLIC + SYNTHETIC; name = init; desc = constructor class }

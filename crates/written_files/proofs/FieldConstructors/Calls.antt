@@ -34,8 +34,6 @@ use Rattle.making_code.specs.FieldConstructor.{CInstr, calls_constructor, calls_
 use Rattle.member_link.specs.RowScope.{RowScope}
 use Rattle.member_link.specs.Rows.MemberRows.{NoUninitThis, argument_needs}
 use Rattle.member_link.specs.Rows.Operands.{AllFit, Need, assignable_to}
-use Rattle.member_link.specs.References.{Reference}
-use Rattle.member_link.specs.Signatures.{reference_of}
 use Rattle.written_files.proofs.FieldConstructors.Bytes.{IsSmall}
 use Rattle.written_files.proofs.FieldConstructors.Constants.{Names, Refers, refers_by}
 use Rattle.making_code.specs.Laws.MeantConstants.{NamesMember}

@@ -1,10 +1,9 @@
 -- The references of a field constructor pass where it stands in the written class.
-use Rattle.std.proofs.Common.{◌≡◌, ◌++◌, ◌+◌, ◌∙◌, ℕ, not, Bool, true, false, List, [], ◌∷◌, bytes_eq, codes, filter, length, map, Option, Some, None, Result, Ok, IsTrue, IsFalse, inl, inr, if◌then◌else◌, refl, sym, ap, subst}
+use Rattle.std.proofs.Common.{◌≡◌, ◌++◌, ◌+◌, ◌∙◌, ℕ, not, Bool, true, false, List, [], ◌∷◌, bytes_eq, codes, filter, length, map, Option, Some, None, Result, IsTrue, IsFalse, inr, if◌then◌else◌, refl, sym, ap, subst}
 use Rattle.std.specs.List.{AllByRecursion}
-use Rattle.std.proofs.lemmas.Bool.{false≢true, not-true}
+use Rattle.std.proofs.lemmas.Bool.{not-true}
 use Rattle.std.proofs.lemmas.List.{map-append}
 use Rattle.std.proofs.lemmas.Option.{none-some, same_Some}
-use Rattle.std.proofs.lemmas.Slice.Eq.{bytes_eq-Decides}
 use Rattle.class_model.specs.Checks.{AllHold, Check, Fault, asked_each}
 use Rattle.class_model.specs.Descriptors.{kind_of, type_of, units_of}
 use Rattle.class_model.specs.Header.{header_of}
@@ -13,7 +12,7 @@ use Rattle.class_model.specs.Laws.Checks.{both_hold}
 use Rattle.class_model.specs.Members.{PRIVATE, PROTECTED, PUBLIC, STATIC, has}
 use Rattle.class_model.specs.Methods.{home_of}
 use Rattle.class_model.specs.Names.{init}
-use Rattle.class_model.specs.Pool.{Constants, constant_at}
+use Rattle.class_model.specs.Pool.{Constants}
 use Rattle.class_model.specs.Stated.{stated_in}
 use Rattle.class_model.specs.declared.class_file.Attr.{Attr}
 use Rattle.class_model.specs.declared.class_file.Attr.TheVariants.{Code}
@@ -21,7 +20,6 @@ use Rattle.class_model.specs.declared.class_file.ClassFile.{ClassFile}
 use Rattle.class_model.specs.declared.class_file.CodePart.{CodePart}
 use Rattle.class_model.specs.declared.class_file.Handler.{Handler}
 use Rattle.class_model.specs.declared.class_file.InnerAttr.{InnerAttr}
-use Rattle.class_model.specs.declared.header.Header.{Header}
 use Rattle.class_model.specs.declared.header.Member.{Member}
 use Rattle.class_model.specs.declared.descriptor.Kind.TheVariants as kinds
 use Rattle.class_model.specs.declared.instr.Imm.TheVariants as imms
@@ -29,9 +27,8 @@ use Rattle.class_model.specs.declared.instr.Instr.{Instr}
 use Rattle.class_model.specs.declared.instr.Instr.TheVariants.{Const, Invoke, Load, PutField, Return}
 use Rattle.class_model.specs.declared.instr.Placed.{Placed}
 use Rattle.class_model.specs.declared.opcodes.TheConstants.{INVOKESPECIAL}
-use Rattle.class_model.specs.declared.pool.Const.{Const as Constant}
-use Rattle.class_model.specs.declared.pool.Const.TheVariants.{Fieldref, Methodref}
-use Rattle.class_tree.specs.Headers.{IsThere, Headers, Name, class_named}
+use Rattle.class_model.specs.declared.pool.Const.TheVariants.{Methodref}
+use Rattle.class_tree.specs.Headers.{IsThere, Headers, Name}
 use Rattle.class_tree.specs.Layouts.{instance_fields, own_fields}
 use Rattle.class_tree.specs.Alike.{AreFieldsAlike}
 use Rattle.class_tree.specs.Names.{is_member, object}
@@ -39,15 +36,15 @@ use Rattle.class_tree.specs.Problems.{Problem}
 use Rattle.code_bytes.specs.Forms.{instr_bytes}
 use Rattle.making_code.specs.Constants.{index_in, needs_member, of_field, of_method, text_index}
 use Rattle.making_code.specs.ConstructorCode.{indexed_instr}
-use Rattle.making_code.specs.FieldConstructor.{CInstr, calls_constructor, calls_object, loads_from, puts_field, puts_from, simple, super_call, units_of_fields}
+use Rattle.making_code.specs.FieldConstructor.{CInstr, calls_constructor, calls_object, loads_from, puts_from, simple, super_call}
 use Rattle.making_code.specs.Laws.MeantConstants.{NamesMember}
-use Rattle.member_link.specs.Access.{IsAccessible, IsClassAccessible, in_package, is_own_private, is_protected, is_public}
+use Rattle.member_link.specs.Access.{IsAccessible, IsClassAccessible, in_package, is_own_private, is_public}
 use Rattle.member_link.specs.DeclaredMembers.{Declared, declared, declared_by}
 use Rattle.member_link.specs.Fields.{FindsField, in_class}
 use Rattle.member_link.specs.Forms.{FitsCall, IsInstanceForm}
 use Rattle.member_link.specs.LinkedPlaces.{FieldPasses, MemberPasses, MethodPasses}
 use Rattle.member_link.specs.Methods.{FindsMethod}
-use Rattle.member_link.specs.References.{DescriptorNames, FieldTypeNames, IsNamedAccessible, Reference, element_class, reference_at}
+use Rattle.member_link.specs.References.{DescriptorNames, FieldTypeNames, IsNamedAccessible, Reference, reference_at}
 use Rattle.member_link.specs.Scope.{Scope}
 use Rattle.member_link.specs.Uses.{UseScope, attr_checks, code_use_checks, frame_checks, handler_use_checks, instr_use_checks, instrs_checks, member_checks}
 use Rattle.same_runs.specs.Laws.ReplacedPrograms.{static_stays}

@@ -1,5 +1,5 @@
 -- A field constructor is typed where it stands in the written class.
-use Rattle.std.proofs.Common.{◌≡◌, ◌++◌, ◌+◌, ◌-◌, ◌*◌, ◌^◌, ◌≤◌, ◌<◌, ◌∙◌, max, ℕ, Bool as BoolType, true, false, if◌then◌else◌, bytes_eq, List, [], ◌∷◌, codes, length, map, replicate, Option, Some, None, Ok, refl, sym, ap, subst, arith, append-nil, length-append}
+use Rattle.std.proofs.Common.{◌≡◌, ◌++◌, ◌+◌, ◌-◌, ◌*◌, ◌^◌, ◌≤◌, ◌<◌, ◌∙◌, max, ℕ, Bool as BoolType, true, false, if◌then◌else◌, bytes_eq, List, [], ◌∷◌, length, map, replicate, Option, Some, None, Ok, refl, sym, ap, subst, arith, append-nil, length-append}
 use Rattle.std.specs.List.{AllByRecursion, flat_map}
 use Rattle.std.proofs.Math.Nat.{le-max_left, le-max_right}
 use Rattle.std.proofs.lemmas.Grind.{flat_map-append}
@@ -35,11 +35,10 @@ use Rattle.class_tree.specs.Headers.{IsClassFile, Headers, Name}
 use Rattle.class_tree.specs.Layouts.{instance_fields, own_fields}
 use Rattle.class_tree.specs.Names.{object}
 use Rattle.code_bytes.specs.Forms.{instr_bytes}
-use Rattle.making_code.specs.Constants.{Need, grow, needs_text, text_index}
+use Rattle.making_code.specs.Constants.{text_index}
 use Rattle.making_code.specs.ConstructorCode.{SYNTHETIC, bytes_from, constructor_depth, constructor_instrs, depth_of_call, depth_of_stores, greatest_units, indexed_instr}
-use Rattle.making_code.specs.FieldConstructor.{CInstr, call_above, constructor_items, fields_above, item_needs, puts_from, simple, super_call, units_of_fields}
-use Rattle.making_code.specs.Laws.AddedConstants.{Compares, grow_split}
-use Rattle.making_code.specs.Laws.GrownPools.{Begins, begins_through, grow_begins}
+use Rattle.making_code.specs.FieldConstructor.{CInstr, call_above, constructor_items, fields_above, puts_from, simple, super_call, units_of_fields}
+use Rattle.making_code.specs.Laws.AddedConstants.{Compares}
 use Rattle.member_link.specs.Bodies.{Body, BodyCatch, BodyPoint, flows_on}
 use Rattle.member_link.specs.BodyTyping.{RowHolds}
 use Rattle.member_link.specs.RowScope.{RowScope}
@@ -59,7 +58,8 @@ use Rattle.type_rules.specs.Typed.{AreTyped, CaughtIsThrowable, Typed}
 use Rattle.type_rules.specs.declared.fault.TypeRule.{TypeRule}
 use Rattle.written_files.proofs.FieldConstructors.Bytes.{IsSmall, Spells, decoded_back, placed}
 use Rattle.written_files.proofs.FieldConstructors.Calls.{both_small, call_many, call_small, call_steps, puts_many, puts_small, small_return}
-use Rattle.written_files.proofs.FieldConstructors.Constants.{Names, items_named, text_had}
+use Rattle.written_files.proofs.FieldConstructors.Constants.{Names, items_named}
+use Rattle.written_files.proofs.FieldConstructors.Member.{HasTexts, texts_had}
 use Rattle.written_files.proofs.FieldConstructors.Sequences.{entries, entries_deep, fields_both, held, no_this, puts_steps}
 use Rattle.written_files.proofs.FieldConstructors.Steps.{Steps, framed, steps_both}
 use Rattle.written_files.specs.FieldConstructors.{IsConstructorIn}
@@ -200,35 +200,8 @@ module _ (laws : Laws) (headers : Headers) (constructor : Name → List ℕ) (fi
 
   -- ---- its constants
 
-  abbrev texts : List Need
-  texts = needs_text init ++ needs_text (constructor name)
-
-  abbrev code_text : List Need
-  code_text = needs_text (codes "Code")
-
-  abbrev item_all : List Need
-  item_all = flat_map (item_needs constructor) (constructor_items headers name)
-
-  items_cut : (middle : Constants) × (grow 65535 c.before (texts ++ code_text) ≡ Some middle)
-      × (grow 65535 middle item_all ≡ Some c.pool)
-  items_cut = grow_split 65535 c.before (texts ++ code_text) item_all c.pool c.grows
-
-  texts_cut : (middle : Constants) × (grow 65535 c.before texts ≡ Some middle)
-      × (grow 65535 middle code_text ≡ Some items_cut.0)
-  texts_cut = grow_split 65535 c.before texts code_text items_cut.0 items_cut.1
-
-  init_cut : (middle : Constants) × (grow 65535 c.before (needs_text init) ≡ Some middle)
-      × (grow 65535 middle (needs_text (constructor name)) ≡ Some texts_cut.0)
-  init_cut = grow_split 65535 c.before (needs_text init) (needs_text (constructor name)) texts_cut.0 texts_cut.1
-
-  from_texts : Begins texts_cut.0 c.pool
-  from_texts =
-      begins_through texts_cut.0 items_cut.0 c.pool (grow_begins 65535 code_text texts_cut.0 items_cut.0 texts_cut.2)
-      (grow_begins 65535 item_all items_cut.0 c.pool items_cut.2)
-
-  from_init : Begins init_cut.0 c.pool
-  from_init =
-      begins_through init_cut.0 texts_cut.0 c.pool (grow_begins 65535 (needs_text (constructor name)) init_cut.0 texts_cut.0 init_cut.2) from_texts
+  texts : HasTexts headers constructor name c.pool
+  texts = texts_had laws.compares headers constructor name c.before c.pool c.grows
 
   text_there : (index : ℕ) (text : List ℕ) → utf8_at c.pool index ≡ Some text → utf8_at s.class.pool index ≡ Some text
   text_there index text is = ap (λ (all : Constants). utf8_at all index) c.has ∙ text_more c.pool c.more index text is
@@ -236,13 +209,12 @@ module _ (laws : Laws) (headers : Headers) (constructor : Name → List ℕ) (fi
   name_text : utf8_at s.class.pool s.method.name ≡ Some init
   name_text =
       ap (utf8_at s.class.pool) c.method.name
-      ∙ text_there (text_index c.pool init) init (text_had laws.compares 65535 c.before init_cut.0 c.pool init init_cut.1 from_init)
+      ∙ text_there (text_index c.pool init) init texts.name
 
   desc_text : utf8_at s.class.pool s.method.desc ≡ Some (constructor name)
   desc_text =
       ap (utf8_at s.class.pool) c.method.desc
-      ∙ text_there (text_index c.pool (constructor name)) (constructor name)
-      (text_had laws.compares 65535 init_cut.0 texts_cut.0 c.pool (constructor name) init_cut.2 from_texts)
+      ∙ text_there (text_index c.pool (constructor name)) (constructor name) texts.desc
 
   -- ---- what its rows read
 
@@ -284,7 +256,7 @@ module _ (laws : Laws) (headers : Headers) (constructor : Name → List ℕ) (fi
   named_all =
       subst (AllByRecursion (Names constructor c.pool scope.pool)) items_are
       (subst (λ (all : Constants). AllByRecursion (Names constructor c.pool all) (constructor_items headers name)) (sym c.has)
-      (items_named laws.compares 65535 constructor c.pool c.more items_cut.0 (constructor_items headers name) items_cut.2))
+      (items_named laws.compares 65535 constructor c.pool c.more texts.items_from (constructor_items headers name) texts.items_grow))
 
   first_of : (P : CInstr → Type 0) (one other : List CInstr) → AllByRecursion P (one ++ other) → AllByRecursion P one
   first_of P [] other all = tt
