@@ -20,13 +20,13 @@ pub record Stands (pool : Constants) (constant : Const) : Type 0 where
 index_is : (pool : Constants) (constant : Const) (s : Stands pool constant) → index_or_zero pool constant ≡ s.index
 index_is pool constant s = found_or_zero pool s.index constant s.is
 
-stands_later : (pool last : Constants) (constant : Const) → Begins pool last → Stands pool constant → Stands last constant
+pub stands_later : (pool last : Constants) (constant : Const) → Begins pool last → Stands pool constant → Stands last constant
 stands_later pool last constant begins s = record {
   index = s.index;
   is = ap (λ (all : Constants). index_of all constant) begins.is ∙ index_stays pool begins.more 0 s.index constant s.is;
 }
 
-same_index : (pool last : Constants) (constant : Const) → Begins pool last → Stands pool constant → index_or_zero last constant ≡ index_or_zero pool constant
+pub same_index : (pool last : Constants) (constant : Const) → Begins pool last → Stands pool constant → index_or_zero last constant ≡ index_or_zero pool constant
 unfolding stands_later
 same_index pool last constant begins s =
     index_is last constant (stands_later pool last constant begins s) ∙ sym (index_is pool constant s)
@@ -47,13 +47,13 @@ added same limit pool need grown rest one is =
 abbrev HasText : Constants → List ℕ → Type 0
 HasText pool text = Stands pool (Utf8 text)
 
-text_later : (pool last : Constants) (text : List ℕ) → Begins pool last → HasText pool text → HasText last text
+pub text_later : (pool last : Constants) (text : List ℕ) → Begins pool last → HasText pool text → HasText last text
 text_later pool last text = stands_later pool last (Utf8 text)
 
-text_same : (pool last : Constants) (text : List ℕ) → Begins pool last → HasText pool text → text_index last text ≡ text_index pool text
+pub text_same : (pool last : Constants) (text : List ℕ) → Begins pool last → HasText pool text → text_index last text ≡ text_index pool text
 text_same pool last text = same_index pool last (Utf8 text)
 
-text_read : Compares → (pool : Constants) (text : List ℕ) → HasText pool text → utf8_at pool (text_index pool text) ≡ Some text
+pub text_read : Compares → (pool : Constants) (text : List ℕ) → HasText pool text → utf8_at pool (text_index pool text) ≡ Some text
 text_read same pool text has = rw (there same pool (Utf8 text) has) refl
 
 -- ---- classes, strings, names with types, members
@@ -62,7 +62,7 @@ pub record HasClass (pool : Constants) (name : Name) : Type 0 where
   pub text : Stands pool (Utf8 name)
   pub class : Stands pool (Class (text_index pool name))
 
-class_later : (pool last : Constants) (name : Name) → Begins pool last → HasClass pool name → HasClass last name
+pub class_later : (pool last : Constants) (name : Name) → Begins pool last → HasClass pool name → HasClass last name
 class_later pool last name begins has = record {
   text = text_later pool last name begins has.text;
   class =
@@ -70,19 +70,19 @@ class_later pool last name begins has = record {
       (stands_later pool last (Class (text_index pool name)) begins has.class);
 }
 
-class_same : (pool last : Constants) (name : Name) → Begins pool last → HasClass pool name → class_index last name ≡ class_index pool name
+pub class_same : (pool last : Constants) (name : Name) → Begins pool last → HasClass pool name → class_index last name ≡ class_index pool name
 class_same pool last name begins has =
     ap (λ (n : ℕ). index_or_zero last (Class n)) (text_same pool last name begins has.text)
     ∙ same_index pool last (Class (text_index pool name)) begins has.class
 
-class_read : Compares → (pool : Constants) (name : Name) → HasClass pool name → class_at pool (class_index pool name) ≡ Some name
+pub class_read : Compares → (pool : Constants) (name : Name) → HasClass pool name → class_at pool (class_index pool name) ≡ Some name
 class_read same pool name has = rw (there same pool (Class (text_index pool name)) has.class) (text_read same pool name has.text)
 
 pub record HasString (pool : Constants) (text : List ℕ) : Type 0 where
   pub of_text : Stands pool (Utf8 text)
   pub string : Stands pool (String (text_index pool text))
 
-string_later : (pool last : Constants) (text : List ℕ) → Begins pool last → HasString pool text → HasString last text
+pub string_later : (pool last : Constants) (text : List ℕ) → Begins pool last → HasString pool text → HasString last text
 string_later pool last text begins has = record {
   of_text = text_later pool last text begins has.of_text;
   string =
@@ -95,7 +95,7 @@ pub record HasNameAndType (pool : Constants) (name desc : List ℕ) : Type 0 whe
   pub desc_text : Stands pool (Utf8 desc)
   pub both : Stands pool (NameAndType (text_index pool name) (text_index pool desc))
 
-both_later : (pool last : Constants) (name desc : List ℕ) → Begins pool last → HasNameAndType pool name desc → HasNameAndType last name desc
+pub both_later : (pool last : Constants) (name desc : List ℕ) → Begins pool last → HasNameAndType pool name desc → HasNameAndType last name desc
 both_later pool last name desc begins has = record {
   name_text = text_later pool last name begins has.name_text;
   desc_text = text_later pool last desc begins has.desc_text;
@@ -105,7 +105,7 @@ both_later pool last name desc begins has = record {
       (stands_later pool last (NameAndType (text_index pool name) (text_index pool desc)) begins has.both));
 }
 
-both_same : (pool last : Constants) (name desc : List ℕ) → Begins pool last → HasNameAndType pool name desc
+pub both_same : (pool last : Constants) (name desc : List ℕ) → Begins pool last → HasNameAndType pool name desc
     → name_and_type_index last name desc ≡ name_and_type_index pool name desc
 both_same pool last name desc begins has =
     ap (λ (n : ℕ). index_or_zero last (NameAndType n (text_index last desc))) (text_same pool last name begins has.name_text)
@@ -127,7 +127,7 @@ pub record HasMember (pool : Constants) (kind : MemberKind) (class : Name) (name
   pub named : HasNameAndType pool name desc
   pub member : Stands pool (reference_of_kind kind (class_index pool class) (name_and_type_index pool name desc))
 
-member_later : (pool last : Constants) (kind : MemberKind) (class : Name) (name desc : List ℕ) → Begins pool last
+pub member_later : (pool last : Constants) (kind : MemberKind) (class : Name) (name desc : List ℕ) → Begins pool last
     → HasMember pool kind class name desc
     → HasMember last kind class name desc
 member_later pool last kind class name desc begins has = record {
@@ -141,10 +141,10 @@ member_later pool last kind class name desc begins has = record {
 
 -- ---- growth
 
-grown_text : Compares → (limit : ℕ) (old grown : Constants) (text : List ℕ) → grow limit old (needs_itself (Utf8 text) ∷ []) ≡ Some grown → HasText grown text
+pub grown_text : Compares → (limit : ℕ) (old grown : Constants) (text : List ℕ) → grow limit old (needs_itself (Utf8 text) ∷ []) ≡ Some grown → HasText grown text
 grown_text same limit old grown text is = added same limit old (needs_itself (Utf8 text)) grown [] refl is
 
-grown_class : Compares → (limit : ℕ) (old grown : Constants) (name : Name) → grow limit old (class_needs name) ≡ Some grown → HasClass grown name
+pub grown_class : Compares → (limit : ℕ) (old grown : Constants) (name : Name) → grow limit old (class_needs name) ≡ Some grown → HasClass grown name
 grown_class same limit old grown name is =
     let parts = grow_split limit old (needs_itself (Utf8 name) ∷ []) (needs_class name ∷ []) grown is in
     let begins = grow_begins limit (needs_class name ∷ []) parts.0 grown parts.2 in
@@ -156,7 +156,7 @@ grown_class same limit old grown name is =
           (added same limit parts.0 (needs_class name) grown [] refl parts.2);
     }
 
-grown_string : Compares → (limit : ℕ) (old grown : Constants) (text : List ℕ) → grow limit old (string_needs text) ≡ Some grown → HasString grown text
+pub grown_string : Compares → (limit : ℕ) (old grown : Constants) (text : List ℕ) → grow limit old (string_needs text) ≡ Some grown → HasString grown text
 grown_string same limit old grown text is =
     let parts = grow_split limit old (needs_itself (Utf8 text) ∷ []) (needs_string text ∷ []) grown is in
     let begins = grow_begins limit (needs_string text ∷ []) parts.0 grown parts.2 in
@@ -210,6 +210,11 @@ grown_member same limit old grown kind class name desc is =
           (subst (λ (m : ℕ). Stands grown (reference_of_kind kind (class_index parts.0 class) m)) (sym (both_same parts.0 grown name desc begins named))
           (added same limit parts.0 (needs_member kind class name desc) grown [] (entries_of_kind kind _ _) parts.2));
     }
+
+pub grown_itself : Compares → (limit : ℕ) (old grown : Constants) (constant : Const) (rest : Constants) → entries_of constant ≡ Some constant ∷ rest
+    → grow limit old (needs_itself constant ∷ []) ≡ Some grown
+    → Stands grown constant
+grown_itself same limit old grown constant rest one is = added same limit old (needs_itself constant) grown rest one is
 
 -- ---- what is read
 
