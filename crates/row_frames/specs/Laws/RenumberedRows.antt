@@ -6,8 +6,8 @@ use Rattle.std.proofs.lemmas.List.{length-map, map-append}
 use Rattle.class_model.specs.declared.frame.Frame.{Frame}
 use Rattle.class_model.specs.declared.frame.VType.{VType}
 use Rattle.class_tree.specs.Headers.{Name}
-use Rattle.expanded_code.specs.Alone.{numbered_type, numbered_frame}
-use Rattle.expanded_runs.proofs.RenumberedTypes.{all_fit_kept, numbered_need, renumbered, topmost_same, under_same}
+use Rattle.row_frames.specs.Laws.NumberedFrames.{numbered_type, numbered_frame}
+use Rattle.row_frames.specs.Laws.RenumberedTypes.{all_fit_kept, numbered_need, renumbered, topmost_same, under_same}
 use Rattle.member_link.specs.RowScope.{RowScope}
 use Rattle.member_link.specs.Rows.Operands.{AllFit, Need, topmost, under}
 use Rattle.member_link.specs.Rows.Row.{Row, conditional, either, ending, no_row, plain, row_frame, stack_behind, stack_left}
@@ -23,6 +23,7 @@ module _ (number : ℕ → ℕ) where
     pub local : row.local → also.local
     pub gives : also.gives ≡ map (numbered_type number) row.gives
     pub further : row.further → also.further
+    pub access : row.access → also.access
     pub locals : also.locals ≡ map (numbered_type number) row.locals
     pub becomes : (entries : List VType)
         → also.becomes (map (numbered_type number) entries) ≡ map (numbered_type number) (row.becomes entries)
@@ -39,6 +40,7 @@ module _ (number : ℕ → ℕ) where
     local = λ held. held;
     gives = given_are;
     further = λ held. held;
+    access = λ held. held;
     locals = refl;
     becomes = λ entries. refl;
     goes_on = refl;
@@ -49,13 +51,14 @@ module _ (number : ℕ → ℕ) where
   no_row_moves f = plain_moves f _ _ _ _ refl refl
 
   pub conditional_moves : (f : Frame) (takes needs : List Need) (gives given : List VType) (Further Also Access Asked : Type 0)
-      → needs ≡ map (numbered_need number) takes → given ≡ map (numbered_type number) gives → (Further → Also)
+      → needs ≡ map (numbered_need number) takes → given ≡ map (numbered_type number) gives → (Further → Also) → (Access → Asked)
       → Moves (conditional f takes gives Further Access) (conditional (numbered_frame number f) needs given Also Asked)
-  conditional_moves f takes needs gives given Further Also Access Asked needs_are given_are also = record {
+  conditional_moves f takes needs gives given Further Also Access Asked needs_are given_are also asked = record {
     takes = needs_are;
     local = λ held. held;
     gives = given_are;
     further = also;
+    access = asked;
     locals = refl;
     becomes = λ entries. refl;
     goes_on = refl;
@@ -69,6 +72,7 @@ module _ (number : ℕ → ℕ) where
     local = λ held. held;
     gives = refl;
     further = also;
+    access = λ held. held;
     locals = refl;
     becomes = λ entries. refl;
     goes_on = refl;

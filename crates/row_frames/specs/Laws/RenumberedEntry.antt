@@ -5,20 +5,20 @@ use Rattle.class_model.specs.Code.{verification_type}
 use Rattle.class_model.specs.Descriptors.{parameters_of}
 use Rattle.class_model.specs.Frames.{filled, units, units_of_entries}
 use Rattle.class_model.specs.Members.{STATIC, has, is_text}
-use Rattle.class_model.specs.Methods.{home_of}
+use Rattle.class_model.specs.Methods.{Home, entry_of}
 use Rattle.class_model.specs.Names.{init}
 use Rattle.class_model.specs.PoolChecks.{text_or_empty, utf8_at}
+use Rattle.class_model.specs.declared.class_file.CodePart.{CodePart}
+use Rattle.class_model.specs.declared.class_file.Method.{Method}
 use Rattle.class_model.specs.declared.descriptor.FieldType.{FieldType}
 use Rattle.class_model.specs.declared.frame.Frame.{Frame}
 use Rattle.class_model.specs.declared.frame.VType.{VType}
 use Rattle.class_model.specs.declared.frame.VType.TheVariants as types
 use Rattle.class_tree.specs.Headers.{Name, Headers}
-use Rattle.expanded_code.specs.Alone.{numbered_type, numbered_frame}
-use Rattle.expanded_runs.proofs.RenumberedTypes.{units_same, verification_same}
+use Rattle.row_frames.specs.Laws.NumberedFrames.{numbered_type, numbered_frame}
+use Rattle.row_frames.specs.Laws.RenumberedTypes.{units_same, verification_same}
 use Rattle.member_link.specs.Assignability.{to_same}
 use Rattle.member_link.specs.Rows.FrameAssignability.{AreAssignable, IsFrameAssignable}
-use Rattle.member_link.specs.Scope.{Scope}
-use Rattle.type_rules.specs.Stated.{entry}
 
 module _ (number : ℕ → ℕ) where
   all_units_same : (entries : List VType)
@@ -60,14 +60,14 @@ module _ (number : ℕ → ℕ) where
   this_same false false (Some name) = refl
   this_same false false None = refl
 
-  pub entry_same : (s : Scope) → numbered_frame number (entry s) ≡ entry s
-  entry_same s =
-      let home = home_of s.class in
+  pub entry_same : (home : Home) (method : Method) (part : CodePart)
+      → numbered_frame number (entry_of home method part) ≡ entry_of home method part
+  entry_same home method part =
       let this : List VType =
-      this_of (has s.method.flags STATIC) (is_text init (Some (text_or_empty (utf8_at home.pool s.method.name)))) home.name in
-      let params : List FieldType = parameters_of (text_or_empty (utf8_at home.pool s.method.desc)) in
+      this_of (has method.flags STATIC) (is_text init (Some (text_or_empty (utf8_at home.pool method.name)))) home.name in
+      let params : List FieldType = parameters_of (text_or_empty (utf8_at home.pool method.desc)) in
       ap (λ (locals : List VType). record { locals = locals; stack = [] })
-      (filled_same s.part.max_locals (this ++ map verification_type params)
+      (filled_same part.max_locals (this ++ map verification_type params)
       (map-append (numbered_type number) this (map verification_type params)
       ∙ ap (λ (l : List VType). l ++ map (numbered_type number) (map verification_type params)) (this_same _ _ home.name)
       ∙ ap (λ (l : List VType). this ++ l) (params_same params)))

@@ -13,9 +13,9 @@ use Rattle.class_model.specs.declared.instr.Imm.{Imm}
 use Rattle.class_model.specs.declared.instr.Imm.TheVariants as imms
 use Rattle.class_model.specs.declared.pool.Const.{Const}
 use Rattle.class_model.specs.declared.pool.Const.TheVariants as consts
-use Rattle.expanded_code.specs.Alone.{numbered_type, numbered_frame}
-use Rattle.expanded_runs.proofs.RenumberedRows.{Moves, no_row_moves, plain_moves}
-use Rattle.expanded_runs.proofs.RenumberedTypes.{kind_kept, lowest_same, units_same, wide_same}
+use Rattle.row_frames.specs.Laws.NumberedFrames.{numbered_type, numbered_frame}
+use Rattle.row_frames.specs.Laws.RenumberedRows.{Moves, no_row_moves, plain_moves}
+use Rattle.row_frames.specs.Laws.RenumberedTypes.{kind_kept, lowest_same, units_same, wide_same}
 use Rattle.member_link.specs.Rows.LocalRows.{HasRoom, HoldsKind, const_row, cut_before, iinc_row, imm_row, load_row, local_entry, null_test_row, store_row, stored, type_of_imm, with_units}
 use Rattle.member_link.specs.Rows.Operands.{lowest_of}
 
@@ -69,6 +69,7 @@ module _ (number : ℕ → ℕ) where
     local = holds_kept kind f.locals at;
     gives = entry_same f.locals at;
     further = λ held. held;
+    access = λ held. held;
     locals = refl;
     becomes = λ entries. refl;
     goes_on = refl;
@@ -120,6 +121,7 @@ module _ (number : ℕ → ℕ) where
     local = room_kept kind f.locals at;
     gives = refl;
     further = λ held. held;
+    access = λ held. held;
     locals =
         ap (λ (type : VType). stored at type (map (numbered_type number) f.locals)) (lowest_same number 1 f.stack)
         ∙ stored_same at (lowest_of 1 f.stack) f.locals;
@@ -134,6 +136,7 @@ module _ (number : ℕ → ℕ) where
     local = holds_kept kinds.Ref f.locals at;
     gives = refl;
     further = λ held. held;
+    access = λ held. held;
     locals = refl;
     becomes = λ entries. refl;
     goes_on = refl;
@@ -146,6 +149,7 @@ module _ (number : ℕ → ℕ) where
     local = holds_kept kinds.Int f.locals at;
     gives = refl;
     further = λ held. held;
+    access = λ held. held;
     locals = refl;
     becomes = λ entries. refl;
     goes_on = refl;

@@ -7,9 +7,9 @@ use Rattle.class_model.specs.declared.frame.VType.{VType}
 use Rattle.class_model.specs.declared.frame.VType.TheVariants as types
 use Rattle.class_model.specs.declared.opcodes.TheConstants.{AALOAD, IALOAD, AASTORE, IASTORE}
 use Rattle.class_tree.specs.Headers.{Name}
-use Rattle.expanded_code.specs.Alone.{numbered_type, numbered_frame}
-use Rattle.expanded_runs.proofs.RenumberedRows.{Moves, either_moves, no_row_moves, plain_moves}
-use Rattle.expanded_runs.proofs.RenumberedTypes.{lowest_same, numbered_need}
+use Rattle.row_frames.specs.Laws.NumberedFrames.{numbered_type, numbered_frame}
+use Rattle.row_frames.specs.Laws.RenumberedRows.{Moves, either_moves, no_row_moves, plain_moves}
+use Rattle.row_frames.specs.Laws.RenumberedTypes.{lowest_same, numbered_need}
 use Rattle.member_link.specs.Rows.ArrayRows.{Elements, array_load_row, array_store_row, component_type, elements_from, elements_load_row, elements_of, elements_store_row, length_row, made_row, need_of_value}
 use Rattle.member_link.specs.Rows.Operands.{Need, array_among, of_kind, lowest_of}
 

@@ -12,7 +12,7 @@ use Rattle.class_model.specs.declared.frame.Frame.{Frame}
 use Rattle.class_model.specs.declared.frame.VType.{VType}
 use Rattle.class_model.specs.declared.frame.VType.TheVariants as types
 use Rattle.class_tree.specs.Headers.{Name, Headers}
-use Rattle.expanded_code.specs.Alone.{numbered_type, numbered_frame}
+use Rattle.row_frames.specs.Laws.NumberedFrames.{numbered_type, numbered_frame}
 use Rattle.member_link.specs.Assignability.{IsAssignable, to_same, to_top, from_null, of_names}
 use Rattle.member_link.specs.RowScope.{RowScope}
 use Rattle.member_link.specs.Rows.FrameAssignability.{AreAssignable, IsFrameAssignable, is_uninit_this}

@@ -3,9 +3,9 @@ use Rattle.std.proofs.Common.{◌≡◌, ℕ, Bool, List, [], ◌∷◌, length,
 use Rattle.std.proofs.lemmas.Option.{slice_get-map}
 use Rattle.class_model.specs.declared.frame.Frame.{Frame}
 use Rattle.class_model.specs.declared.frame.VType.{VType}
-use Rattle.expanded_code.specs.Alone.{numbered_type, numbered_frame}
-use Rattle.expanded_runs.proofs.RenumberedRows.{Moves, no_row_moves, plain_moves}
-use Rattle.expanded_runs.proofs.RenumberedTypes.{numbered_need, single_same, topmost_same, wide_same}
+use Rattle.row_frames.specs.Laws.NumberedFrames.{numbered_type, numbered_frame}
+use Rattle.row_frames.specs.Laws.RenumberedRows.{Moves, no_row_moves, plain_moves}
+use Rattle.row_frames.specs.Laws.RenumberedTypes.{numbered_need, single_same, topmost_same, wide_same}
 use Rattle.member_link.specs.Rows.Operands.{Need, topmost}
 use Rattle.member_link.specs.Rows.ShuffleRows.{Form, Width, one, two, form_in, form_row, forms_of, has_width, have_widths, need_of, picked, shuffle_row}
 

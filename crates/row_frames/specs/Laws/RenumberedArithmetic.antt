@@ -4,9 +4,9 @@ use Rattle.class_model.specs.declared.descriptor.Kind.{Kind}
 use Rattle.class_model.specs.declared.descriptor.Kind.TheVariants as kinds
 use Rattle.class_model.specs.declared.frame.Frame.{Frame}
 use Rattle.class_model.specs.declared.frame.VType.{VType}
-use Rattle.expanded_code.specs.Alone.{numbered_type, numbered_frame}
-use Rattle.expanded_runs.proofs.RenumberedRows.{Moves, no_row_moves, plain_moves}
-use Rattle.expanded_runs.proofs.RenumberedTypes.{numbered_need}
+use Rattle.row_frames.specs.Laws.NumberedFrames.{numbered_type, numbered_frame}
+use Rattle.row_frames.specs.Laws.RenumberedRows.{Moves, no_row_moves, plain_moves}
+use Rattle.row_frames.specs.Laws.RenumberedTypes.{numbered_need}
 use Rattle.member_link.specs.Rows.ArithmeticRows.{Operation, operation_row, type_of_kind}
 use Rattle.member_link.specs.Rows.Operands.{Need, of_kind}
 

@@ -1,6 +1,6 @@
 -- Fields, calls and returns, behind frames whose uninitialised objects have other numbers.
-use Rattle.std.proofs.Common.{◌≡◌, ◌≢◌, ◌+◌, ℕ, Bool, true, false, List, [], ◌∷◌, length, map, Option, Some, None, if◌then◌else◌, refl, sym, ap, subst, ◌∙◌, inl}
-use Rattle.std.specs.Prelude.{◌==◌, bytes_eq}
+use Rattle.std.proofs.Common.{◌≡◌, ◌≢◌, ◌+◌, ℕ, Bool, true, false, List, [], ◌∷◌, length, map, Option, Some, None, if◌then◌else◌, refl, sym, ap, subst, ◌∙◌, inl, inr}
+use Rattle.std.specs.Prelude.{◌==◌, ◌⊎◌, bytes_eq}
 use Rattle.class_model.specs.Code.{verification_type}
 use Rattle.class_model.specs.Descriptors.{parameters_of, type_of}
 use Rattle.class_model.specs.Names.{init}
@@ -14,13 +14,16 @@ use Rattle.class_model.specs.declared.opcodes.TheConstants.{INVOKESTATIC, INVOKE
 use Rattle.class_model.specs.declared.pool.Const.{Const}
 use Rattle.class_model.specs.declared.pool.Const.TheVariants as consts
 use Rattle.class_tree.specs.Headers.{Name}
-use Rattle.expanded_code.specs.Alone.{numbered_type, numbered_frame}
-use Rattle.expanded_runs.proofs.RenumberedRows.{Moves, conditional_moves, ending_moves, no_row_moves, plain_moves}
-use Rattle.expanded_runs.proofs.RenumberedTypes.{assignable_kept, lowest_same, numbered_need, renumbered, verification_same}
+use Rattle.row_frames.specs.Laws.NumberedFrames.{numbered_type, numbered_frame}
+use Rattle.row_frames.specs.Laws.RenumberedRows.{Moves, conditional_moves, ending_moves, no_row_moves, plain_moves}
+use Rattle.row_frames.specs.Laws.RenumberedTypes.{assignable_kept, lowest_same, numbered_need, renumbered, verification_same}
+use Rattle.member_link.specs.DeclaredMembers.{Declared}
+use Rattle.member_link.specs.Fields.{FindsField}
+use Rattle.member_link.specs.Methods.{FindsMethod}
 use Rattle.member_link.specs.References.{Reference}
 use Rattle.member_link.specs.RowScope.{RowScope}
 use Rattle.member_link.specs.Rows.Assigning.{IsAssignableIn}
-use Rattle.member_link.specs.Rows.MemberRows.{MayInitialise, MayPut, MayReturn, MayReturnValue, NoUninitThis, PassesMethod, argument_needs, call_row, dynamic_row, get_field_row, get_static_row, init_row, initialised_type, instance_row, put_field_row, put_static_row, receiver, result_types, return_row, special_row, static_row}
+use Rattle.member_link.specs.Rows.MemberRows.{MayInitialise, MayPut, MayReturn, MayReturnValue, NoUninitThis, PassesField, PassesInitialiser, PassesMethod, PassesProtected, PassesPut, argument_needs, call_row, dynamic_row, get_field_row, get_static_row, init_row, initialised_type, instance_row, put_field_row, put_static_row, receiver, result_types, return_row, special_row, static_row}
 use Rattle.member_link.specs.Rows.Operands.{Need, assignable_to, assignable_or_this, lowest_of, uninitialised}
 use Rattle.member_link.specs.Rows.Row.{Row, either}
 use Rattle.member_link.specs.Signatures.{field_type, result_of}
@@ -63,11 +66,46 @@ module _ (number : ℕ → ℕ) where
   put_static_moves f (Some r) = plain_moves number f _ _ _ _ (ap (λ (type : VType). assignable_to type ∷ []) (field_same r.desc)) refl
 
   module _ (s : RowScope) (room : ℕ) (news : ℕ → Option Name) where
+    -- ---- access to protected members
+
+    protected_kept : (r : Reference) (Finds : Option Declared → Type 0) (receiver : VType) → PassesProtected s r Finds receiver
+        → PassesProtected (renumbered s room news) r Finds (numbered_type number receiver)
+    protected_kept r Finds (types.Uninit at) passes =
+        λ member found is_protected apart below. by (passes member found is_protected apart below) where
+          by : IsAssignableIn s.headers s.major (types.Uninit at) (types.Object s.own.name) ⊎ ⊥
+              → IsAssignableIn s.headers s.major (types.Uninit (number at)) (types.Object s.own.name) ⊎ ⊥
+          by (inl may) = inl (assignable_kept number s.headers may)
+          by (inr never) = absurd never
+    protected_kept r Finds other passes = passes
+
+    field_kept : (r : Reference) (receiver : VType) → PassesField s r receiver
+        → PassesField (renumbered s room news) r (numbered_type number receiver)
+    field_kept r receiver passes = protected_kept r (FindsField s.headers r.class r.name r.desc) receiver passes
+
+    method_kept : (r : Reference) (receiver : VType) → PassesMethod s r receiver
+        → PassesMethod (renumbered s room news) r (numbered_type number receiver)
+    method_kept r receiver passes = protected_kept r (FindsMethod s.headers r.class r.name r.desc) receiver passes
+
+    put_kept : (r : Reference) (receiver : VType) → PassesPut s r receiver
+        → PassesPut (renumbered s room news) r (numbered_type number receiver)
+    put_kept r (types.Uninit at) passes = field_kept r (types.Uninit at) passes
+    put_kept r types.UninitThis passes = passes
+    put_kept r (types.Object name) passes = field_kept r (types.Object name) passes
+    put_kept r other passes = field_kept r other passes
+
+    initialiser_kept : (r : Reference) (object : VType) → PassesInitialiser s r object
+        → PassesInitialiser (renumbered s room news) r (numbered_type number object)
+    initialiser_kept r (types.Uninit at) passes = passes
+    initialiser_kept r other passes = passes
+
+    -- ---- fields of objects
+
     pub get_field_moves : (f : Frame) (reference : Option Reference)
         → Moves number (get_field_row s f reference) (get_field_row (renumbered s room news) (numbered_frame number f) reference)
     get_field_moves f None = no_row_moves number f
     get_field_moves f (Some r) =
         conditional_moves number f _ _ _ _ _ _ _ _ refl (ap (λ (type : VType). type ∷ []) (field_same r.desc)) (λ held. held)
+        (λ passes. subst (PassesField (renumbered s room news) r) (sym (lowest_same number 1 f.stack)) (field_kept r (lowest_of 1 f.stack) passes))
 
     may_put : (r : Reference) (type : VType) → MayPut s r type → MayPut (renumbered s room news) r (numbered_type number type)
     may_put r (types.Uninit at) may = may
@@ -79,14 +117,15 @@ module _ (number : ℕ → ℕ) where
     put_field_moves f (Some r) = conditional_moves number f _ _ _ _ _ _ _ _
         (ap (λ (type : VType). assignable_or_this (types.Object r.class) ∷ assignable_to type ∷ []) (field_same r.desc)) refl
         (λ may. subst (MayPut (renumbered s room news) r) (sym (lowest_same number 2 f.stack)) (may_put r (lowest_of 2 f.stack) may))
+        (λ passes. subst (PassesPut (renumbered s room news) r) (sym (lowest_same number 2 f.stack)) (put_kept r (lowest_of 2 f.stack) passes))
 
     -- ---- calls
 
-    instance_moves : (f : Frame) (r : Reference) (Further Also Access Asked : Type 0) → (Further → Also)
+    instance_moves : (f : Frame) (r : Reference) (Further Also Access Asked : Type 0) → (Further → Also) → (Access → Asked)
         → Moves number (instance_row f r Further Access) (instance_row (numbered_frame number f) r Also Asked)
-    instance_moves f r Further Also Access Asked also = conditional_moves number f _ _ _ _ _ _ _ _
+    instance_moves f r Further Also Access Asked also asked = conditional_moves number f _ _ _ _ _ _ _ _
         (ap (λ (needs : List Need). assignable_to (types.Object r.class) ∷ needs) (arguments_same r.desc))
-        (results_same (result_of r.desc)) also
+        (results_same (result_of r.desc)) also asked
 
     static_moves : (f : Frame) (r : Reference) → Moves number (static_row f r) (static_row (numbered_frame number f) r)
     static_moves f r = plain_moves number f _ _ _ _ (arguments_same r.desc) (results_same (result_of r.desc))
@@ -97,7 +136,7 @@ module _ (number : ℕ → ℕ) where
       held.0,
       subst (λ (type : VType). IsAssignableIn s.headers s.major type (types.Object s.own.name)) (sym (receiver_same f r.desc))
           (assignable_kept number s.headers held.1),
-    ))
+    )) (λ held. held)
 
     pub dynamic_moves : (f : Frame) (constant : Option Const)
         → Moves number (dynamic_row s f constant) (dynamic_row (renumbered s room news) (numbered_frame number f) constant)
@@ -199,6 +238,9 @@ module _ (number : ℕ → ℕ) where
         further =
             λ held. subst (MayInitialise (renumbered s room news) r) (sym (receiver_same f r.desc))
             (may_initialise r (receiver f r.desc) held);
+        access =
+            λ passes. subst (PassesInitialiser (renumbered s room news) r) (sym (receiver_same f r.desc))
+            (initialiser_kept r (receiver f r.desc) passes);
         locals = becoming f.locals;
         becomes = becoming;
         goes_on = refl;
@@ -225,6 +267,8 @@ module _ (number : ℕ → ℕ) where
       call_by_moves f r false true true held = init_moves f r held
       call_by_moves f r false true false held = special_moves f r
       call_by_moves f r false false is_init held = instance_moves f r _ _ _ _ (λ also. also)
+          (λ passes. subst (PassesMethod (renumbered s room news) r) (sym (receiver_same f r.desc))
+          (method_kept r (receiver f r.desc) passes))
 
       pub call_moves : (f : Frame) (opcode : ℕ) (reference : Option Reference) → (call_row s f opcode reference).further
           → Moves number (call_row s f opcode reference) (call_row (renumbered s room news) (numbered_frame number f) opcode reference)

@@ -12,14 +12,14 @@ use Rattle.class_model.specs.declared.instr.Instr.{Instr}
 use Rattle.class_model.specs.declared.instr.Instr.TheVariants.{Nop, Const, Ldc, Ldc2, Load, Store, Iinc, ArrayLoad, ArrayStore, Shuffle, Pure, Divide, FloatAsk, If, If2, IfSame, IfNull, Goto, Table, Lookup, Return, GetStatic, PutStatic, GetField, PutField, Invoke, Dynamic, New, NewArray, NewRefArray, NewMulti, Length, Throw, Cast, InstanceOf, Enter, Leave}
 use Rattle.class_model.specs.declared.opcodes.TheConstants.{IFEQ, IFLE, IF_ICMPEQ, IF_ICMPLE, IF_ACMPEQ, IF_ACMPNE, IFNULL, IFNONNULL}
 use Rattle.class_tree.specs.Headers.{Name}
-use Rattle.expanded_code.specs.Alone.{numbered_type, numbered_frame}
-use Rattle.expanded_runs.proofs.RenumberedArithmetic.{operation_moves}
-use Rattle.expanded_runs.proofs.RenumberedArrays.{array_load_moves, array_store_moves, length_moves, made_moves}
-use Rattle.expanded_runs.proofs.RenumberedLocals.{const_moves, iinc_moves, imm_moves, load_moves, store_moves}
-use Rattle.expanded_runs.proofs.RenumberedMembers.{KeepsNews, call_moves, dynamic_moves, get_field_moves, get_static_moves, put_field_moves, put_static_moves, return_moves}
-use Rattle.expanded_runs.proofs.RenumberedRows.{Moves, either_moves, ending_moves, no_row_moves, plain_moves}
-use Rattle.expanded_runs.proofs.RenumberedShuffles.{shuffle_moves}
-use Rattle.expanded_runs.proofs.RenumberedTypes.{numbered_need, renumbered}
+use Rattle.row_frames.specs.Laws.NumberedFrames.{numbered_type, numbered_frame}
+use Rattle.row_frames.specs.Laws.RenumberedArithmetic.{operation_moves}
+use Rattle.row_frames.specs.Laws.RenumberedArrays.{array_load_moves, array_store_moves, length_moves, made_moves}
+use Rattle.row_frames.specs.Laws.RenumberedLocals.{const_moves, iinc_moves, imm_moves, load_moves, store_moves}
+use Rattle.row_frames.specs.Laws.RenumberedMembers.{KeepsNews, call_moves, dynamic_moves, get_field_moves, get_static_moves, put_field_moves, put_static_moves, return_moves}
+use Rattle.row_frames.specs.Laws.RenumberedRows.{Moves, either_moves, ending_moves, no_row_moves, plain_moves}
+use Rattle.row_frames.specs.Laws.RenumberedShuffles.{shuffle_moves}
+use Rattle.row_frames.specs.Laws.RenumberedTypes.{numbered_need, renumbered}
 use Rattle.member_link.specs.RowScope.{RowScope}
 use Rattle.member_link.specs.Rows.ArithmeticRows.{pure_operations, divide_operations, float_operations, operation_in}
 use Rattle.member_link.specs.Rows.ArrayRows.{array_of, primitive_array}
@@ -63,6 +63,7 @@ module _ (number : ℕ → ℕ) where
       local = λ held. held;
       gives = refl;
       further = none_kept f.stack;
+      access = λ held. held;
       locals = all_older_same f.locals;
       becomes = λ entries. refl;
       goes_on = refl;
