@@ -6,7 +6,7 @@ use Rattle.class_model.specs.ModifiedUtf8.{is_plain_text}
 use Rattle.work_gen.specs.Generated.{method_name}
 
 -- a test of all numbers below one
-abbrev below : ℕ → (ℕ → Bool) → Bool
+abbrev pub below : ℕ → (ℕ → Bool) → Bool
 below zero test = true
 below (suc count) test = test count && below count test
 
@@ -24,7 +24,7 @@ by_last : (count : ℕ) (test : ℕ → Bool) → test count ≡ true → (numbe
 by_last count test last number others (inl same) = subst (λ (at : ℕ). test at ≡ true) (sym same) last
 by_last count test last number others (inr before) = others before
 
-passes_below : (count : ℕ) (test : ℕ → Bool) → below count test ≡ true → (number : ℕ) → number < count → test number ≡ true
+pub passes_below : (count : ℕ) (test : ℕ → Bool) → below count test ≡ true → (number : ℕ) → number < count → test number ≡ true
 passes_below zero test all number less = absurd (omega (arith, less))
 passes_below (suc count) test all number less =
     let parts = and_parts (test count) (below count test) all in

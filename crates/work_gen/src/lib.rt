@@ -7,7 +7,9 @@ mod classes;
 mod entries;
 mod generated;
 mod kinds;
+mod laws;
 mod parts;
 
 pub use base::base_library;
 pub use generated::{Work, generate};
+pub use laws::generated_classes_are_class_files;
