@@ -1,6 +1,6 @@
 -- The class of the objects of generated work is a class file.
-use Rattle.std.proofs.Common.{◌≡◌, ◌+◌, ◌<◌, ◌≤◌, ℕ, List, [], ◌∷◌, ◌++◌, length, Some, None, inl, inr, refl, arith, codes}
-use Rattle.class_bytes.specs.Numbers.{FitsNumbers, FieldNumbers, MethodNumbers, PartNumbers}
+use Rattle.std.proofs.Common.{[], ◌∷◌, inl, inr, refl, arith, codes}
+use Rattle.class_bytes.specs.Numbers.{FitsNumbers, PartNumbers}
 use Rattle.class_model.specs.Descriptors as descriptors
 use Rattle.class_model.specs.Instructions as instructions
 use Rattle.class_model.specs.Laws.Checks.{◌▸◌}
@@ -15,7 +15,7 @@ use Rattle.work_gen.specs.Generated.{point, point_init, point_y}
 use Rattle.work_gen.proofs.HeldChecks.{is_void, object_name, other_text, text, void, void_spelled}
 use Rattle.work_gen.proofs.PlainNames as plain_names
 use Rattle.work_gen.proofs.PlainNames.{class_name, reference_name, unqualified}
-use Rattle.work_gen.proofs.WorkDescriptors.{gives_int, int_spelled, is_int, point_name, takes_two, two_is_void, two_spelled, x_name, y_name}
+use Rattle.work_gen.proofs.WorkDescriptors.{gives_int, is_int, point_name, takes_two, two_is_void, x_name, y_name}
 use Rattle.work_gen.proofs.WorkParts.{PartsHold, all_hold}
 
 two_of : IsDescriptorOf 0 (codes "(II)V")

@@ -1,5 +1,5 @@
 -- The checks of generated methods hold, in any pool that begins with the constants of generated work.
-use Rattle.std.proofs.Common.{◌≡◌, ◌+◌, ◌<◌, ◌≤◌, ℕ, zero, suc, false, List, [], ◌∷◌, ◌++◌, length, Some, None, inl, inr, refl, arith, codes}
+use Rattle.std.proofs.Common.{◌≡◌, ◌+◌, ◌<◌, ◌≤◌, ℕ, suc, List, [], ◌∷◌, ◌++◌, length, Some, inl, inr, refl, arith, codes}
 use Rattle.std.specs.Prelude.{IsFalse}
 use Rattle.class_model.specs.Checks.{AllHold}
 use Rattle.class_model.specs.ClassOf.{methods_checks}

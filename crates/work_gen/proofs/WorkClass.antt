@@ -1,40 +1,32 @@
 -- The class of generated methods is a class file.
-use Rattle.std.proofs.Common.{◌≡◌, ◌+◌, ◌<◌, ◌≤◌, ◌^◌, ℕ, zero, suc, true, List, [], ◌∷◌, ◌++◌, length, Some, None, inl, inr, refl, ap, sym, ◌∙◌, arith, codes}
-use Rattle.std.specs.Prelude.{IsTrue}
+use Rattle.std.proofs.Common.{◌≡◌, ◌+◌, ◌≤◌, ℕ, suc, true, List, [], ◌∷◌, ◌++◌, length, Some, inl, inr, refl, ap, sym, arith, codes}
 use Rattle.std.specs.List.{AllByRecursion, flat_map}
-use Rattle.class_bytes.specs.Counts.{FitsCounts}
 use Rattle.class_bytes.specs.Numbers.{FitsNumbers, MethodNumbers, PartNumbers}
-use Rattle.class_model.specs.Checks.{AllHold, Check, Fault, check}
-use Rattle.class_model.specs.ClassOf.{ClassOf, bootstrap_index_checks, class_file_checks, fields_checks, methods_checks}
-use Rattle.class_model.specs.Laws.Checks.{◌▸◌, both_hold}
-use Rattle.class_model.specs.Methods.{IsDescriptorOf, bootstrap_count, class_attr_checks, code, home_of}
-use Rattle.class_model.specs.ModifiedUtf8.{IsModifiedUtf8, is_plain_text}
-use Rattle.class_model.specs.Names.{IsFieldName, clinit, init}
+use Rattle.class_model.specs.Checks.{AllHold}
+use Rattle.class_model.specs.ClassOf.{bootstrap_index_checks}
+use Rattle.class_model.specs.Laws.Checks.{◌▸◌}
+use Rattle.class_model.specs.Methods.{code}
+use Rattle.class_model.specs.ModifiedUtf8.{is_plain_text}
+use Rattle.class_model.specs.Names.{clinit, init}
 use Rattle.class_model.specs.Pool.{Constants, IsPool, entries_of}
-use Rattle.class_model.specs.PoolChecks.{BytesSpell, IsFieldDescriptor, IsMethodDescriptor, ReturnsVoid, entries_checks}
-use Rattle.class_model.specs.Spelling.{class_bytes}
+use Rattle.class_model.specs.PoolChecks.{entries_checks}
 use Rattle.class_model.specs.Values.{IsValue, MethodIsParted, TagStands}
-use Rattle.class_model.specs.declared.class_file.ClassFile.{ClassFile}
-use Rattle.class_model.specs.declared.descriptor.Descriptor.{Descriptor}
-use Rattle.class_model.specs.declared.descriptor.FieldType.TheVariants.{Int, Named}
-use Rattle.class_model.specs.declared.fault.FileRule.TheVariants as rules
 use Rattle.class_model.specs.declared.pool.Const.{Const}
 use Rattle.class_model.specs.declared.pool.Const.TheVariants.{Utf8, Class, NameAndType, Fieldref, Methodref}
 use Rattle.class_tree.specs.Names.{object, throwable}
 use Rattle.pool_bytes.specs.Items.{EntryFits}
-use Rattle.work_gen.specs.BaseLibrary.{no_parameters, takes_object}
-use Rattle.work_gen.specs.Generated.{generated_folder, indexed, kind_code, method_name, name_constant, point, work, work_constants, work_method, work_methods}
+use Rattle.work_gen.specs.BaseLibrary.{takes_object}
+use Rattle.work_gen.specs.Generated.{indexed, kind_code, method_name, name_constant, work, work_constants, work_method}
 use Rattle.work_gen.specs.declared.choices.Choice.{Choice}
 use Rattle.work_gen.specs.declared.choices.Kind.{Kind}
 use Rattle.work_gen.specs.declared.choices.Kind.TheVariants.{Adds, Loops, Branches, Locks}
-use Rattle.work_gen.proofs.FitsWork.{fits_folder}
 use Rattle.work_gen.proofs.HeldChecks.{object_name, other_text, text}
 use Rattle.work_gen.proofs.Indexed.{names}
 use Rattle.work_gen.proofs.PlainMethodNames.{plain_name}
 use Rattle.class_model.specs.Laws.Texts.{plain_text}
 use Rattle.work_gen.proofs.PlainNames as plain_names
 use Rattle.work_gen.proofs.PlainNames.{IsPlainClassName, class_name, is_unqualified, reference_name, unqualified}
-use Rattle.work_gen.proofs.WorkChecks.{home, methods_hold}
+use Rattle.work_gen.proofs.WorkChecks.{methods_hold}
 use Rattle.work_gen.proofs.WorkDescriptors.{gives_int, int_spelled, is_int, keeper_name, point_name, takes, takes_spelled, takes_two, throwable_name, two_is_void, two_spelled, work_name, x_name}
 use Rattle.work_gen.proofs.WorkNames.{is_named}
 use Rattle.work_gen.proofs.WorkParts.{PartsHold, all_hold}

@@ -1,15 +1,14 @@
 -- The names of generated methods: where they stand in the pool, and that they differ.
-use Rattle.std.proofs.Common.{◌≡◌, ◌≢◌, ◌+◌, ◌<◌, ◌≤◌, ◌||◌, ◌&&◌, ℕ, zero, suc, Bool, true, false, List, [], ◌∷◌, ◌++◌, length, slice_get, Some, refl, sym, ap, subst, ◌∙◌, inl, inr, bytes_eq, arith}
-use Rattle.std.specs.Prelude.{IsFalse}
-use Rattle.std.specs.List.{list_any, list_all}
+use Rattle.std.proofs.Common.{◌≡◌, ◌+◌, ◌<◌, ◌≤◌, ℕ, zero, suc, Bool, true, false, List, [], ◌∷◌, ◌++◌, length, slice_get, Some, refl, ap, ◌∙◌, bytes_eq, arith}
+use Rattle.std.specs.List.{list_all}
 use Rattle.std.proofs.lemmas.Fmt.{decimal_injective}
 use Rattle.std.proofs.lemmas.List.Folds.{list_any-append}
 use Rattle.std.proofs.lemmas.Slice.Eq.{bytes_eq-Decides}
-use Rattle.std.specs.Fmt.{decimal, digits}
+use Rattle.std.specs.Fmt.{digits}
 use Rattle.class_model.specs.Members.{Signature, same_signature, stands_before}
 use Rattle.class_model.specs.Names.{IsMethodName}
-use Rattle.class_model.specs.Pool.{Constants, constant_at}
-use Rattle.class_model.specs.PoolChecks.{text_of, utf8_at}
+use Rattle.class_model.specs.Pool.{Constants}
+use Rattle.class_model.specs.PoolChecks.{utf8_at}
 use Rattle.work_gen.specs.Generated.{indexed, method_name, name_constant, work_constants}
 use Rattle.work_gen.specs.declared.choices.Choice.{Choice}
 use Rattle.work_gen.proofs.Indexed.{names}

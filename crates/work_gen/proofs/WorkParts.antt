@@ -1,5 +1,5 @@
 -- The parts of the checks of a class file, and the whole of them.
-use Rattle.std.proofs.Common.{◌+◌, ◌*◌, ℕ, [], ◌∷◌, ◌++◌, length}
+use Rattle.std.proofs.Common.{◌+◌, [], ◌∷◌, ◌++◌}
 use Rattle.std.specs.Prelude.{IsTrue}
 use Rattle.class_model.specs.Checks.{AllHold}
 use Rattle.class_model.specs.PoolChecks.{entries_checks}

@@ -1,4 +1,4 @@
-use Rattle.std.proofs.Common.{◌∙◌, arith}
+use Rattle.std.proofs.Common.{arith}
 use Rattle.work_gen.specs.Generated.{choices}
 use Rattle.work_gen.proofs.ClassFiles.{are_class_files}
 use Rattle.work_gen.proofs.MadeChoices.{choices_length}

@@ -1,0 +1,4 @@
+pub mod WorkHeaders
+pub mod WorkOrder
+pub mod WorkAbove
+pub mod WorkSteps
