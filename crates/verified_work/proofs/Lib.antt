@@ -2,3 +2,4 @@ pub mod WorkHeaders
 pub mod WorkOrder
 pub mod WorkAbove
 pub mod WorkSteps
+pub mod WorkArranged

@@ -17,11 +17,11 @@ use Rattle.verified_work.proofs.WorkHeaders.{headers}
 module _ (Holds : Header → Type 0) where
   pub holds_of_named : (name : Name) (list : List Header) (header : Header) → named name list ≡ Some header → AllByRecursion Holds list → Holds header
   holds_of_named name [] header is all = absurd cc
-  holds_of_named name (first ∷ others) header is all = by (bytes_eq name first.name) is
+  holds_of_named name (first ∷ others) header is all = by (bytes_eq name first.name) is (λ is. holds_of_named name others header is all.1)
     where
-      by : (test : Bool) → cond test (Some first) (named name others) ≡ Some header → Holds header
-      by true is = subst Holds (same_Some first header is) all.0
-      by false is = holds_of_named name others header is all.1
+      by : (test : Bool) → cond test (Some first) (named name others) ≡ Some header → (named name others ≡ Some header → Holds header) → Holds header
+      by true is later = subst Holds (same_Some first header is) all.0
+      by false is later = later is
 
 -- ---- how far a class is below java/lang/Object
 

@@ -44,25 +44,28 @@ differ (header ∷ others) = not (list_any (λ other. bytes_eq header.name other
 
 none_of : (name : Name) (list : List Header) → list_any (λ other. bytes_eq name other.name) list ≡ false → count_by (λ header. bytes_eq name header.name) list ≡ 0
 none_of name [] none = refl
-none_of name (header ∷ others) none = by (bytes_eq name header.name) refl none
+none_of name (header ∷ others) none = by (bytes_eq name header.name) refl none (none_of name others)
   where
-    by : (test : Bool) → bytes_eq name header.name ≡ test → list_any (λ other. bytes_eq name other.name) (header ∷ others) ≡ false → count_by (λ header. bytes_eq name header.name) (header ∷ others) ≡ 0
-    by true is none = absurd (false≢true (sym (rw is at none)))
-    by false is none = rw is (none_of name others (rw is at none))
+    by : (test : Bool) → bytes_eq name header.name ≡ test → list_any (λ other. bytes_eq name other.name) (header ∷ others) ≡ false
+        → (list_any (λ other. bytes_eq name other.name) others ≡ false → count_by (λ header. bytes_eq name header.name) others ≡ 0)
+        → count_by (λ header. bytes_eq name header.name) (header ∷ others) ≡ 0
+    by true is none later = absurd (false≢true (sym (rw is at none)))
+    by false is none later = rw is (later (rw is at none))
 
 once : (name : Name) (list : List Header) → differ list ≡ true → count_by (λ header. bytes_eq name header.name) list ≤ 1
 once name [] test = omega arith
-once name (header ∷ others) test = by (bytes_eq name header.name) refl
+once name (header ∷ others) test = by (bytes_eq name header.name) refl (once name others)
   where
     parts : (not (list_any (λ other. bytes_eq header.name other.name) others) ≡ true) × (differ others ≡ true)
     parts = and_parts (not (list_any (λ other. bytes_eq header.name other.name) others)) (differ others) test
 
-    by : (test : Bool) → bytes_eq name header.name ≡ test → count_by (λ header. bytes_eq name header.name) (header ∷ others) ≤ 1
-    by true is =
+    by : (test : Bool) → bytes_eq name header.name ≡ test → (differ others ≡ true → count_by (λ header. bytes_eq name header.name) others ≤ 1)
+        → count_by (λ header. bytes_eq name header.name) (header ∷ others) ≤ 1
+    by true is later =
         let same : name ≡ header.name = (bytes_eq-Decides name header.name).0 is in
         let none = none_of name others (subst (λ (n : Name). list_any (λ other. bytes_eq n other.name) others ≡ false) (sym same) (not_false _ parts.0)) in
         rw (is, none) (omega arith)
-    by false is = rw is (once name others parts.1)
+    by false is later = rw is (later parts.1)
 
 -- ---- the headers
 

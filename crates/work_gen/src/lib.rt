@@ -11,5 +11,6 @@ mod laws;
 mod parts;
 
 pub use base::base_library;
+pub use choices::{Choice, Kind};
 pub use generated::{Work, generate};
-pub use laws::generated_classes_are_class_files;
+pub use laws::{base_headers_are_library_classes, generated_classes_are_class_files};
