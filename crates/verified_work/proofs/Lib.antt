@@ -3,3 +3,5 @@ pub mod WorkOrder
 pub mod WorkAbove
 pub mod WorkSteps
 pub mod WorkArranged
+pub mod WorkTree
+pub mod WorkUses

@@ -4,6 +4,7 @@ use Rattle.std.specs.Cmp.Lexicographic.{slice_cmp}
 use Rattle.std.specs.List.{list_any}
 use Rattle.std.specs.Ordering.{is_lt, nat_cmp}
 use Rattle.std.proofs.lemmas.Bool.{and_parts, false≢true, not-true}
+use Rattle.std.proofs.lemmas.List.Recursion.{is_count_by}
 use Rattle.std.proofs.lemmas.Slice.Eq.{bytes_eq-Decides}
 use Rattle.std.specs.List.Sorted.{IsPermutation}
 use Rattle.class_model.specs.Header.{header_of}
@@ -42,30 +43,37 @@ abbrev differ : List Header → Bool
 differ [] = true
 differ (header ∷ others) = not (list_any (λ other. bytes_eq header.name other.name) others) && differ others
 
-none_of : (name : Name) (list : List Header) → list_any (λ other. bytes_eq name other.name) list ≡ false → count_by (λ header. bytes_eq name header.name) list ≡ 0
+-- how many have a name
+abbrev counted : Name → List Header → ℕ
+counted name [] = 0
+counted name (header ∷ others) = cond (bytes_eq name header.name) (1 + counted name others) (counted name others)
+
+none_of : (name : Name) (list : List Header) → list_any (λ other. bytes_eq name other.name) list ≡ false → counted name list ≡ 0
 none_of name [] none = refl
 none_of name (header ∷ others) none = by (bytes_eq name header.name) refl none (none_of name others)
   where
     by : (test : Bool) → bytes_eq name header.name ≡ test → list_any (λ other. bytes_eq name other.name) (header ∷ others) ≡ false
-        → (list_any (λ other. bytes_eq name other.name) others ≡ false → count_by (λ header. bytes_eq name header.name) others ≡ 0)
-        → count_by (λ header. bytes_eq name header.name) (header ∷ others) ≡ 0
+        → (list_any (λ other. bytes_eq name other.name) others ≡ false → counted name others ≡ 0)
+        → counted name (header ∷ others) ≡ 0
     by true is none later = absurd (false≢true (sym (rw is at none)))
     by false is none later = rw is (later (rw is at none))
 
-once : (name : Name) (list : List Header) → differ list ≡ true → count_by (λ header. bytes_eq name header.name) list ≤ 1
+once : (name : Name) (list : List Header) → differ list ≡ true → counted name list ≤ 1
 once name [] test = omega arith
 once name (header ∷ others) test = by (bytes_eq name header.name) refl (once name others)
   where
     parts : (not (list_any (λ other. bytes_eq header.name other.name) others) ≡ true) × (differ others ≡ true)
     parts = and_parts (not (list_any (λ other. bytes_eq header.name other.name) others)) (differ others) test
 
-    by : (test : Bool) → bytes_eq name header.name ≡ test → (differ others ≡ true → count_by (λ header. bytes_eq name header.name) others ≤ 1)
-        → count_by (λ header. bytes_eq name header.name) (header ∷ others) ≤ 1
+    by : (test : Bool) → bytes_eq name header.name ≡ test → (differ others ≡ true → counted name others ≤ 1) → counted name (header ∷ others) ≤ 1
     by true is later =
         let same : name ≡ header.name = (bytes_eq-Decides name header.name).0 is in
         let none = none_of name others (subst (λ (n : Name). list_any (λ other. bytes_eq n other.name) others ≡ false) (sym same) (not_false _ parts.0)) in
-        rw (is, none) (omega arith)
+        rw is (omega (arith, none))
     by false is later = rw is (later parts.1)
+
+at_most_once : (name : Name) (list : List Header) → differ list ≡ true → count_by (λ header. bytes_eq name header.name) list ≤ 1
+at_most_once name list test = subst (λ (n : ℕ). n ≤ 1) (is_count_by (counted name) (λ header. bytes_eq name header.name) refl (λ header others. refl) list) (once name list test)
 
 -- ---- the headers
 
@@ -73,7 +81,7 @@ pub are_in_order : (methods : List Member) → IsInOrder (headers methods)
 are_in_order methods = record {
   folder = in_order (headers methods).folder refl;
   library = in_order library refl;
-  once = λ name. once name (all_headers (headers methods)) refl;
+  once = λ name. at_most_once name (all_headers (headers methods)) refl;
 }
 
 pub library_sorted : AreHeadersInOrder library

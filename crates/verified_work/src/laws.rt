@@ -18,3 +18,9 @@ pub fn generated_work_is_a_hierarchy()
 {
     a_folder_is_told_once();
 }
+
+/// Scratch.
+pub fn scratch()
+    ensures { (number size : ℕ) → size ≤ size }
+{
+}

@@ -3,4 +3,4 @@
 
 mod laws;
 
-pub use laws::generated_work_is_a_hierarchy;
+pub use laws::{generated_work_is_a_hierarchy, scratch};
