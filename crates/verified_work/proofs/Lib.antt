@@ -5,3 +5,4 @@ pub mod WorkSteps
 pub mod WorkArranged
 pub mod WorkTree
 pub mod WorkUses
+pub mod WorkLinks

@@ -212,11 +212,12 @@ module _ (laws : UseLaws) (methods : List Member) (pool : Constants) (site : Mem
       (record { of_static = λ is. refl; of_instance = λ other. absurd (other refl); kind = is_class (codes "L") keeper_header refl refl; initialiser = λ is. absurd (differ (codes "use") init refl is); no_private = λ is. absurd (omega (arith, is)) })
       (is_public refl)
 
-  pub new_passes : AllHold (named_class_checks (scope methods pool (codes "G") site) (codes "P")) × IsInstantiable (headers methods) (codes "P")
-  new_passes = (
-    (refl, (record { header = point_header; found = refl; is_open = inr refl }, tt)),
-    record { header = point_header; found = refl; concrete = refl; no_interface = refl },
-  )
+  pub new_passes : IsNamedThere (headers methods) (codes "P") × (IsNamedAccessible (headers methods) (codes "G") (codes "P") × (IsInstantiable (headers methods) (codes "P") × Unit {0}))
+  new_passes =
+      refl
+      ▸ record { header = point_header; found = refl; is_open = inr refl }
+      ▸ record { header = point_header; found = refl; concrete = refl; no_interface = refl }
+      ▸ tt
 
 -- ---- one instruction after the other
 
