@@ -6,3 +6,5 @@ pub mod WorkArranged
 pub mod WorkTree
 pub mod WorkUses
 pub mod WorkLinks
+pub mod WorkTypes
+pub mod WorkVerified

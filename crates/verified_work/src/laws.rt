@@ -1,26 +1,28 @@
-//! Laws: functions that do nothing, whose contracts say what always holds.
+//! A law: a function that does nothing, whose contract says what always holds.
 ghost use Rattle.std.specs.Prelude.{ℕ, ◌≤◌};
-ghost use Rattle.class_model.specs.Checks.{AllHold};
 ghost use Rattle.class_tree.specs.Headers.{Classes};
-ghost use Rattle.class_tree.specs.Steps.{step_checks};
-ghost use Rattle.class_tree.specs.Trees.{IsArranged, IsTree};
+ghost use Rattle.class_tree.specs.Trees.{IsArranged};
+ghost use Rattle.type_rules.specs.Verified.{IsVerified};
 ghost use Rattle.work_gen.specs.BaseLibrary.{base_headers};
 ghost use Rattle.work_gen.specs.Generated.{choices, generated_folder};
 
+use class_model::{a_text_spells_one_field_type, parameters_are_spelled};
 use class_tree::a_folder_is_told_once;
+use member_link::{a_look_up_finds_one_field, a_look_up_finds_one_method};
+use work_gen::{base_headers_are_library_classes, generated_classes_are_class_files};
 
-/// Generated work and the library of `base_library` are a hierarchy, in whichever order they are given.
-pub fn generated_work_is_a_hierarchy()
+/// Generated work verifies with the library of `base_library`, in whichever order the classes of both are given.
+pub fn generated_work_verifies()
     ensures { (number size : ℕ) (classes : Classes)
         → size ≤ 1000
         → IsArranged (generated_folder (choices number size)) base_headers classes
-        → AllHold (step_checks classes) }
+        → IsVerified classes }
 {
+    generated_classes_are_class_files();
+    base_headers_are_library_classes();
     a_folder_is_told_once();
-}
-
-/// Scratch.
-pub fn scratch()
-    ensures { (number size : ℕ) → size ≤ size }
-{
+    parameters_are_spelled();
+    a_text_spells_one_field_type();
+    a_look_up_finds_one_field();
+    a_look_up_finds_one_method();
 }

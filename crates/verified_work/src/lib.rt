@@ -1,6 +1,6 @@
-//! Generated work verifies: functions that do nothing, whose contracts say what always holds.
+//! Generated work verifies with the base library: a function that does nothing, whose contract says what always holds.
 #![tactic(auto)]
 
 mod laws;
 
-pub use laws::{generated_work_is_a_hierarchy, scratch};
+pub use laws::generated_work_verifies;
