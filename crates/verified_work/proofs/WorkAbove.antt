@@ -1,12 +1,12 @@
 -- No class of generated work or of its library is above itself.
-use Rattle.std.proofs.Common.{◌≡◌, ◌<◌, ℕ, Bool, true, false, List, [], ◌∷◌, Some, IfSome, cond, bytes_eq, refl, sym, ap, subst, ◌∙◌, arith}
+use Rattle.std.proofs.Common.{◌≡◌, ◌<◌, ℕ, Bool, true, false, List, [], ◌∷◌, Some, IfSome, cond, bytes_eq, refl, subst, arith}
 use Rattle.std.specs.List.{AllByRecursion, list_any}
-use Rattle.std.specs.Prelude.{IsTrue, if◌then◌else◌}
+use Rattle.std.specs.Prelude.{if◌then◌else◌}
 use Rattle.std.proofs.lemmas.Bool.{false≢true}
 use Rattle.std.proofs.lemmas.Option.{same_Some}
 use Rattle.class_model.specs.declared.header.Header.{Header}
 use Rattle.class_model.specs.declared.header.Member.{Member}
-use Rattle.class_tree.specs.Headers.{Name, all_headers, class_named, named}
+use Rattle.class_tree.specs.Headers.{Name, all_headers, named}
 use Rattle.class_tree.specs.Laws.Headers.{own_name}
 use Rattle.class_tree.specs.Names.{machine_throwables, object}
 use Rattle.class_tree.specs.Subtype.{IsBelow, IsDirectlyBelow, directly, interface, onwards, superclass}
@@ -36,13 +36,67 @@ of_class : {header : Header} → IfSome header.super_name (λ high. rank high < 
 of_class above none = record { above = above; no_interface = none }
 
 are_ranked : (methods : List Member) → AllByRecursion IsRanked (all_headers (headers methods))
-are_ranked methods =
-    (of_class (omega arith) refl, (of_class (omega arith) refl, (of_class (omega arith) refl, (of_class (omega arith) refl,
-    (of_class (omega arith) refl, (of_class (omega arith) refl, (of_class (omega arith) refl, (of_class (omega arith) refl,
-    (of_class (omega arith) refl, (of_class (omega arith) refl, (of_class (omega arith) refl, (of_class (omega arith) refl,
-    (of_class (omega arith) refl, (of_class (omega arith) refl, (of_class (omega arith) refl, (of_class (omega arith) refl,
-    (of_class tt refl, (of_class (omega arith) refl, (of_class (omega arith) refl, (of_class (omega arith) refl,
-    (of_class (omega arith) refl, tt)))))))))))))))))))))
+are_ranked methods = (
+  of_class (omega arith) refl,
+  (
+    of_class (omega arith) refl,
+    (
+      of_class (omega arith) refl,
+      (
+        of_class (omega arith) refl,
+        (
+          of_class (omega arith) refl,
+          (
+            of_class (omega arith) refl,
+            (
+              of_class (omega arith) refl,
+              (
+                of_class (omega arith) refl,
+                (
+                  of_class (omega arith) refl,
+                  (
+                    of_class (omega arith) refl,
+                    (
+                      of_class (omega arith) refl,
+                      (
+                        of_class (omega arith) refl,
+                        (
+                          of_class (omega arith) refl,
+                          (
+                            of_class (omega arith) refl,
+                            (
+                              of_class (omega arith) refl,
+                              (
+                                of_class (omega arith) refl,
+                                (
+                                  of_class tt refl,
+                                  (
+                                    of_class (omega arith) refl,
+                                    (
+                                      of_class (omega arith) refl,
+                                      (
+                                        of_class (omega arith) refl,
+                                        (of_class (omega arith) refl, tt),
+                                      ),
+                                    ),
+                                  ),
+                                ),
+                              ),
+                            ),
+                          ),
+                        ),
+                      ),
+                    ),
+                  ),
+                ),
+              ),
+            ),
+          ),
+        ),
+      ),
+    ),
+  ),
+)
 
 falls : (methods : List Member) {low high : Name} → IsDirectlyBelow (headers methods) low high → rank high < rank low
 falls methods (superclass low high header is some) =

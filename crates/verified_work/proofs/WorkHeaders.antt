@@ -1,11 +1,10 @@
 -- The classes of generated work and of its library as headers, in byte order of their names.
-use Rattle.std.proofs.Common.{ℕ, List, [], ◌∷◌, map, Option, Some, None, codes}
+use Rattle.std.proofs.Common.{ℕ, List, [], ◌∷◌, Option, Some, None, codes}
 use Rattle.class_model.specs.Names.{init}
-use Rattle.class_model.specs.declared.class_file.ClassFile.{ClassFile}
 use Rattle.class_model.specs.declared.header.Header.{Header}
 use Rattle.class_model.specs.declared.header.Member.{Member}
-use Rattle.class_tree.specs.Headers.{Classes, Headers, Name}
-use Rattle.class_tree.specs.Names.{cloneable, machine_throwables, method_handle, method_type, object, serializable, throwable}
+use Rattle.class_tree.specs.Headers.{Headers, Name}
+use Rattle.class_tree.specs.Names.{cloneable, method_handle, method_type, object, serializable, throwable}
 use Rattle.work_gen.specs.BaseLibrary.{gives_object, no_parameters, takes_object}
 
 -- ---- the library

@@ -1,7 +1,7 @@
 -- Generated work is linked with its library.
-use Rattle.std.proofs.Common.{◌≡◌, ◌+◌, ℕ, zero, suc, Bool, true, false, List, [], ◌∷◌, ◌++◌, map, Option, Some, None, cond, inl, inr, refl, sym, ap, subst, ◌∙◌, codes}
+use Rattle.std.proofs.Common.{◌≡◌, ℕ, suc, Bool, true, false, List, [], ◌∷◌, ◌++◌, map, Some, cond, inl, refl, sym, subst, ◌∙◌, codes}
 use Rattle.std.specs.List.{AllByRecursion}
-use Rattle.std.specs.Prelude.{IsFalse, IsTrue}
+use Rattle.std.specs.Prelude.{IsFalse}
 use Rattle.std.proofs.lemmas.Bool.{false≢true}
 use Rattle.std.proofs.lemmas.Option.{same_Some}
 use Rattle.class_model.specs.Checks.{AllHold, asked_each}
@@ -13,7 +13,6 @@ use Rattle.class_model.specs.Instructions.{decoded}
 use Rattle.class_model.specs.Laws.Checks.{◌▸◌, both_hold}
 use Rattle.class_model.specs.Members.{FINAL, has}
 use Rattle.class_model.specs.Methods.{Home, home_of}
-use Rattle.class_model.specs.Names.{init}
 use Rattle.class_model.specs.Pool.{Constants}
 use Rattle.class_model.specs.Stated.{stated_in}
 use Rattle.class_model.specs.declared.class_file.Attr.TheVariants.{Code}
@@ -21,20 +20,19 @@ use Rattle.class_model.specs.declared.class_file.CodePart.{CodePart}
 use Rattle.class_model.specs.declared.class_file.Method.{Method}
 use Rattle.class_model.specs.declared.header.Header.{Header}
 use Rattle.class_model.specs.declared.header.Member.{Member}
-use Rattle.class_tree.specs.Headers.{Headers, IsThere, Name, headers_of, named}
-use Rattle.class_tree.specs.Names.{is_member, object}
-use Rattle.member_link.specs.Declarations.{OverridesNoFinal, declaration_checks, declared_field_checks, declared_method_checks}
+use Rattle.class_tree.specs.Headers.{IsThere, headers_of}
+use Rattle.class_tree.specs.Names.{is_member}
+use Rattle.member_link.specs.Declarations.{OverridesNoFinal, declaration_checks, declared_method_checks}
 use Rattle.member_link.specs.DeclaredMembers.{Declared, declared}
 use Rattle.member_link.specs.Linked.{IsLinked}
-use Rattle.member_link.specs.References.{DescriptorNames}
-use Rattle.member_link.specs.Uses.{code_use_checks, frame_checks, handler_use_checks, instr_use_checks, instrs_checks, methods_use_checks, use_checks}
-use Rattle.work_gen.specs.Generated.{generated_folder, indexed, kind_code, name_constant, point, point_init, point_pool, point_y, work, work_constants, work_method, work_methods}
+use Rattle.member_link.specs.Uses.{code_use_checks, frame_checks, handler_use_checks, instrs_checks, methods_use_checks, use_checks}
+use Rattle.work_gen.specs.Generated.{indexed, kind_code, name_constant, point, point_init, point_pool, point_y, work, work_constants, work_method, work_methods}
 use Rattle.work_gen.specs.Values.{method}
 use Rattle.work_gen.specs.declared.choices.Choice.{Choice}
 use Rattle.work_gen.specs.declared.choices.Kind.{Kind}
 use Rattle.work_gen.specs.declared.choices.Kind.TheVariants.{Adds, Branches, Locks, Loops}
 use Rattle.verified_work.proofs.WorkAbove.{holds_of_named}
-use Rattle.verified_work.proofs.WorkHeaders.{headers, point_constructor, point_header, root_header, work_header, x_field, y_field, y_method}
+use Rattle.verified_work.proofs.WorkHeaders.{headers, point_constructor, point_header, root_header, work_header, y_method}
 use Rattle.verified_work.proofs.WorkSteps.{classes_of, methods_of}
 use Rattle.verified_work.proofs.WorkUses.{UseLaws, each_passes, gives_int, init_passes, int_to_int, is_int, new_passes, own_x_passes, own_y_passes, placed_in, root_passes, scope, two_to_void, use_passes, x_passes, y_passes}
 
@@ -155,7 +153,7 @@ module _ (laws : UseLaws) where
       let part = kind_code choice.kind in
       let rest = rest_links choice.kind methods more site number choice in
       let code = both_hold (instrs_checks s (decoded part.code) ++ asked_each (handler_use_checks s) part.handlers) (asked_each (frame_checks s) (stated_in (home more) (work_method number choice) part part.attrs))
-          (both_hold (instrs_checks s (decoded part.code)) (asked_each (handler_use_checks s) part.handlers) (kind_links choice.kind methods more site) rest.0) rest.1 in
+      (both_hold (instrs_checks s (decoded part.code)) (asked_each (handler_use_checks s) part.handlers) (kind_links choice.kind methods more site) rest.0) rest.1 in
       both_hold (code_use_checks s (home more) (work_method number choice) part ++ []) _
       (both_hold (code_use_checks s (home more) (work_method number choice) part) [] code tt)
       (methods_link methods class_methods more (suc number) left)

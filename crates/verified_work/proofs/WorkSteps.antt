@@ -1,22 +1,20 @@
 -- Generated work and its library are a hierarchy.
-use Rattle.std.proofs.Common.{◌≡◌, ◌≢◌, ℕ, suc, Bool, false, List, [], ◌∷◌, ◌++◌, map, Some, None, refl, codes}
-use Rattle.std.specs.List.{AllByRecursion, list_any}
-use Rattle.std.specs.Prelude.{IsFalse, IsTrue, IsSome, IfSome}
-use Rattle.class_model.specs.Checks.{AllHold, asked_each}
+use Rattle.std.proofs.Common.{◌≡◌, ℕ, suc, false, List, [], ◌∷◌, Some, None, refl, codes}
+use Rattle.std.specs.List.{AllByRecursion}
+use Rattle.std.specs.Prelude.{IsFalse, IsTrue, IfSome}
+use Rattle.class_model.specs.Checks.{AllHold}
 use Rattle.class_model.specs.Header.{header_of}
 use Rattle.class_model.specs.Laws.Checks.{◌▸◌, both_hold}
-use Rattle.class_model.specs.declared.class_file.ClassFile.{ClassFile}
 use Rattle.class_model.specs.declared.header.Header.{Header}
 use Rattle.class_model.specs.declared.header.Member.{Member}
-use Rattle.class_model.specs.declared.pool.Const.{Const}
-use Rattle.class_tree.specs.Headers.{Classes, Headers, Name, class_named, headers_of, named}
+use Rattle.class_tree.specs.Headers.{Classes, Headers, Name, class_named, headers_of}
 use Rattle.class_tree.specs.Names.{is_interface, method_handle, method_type, object, throwable}
-use Rattle.class_tree.specs.Steps.{FitsKinds, base_checks, folder_checks, has_constant, hierarchy_checks, is_method_handle, is_method_type, library_checks, needed_class_checks, step_checks}
+use Rattle.class_tree.specs.Steps.{FitsKinds, base_checks, has_constant, hierarchy_checks, is_method_handle, is_method_type, needed_class_checks, step_checks}
 use Rattle.class_tree.specs.Subtype.{IsBelow, directly, superclass}
 use Rattle.work_gen.specs.Generated.{generated_folder, indexed, name_constant, point, work}
 use Rattle.work_gen.specs.declared.choices.Choice.{Choice}
 use Rattle.verified_work.proofs.WorkAbove.{no_circle}
-use Rattle.verified_work.proofs.WorkHeaders.{headers, keeper_header, library, point_header, root_header, work_header}
+use Rattle.verified_work.proofs.WorkHeaders.{headers, library}
 
 -- ---- class by class
 

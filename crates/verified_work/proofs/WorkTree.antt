@@ -1,5 +1,5 @@
 -- Generated work and its library are a tree.
-use Rattle.std.proofs.Common.{◌≤◌, List, length, Some}
+use Rattle.std.proofs.Common.{List}
 use Rattle.std.specs.List.{AllByRecursion}
 use Rattle.class_tree.specs.Headers.{IsClassFile, IsLibraryClass}
 use Rattle.class_tree.specs.Trees.{IsTree}

@@ -1,10 +1,8 @@
 -- The frames of generated code, and that they type it.
-use Rattle.std.proofs.Common.{◌≡◌, ◌≢◌, ◌⊎◌, ◌<◌, ◌≤◌, ℕ, zero, suc, Bool, true, false, List, [], ◌∷◌, ◌++◌, map, Option, Some, None, inl, inr, refl, sym, ap, subst, ◌∙◌, arith, codes}
-use Rattle.std.specs.List.{AllByRecursion}
-use Rattle.std.specs.Prelude.{IsFalse, IsTrue}
+use Rattle.std.proofs.Common.{◌≡◌, ◌≢◌, ℕ, List, [], ◌∷◌, ◌++◌, Option, Some, inl, inr, refl, sym, subst, ◌∙◌, arith, codes}
+use Rattle.std.specs.Prelude.{IsTrue}
 use Rattle.std.proofs.lemmas.Bool.{false≢true}
 use Rattle.std.proofs.lemmas.Option.{same_Some}
-use Rattle.class_model.specs.Checks.{AllHold}
 use Rattle.class_model.specs.Descriptors as descriptors
 use Rattle.class_model.specs.Frames as frames
 use Rattle.class_model.specs.Instructions as instructions
@@ -13,7 +11,6 @@ use Rattle.class_model.specs.Members.{PROTECTED, has}
 use Rattle.class_model.specs.Names.{init}
 use Rattle.class_model.specs.Pool.{Constants}
 use Rattle.class_model.specs.declared.class_file.Attr.TheVariants.{Code}
-use Rattle.class_model.specs.declared.class_file.ClassFile.{ClassFile}
 use Rattle.class_model.specs.declared.class_file.CodePart.{CodePart}
 use Rattle.class_model.specs.declared.class_file.Method.{Method}
 use Rattle.class_model.specs.declared.descriptor.FieldType.TheVariants as types
@@ -21,20 +18,16 @@ use Rattle.class_model.specs.declared.frame.Frame.{Frame}
 use Rattle.class_model.specs.declared.frame.VType.{VType}
 use Rattle.class_model.specs.declared.frame.VType.TheVariants.{Int, Object, Top, Uninit, UninitThis}
 use Rattle.class_model.specs.declared.header.Member.{Member}
-use Rattle.class_tree.specs.Headers.{Headers, Name}
+use Rattle.class_tree.specs.Headers.{Name}
 use Rattle.class_tree.specs.Names.{object, throwable}
 use Rattle.class_tree.specs.Subtype.{directly, superclass}
-use Rattle.member_link.specs.Access.{IsAtOrBelow}
 use Rattle.member_link.specs.Assignability.{of_names, to_class_above, to_same, to_top}
-use Rattle.member_link.specs.Bodies.{Body, BodyPoint}
 use Rattle.member_link.specs.DeclaredMembers.{Declared, declared_by}
 use Rattle.member_link.specs.Fields.{FindsField}
 use Rattle.member_link.specs.Methods.{FindsMethod}
 use Rattle.member_link.specs.Overriding.{package_of}
 use Rattle.member_link.specs.Scope.{Scope}
-use Rattle.type_rules.specs.Checks.{IsTypedAt, frame_before, instr_checks}
-use Rattle.type_rules.specs.MethodBodies.{body_of}
-use Rattle.type_rules.specs.Typed.{AreTyped, Typed}
+use Rattle.type_rules.specs.Typed.{Typed}
 use Rattle.work_gen.specs.Generated.{kind_code, point, point_init, point_y, work, work_constants, work_method}
 use Rattle.work_gen.specs.Values.{method}
 use Rattle.work_gen.specs.declared.choices.Choice.{Choice}

@@ -1,7 +1,7 @@
 -- The references of generated code, each to a member that is found, of the form that is needed, and accessible.
-use Rattle.std.proofs.Common.{◌≡◌, ◌≢◌, ◌⊎◌, ℕ, Bool, true, false, List, [], ◌∷◌, ◌++◌, Option, Some, None, IfSome, IsSome, Result, Ok, Err, bytes_eq, inl, inr, refl, sym, ap, subst, ◌∙◌, get_or, arith, codes}
+use Rattle.std.proofs.Common.{◌≡◌, ◌≢◌, ℕ, false, List, [], ◌∷◌, Option, Some, IfSome, Result, Ok, Err, bytes_eq, inl, inr, refl, sym, ap, subst, ◌∙◌, get_or, arith, codes}
 use Rattle.std.specs.List.{AllByRecursion}
-use Rattle.std.specs.Prelude.{IsFalse, IsTrue}
+use Rattle.std.specs.Prelude.{IsFalse}
 use Rattle.std.proofs.lemmas.Bool.{false≢true, true≢false}
 use Rattle.std.proofs.lemmas.Option.{same_Some}
 use Rattle.std.proofs.lemmas.Slice.Eq.{bytes_eq-Decides}
@@ -23,7 +23,6 @@ use Rattle.class_model.specs.declared.pool.Const.{Const}
 use Rattle.class_model.specs.declared.pool.Const.TheVariants.{Methodref}
 use Rattle.class_tree.specs.Headers.{Headers, IsThere, Name, class_named}
 use Rattle.class_tree.specs.Names.{is_interface, object}
-use Rattle.class_tree.specs.Subtype.{IsArray}
 use Rattle.member_link.specs.Access.{IsAccessible, IsClassAccessible, in_package, is_public}
 use Rattle.member_link.specs.DeclaredMembers.{Declared, declared_by}
 use Rattle.member_link.specs.Fields.{FindsField, in_class}
@@ -33,7 +32,7 @@ use Rattle.member_link.specs.Methods.{FindsMethod, IsPolymorphic, initialiser, o
 use Rattle.member_link.specs.References.{DescriptorNames, FieldTypeNames, IsNamedAccessible, IsNamedThere, Reference, TypeNames}
 use Rattle.member_link.specs.Signatures.{result_of}
 use Rattle.member_link.specs.Upwards.{in_itself}
-use Rattle.member_link.specs.Uses.{UseScope, asked_of_class, field_use_checks, instr_use_checks, member_checks, method_use_checks, named_class_checks}
+use Rattle.member_link.specs.Uses.{UseScope, field_use_checks, instr_use_checks, member_checks, method_use_checks}
 use Rattle.work_gen.specs.BaseLibrary.{no_parameters, takes_object}
 use Rattle.verified_work.proofs.WorkHeaders.{constructor, headers, keeper_header, member, point_constructor, point_header, root_header, use_member, x_field, y_field, y_method}
 
@@ -52,8 +51,7 @@ pub record UseLaws : Type 0 where
 module _ (laws : UseLaws) where
   described : (Holds : Name → Type 0) (text : List ℕ) → AllByRecursion (TypeNames Holds) (parameters_of text) → IfSome (result_of text) (TypeNames Holds) → DescriptorNames Holds text
   described Holds text params result descriptor spelled =
-      let same = laws.parameters text descriptor spelled in
-      (
+      let same = laws.parameters text descriptor spelled in (
         subst (AllByRecursion (TypeNames Holds)) same params,
         subst (λ (type : Option FieldType). IfSome type (TypeNames Holds)) (result_spelled text descriptor same spelled) result,
       )

@@ -1,5 +1,5 @@
 -- Generated work verifies with its library.
-use Rattle.std.proofs.Common.{◌≤◌, ◌++◌, ℕ, suc, List, [], ◌∷◌, length, map, Option, Some, None}
+use Rattle.std.proofs.Common.{◌++◌, ℕ, suc, List, [], ◌∷◌, Option, Some}
 use Rattle.std.specs.List.{AllByRecursion}
 use Rattle.class_model.specs.Pool.{Constants}
 use Rattle.class_model.specs.declared.class_file.Method.{Method}
@@ -34,8 +34,7 @@ frames_of chosen = work_frames chosen ∷ point_frames ∷ []
 
 types_folder : UseLaws → (chosen : List Choice) → TypesFolder (classes_of chosen) (frames_of chosen)
 types_folder laws chosen =
-    let methods = methods_of chosen in
-    (
+    let methods = methods_of chosen in (
       methods_typed laws methods (indexed (λ number choice. Some (name_constant number) ∷ []) 0 chosen) (work_methods chosen) 0 chosen,
       ((init_typed laws methods, (y_typed laws methods, tt)), tt),
     )
