@@ -8,3 +8,4 @@ pub mod WorkUses
 pub mod WorkLinks
 pub mod WorkTypes
 pub mod WorkVerified
+pub mod WorkScript

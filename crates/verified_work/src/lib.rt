@@ -1,6 +1,6 @@
-//! Generated work verifies with the base library: a function that does nothing, whose contract says what always holds.
+//! Generated work verifies with the base library, and its script is one: functions that do nothing, whose contracts say what always holds.
 #![tactic(auto)]
 
 mod laws;
 
-pub use laws::generated_work_verifies;
+pub use laws::{a_generated_script_is_read, generated_work_verifies};

@@ -12,7 +12,7 @@ use Rattle.class_model.specs.PoolChecks.{utf8_at}
 use Rattle.work_gen.specs.Generated.{indexed, method_name, name_constant, work_constants}
 use Rattle.work_gen.specs.declared.choices.Choice.{Choice}
 use Rattle.work_gen.proofs.Indexed.{names}
-use Rattle.work_gen.proofs.PlainMethodNames.{below, passes_below}
+use Rattle.work_gen.specs.Laws.Below.{below, passes_below}
 use Rattle.work_gen.proofs.PlainNames as plain_names
 use Rattle.work_gen.proofs.PlainNames.{is_unqualified, is_no_angle}
 
