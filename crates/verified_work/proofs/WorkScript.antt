@@ -1,5 +1,5 @@
 -- The text of a generated script is the one that is printed of its actions.
-use Rattle.std.proofs.Common.{◌≡◌, ◌+◌, ◌*◌, ◌/◌, ◌%◌, ◌<◌, ◌≤◌, ◌==◌, ◌&&◌, ◌^◌, ℕ, zero, suc, pos, Bool, true, false, List, [], ◌∷◌, ◌++◌, length, FitsSigned, refl, sym, ap, subst, ◌∙◌, append_assoc, bytes_eq, arith, codes}
+use Rattle.std.proofs.Common.{◌≡◌, ◌+◌, ◌<◌, ◌≤◌, ◌==◌, ◌&&◌, ℕ, zero, suc, pos, Bool, true, false, List, [], ◌∷◌, ◌++◌, length, FitsSigned, refl, sym, ap, subst, ◌∙◌, append_assoc, bytes_eq, arith, codes}
 use Rattle.std.specs.Fmt.{decimal, digits}
 use Rattle.std.specs.Int.{w32}
 use Rattle.std.specs.List.{AllByRecursion, flat_map}
@@ -9,11 +9,11 @@ use Rattle.std.proofs.lemmas.Slice.Eq.{bytes_eq-Decides}
 use Rattle.class_model.specs.Laws.Texts.{plain_text}
 use Rattle.class_model.specs.ModifiedUtf8.{is_plain_text}
 use Rattle.machine_values.specs.declared.action.Action.{Action}
-use Rattle.machine_values.specs.declared.action.Action.TheVariants.{Call, Return, Stop}
+use Rattle.machine_values.specs.declared.action.Action.TheVariants.{Stop}
 use Rattle.script_text.specs.PrintedScripts.{IsAction, printed_action, printed_script}
 use Rattle.script_text.specs.PrintedTexts.{printed_text}
 use Rattle.script_text.specs.Scripts.{IsScript}
-use Rattle.work_gen.specs.Generated.{answer_text, behind, call_text, choice_at, choices, draw, generated_script, indexed, method_name}
+use Rattle.work_gen.specs.Generated.{answer_text, behind, call_text, choices, generated_script, indexed, method_name}
 use Rattle.work_gen.specs.Laws.Below.{below, passes_below}
 use Rattle.work_gen.specs.declared.choices.Choice.{Choice}
 use Rattle.work_gen.specs.declared.choices.Kind.{Kind}
@@ -89,8 +89,7 @@ are_actions number [] few small = (tt, tt)
 are_actions number (choice ∷ left) few small =
     let rest = are_actions (suc number) left (omega (arith, few)) small.1 in
     let answer = answer_is choice.kind (choice.argument == 1) (indexed call_actions (suc number) left ++ Stop ∷ []) rest in
-    let name = plain_text (method_name number) (plain_name number (omega (arith, few))) in
-    (
+    let name = plain_text (method_name number) (plain_name number (omega (arith, few))) in (
       (plain_text (codes "G") refl, name, plain_text (codes "(I)I") refl, (small_number choice.argument small.0, tt)),
       subst (AllByRecursion IsAction) (sym (append_assoc (answer_actions choice.kind (choice.argument == 1)) (indexed call_actions (suc number) left) (Stop ∷ []))) answer,
     )
