@@ -29,3 +29,4 @@ pub mod Meanings
 pub mod Complete
 pub mod SettledRuns
 pub mod WrittenTrees
+pub mod WordBounds
