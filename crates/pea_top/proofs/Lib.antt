@@ -30,3 +30,5 @@ pub mod Complete
 pub mod SettledRuns
 pub mod WrittenTrees
 pub mod WordBounds
+pub mod GeneratedTrees
+pub mod RunsTold

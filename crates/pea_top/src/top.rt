@@ -214,12 +214,7 @@ fn list<H: Host>(alloc: Global, host: &mut H, input: &str, name: &str) -> Result
 }
 
 /// Generates work, optimises it, runs it before and after, and prints its line.
-fn generated<H: Host>(
-    alloc: Global,
-    host: &mut H,
-    number: u32,
-    size: u32,
-) -> Result<(), Status>
+fn generated<H: Host>(alloc: Global, host: &mut H, number: u32, size: u32) -> Result<(), Status>
     requires number { number ≤ 2147483647 }
     requires size { size ≤ 1000 }
     ensures not_usage { ¬ IsErrOf result Status.Usage }
