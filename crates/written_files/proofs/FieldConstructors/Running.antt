@@ -180,9 +180,9 @@ module _ (laws : Laws) (classes : Classes) (links : Links) (constructor : Name �
       ∙ ap (made (1 + units_of_fields (instance_fields (headers_of classes) name) + 1))
       (points_are number 0 (constructor_items (headers_of classes) name) (all_mean number))
 
-  pub constructor_runs : scope_of s.headers s.class s.method ≡ Some s
-      → run_method_of links s.headers s.class s.method ≡ constructor_method classes links constructor file
-  constructor_runs there =
+  pub constructor_runs : run_method_of links s.headers s.class s.method ≡ constructor_method classes links constructor file
+  constructor_runs =
+      let there : scope_of s.headers s.class s.method ≡ Some s = rw (c.code) refl in
       let made : Member → Option Code → RunMethod = λ member code. record { member = member; code = code } in
       ap (made (method_member s.class.pool s.method)) (ap (option_map (method_code links)) there ∙ ap Some code_is)
       ∙ ap (λ (member : Member). made member (Some (constructor_code classes links constructor file)))
