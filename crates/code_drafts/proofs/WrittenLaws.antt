@@ -6,7 +6,8 @@ use Rattle.class_model.specs.declared.frame.Frame.{Frame}
 use Rattle.class_model.specs.declared.instr.Instr.{Instr}
 use Rattle.class_model.specs.declared.instr.Instr.TheVariants.{Throw}
 use Rattle.class_tree.specs.Headers.{Classes, Name}
-use Rattle.code_drafts.proofs.EmitLaws.{emits_both, emits_one, full_behind, grows_none, needs_one}
+use Rattle.code_drafts.proofs.EmitLaws.{emits_both, emits_one, full_behind, needs_one}
+use Rattle.materialise.specs.Laws.GrownEdits.{grows_none}
 use Rattle.code_drafts.proofs.PutLaws.{Pushes}
 use Rattle.code_drafts.specs.Inner.CarriedWords.{Catches, IsDraft}
 use Rattle.code_drafts.specs.Drafts.{Meant, meaning}
