@@ -144,6 +144,8 @@ pub fn a_written_folder_runs_as_its_folder()
     plan_flow::flat_code_has_one_least_plan();
     plan_flow::effect_grows();
     class_model::constants_compare_by_value();
+    class_model::parameters_of_bytes_are_spelled();
+    written_files::a_field_constructor_runs_its_instructions();
     type_rules::a_grown_class_has_a_grown_header();
     type_rules::a_grown_class_keeps_its_instructions();
     type_rules::a_grown_class_keeps_its_code();
