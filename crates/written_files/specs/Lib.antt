@@ -1,2 +1,3 @@
 pub mod FieldConstructors
 pub mod LinkedConstructors
+pub mod GrownPools
