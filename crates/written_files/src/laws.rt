@@ -1,6 +1,8 @@
 //! Laws of written classes.
 ghost use Rattle.std.specs.Prelude.{◌≡◌, ◌++◌, ℕ, List, Some};
 ghost use Rattle.std.specs.List.{AllByRecursion};
+ghost use Rattle.class_model.specs.Checks.{AllHold};
+ghost use Rattle.class_model.specs.ClassOf.{class_file_checks};
 ghost use Rattle.class_model.specs.Header.{method_member};
 ghost use Rattle.class_model.specs.Pool.{Constants};
 ghost use Rattle.class_model.specs.PoolChecks.{IsFieldDescriptor};
@@ -9,13 +11,14 @@ ghost use Rattle.class_model.specs.declared.class_file.Method.{Method};
 ghost use Rattle.class_model.specs.declared.frame.Frame.{Frame};
 ghost use Rattle.class_tree.specs.Headers.{IsThere, Headers, Name};
 ghost use Rattle.class_tree.specs.Layouts.{instance_fields};
-ghost use Rattle.making_code.specs.Constants.{grow};
+ghost use Rattle.making_code.specs.Constants.{Need, grow};
 ghost use Rattle.making_code.specs.ConstructorCode.{IsConstructorMethod};
 ghost use Rattle.making_code.specs.FieldConstructor.{constructor_method_needs};
 ghost use Rattle.member_link.specs.References.{DescriptorNames, FieldTypeNames};
 ghost use Rattle.member_link.specs.Scope.{Scope};
 ghost use Rattle.type_rules.specs.Typed.{Typed};
 ghost use Rattle.written_files.specs.FieldConstructors.{IsConstructorIn, IsDescribed, constructor_member};
+ghost use Rattle.written_files.specs.GrownPools.{AddsChecked, AreSound};
 ghost use Rattle.written_files.specs.LinkedConstructors.{HasLinkedMembers, IsLinkedMethod};
 
 use code_bytes::the_chosen_spelling_is_of_the_table;
@@ -69,4 +72,20 @@ pub fn a_field_constructor_names_classes_that_are_there()
         → DescriptorNames (IsThere among) (constructor class) }
 {
     class_model::parameters_are_spelled();
+}
+
+/// A class file whose pool grows by constants that are well formed passes all checks of a class file (JVM Specification SE 8, 4.4).
+pub fn a_grown_pool_passes()
+    ensures added { (major limit : ℕ) (pool grown : Constants) (needs : List Need)
+        → AreSound needs
+        → grow limit pool needs ≡ Some grown
+        → AddsChecked major pool grown }
+    ensures class { (limit : ℕ) (class : ClassFile) (grown : Constants) (needs : List Need)
+        → AllHold (class_file_checks class)
+        → AreSound needs
+        → grow limit class.pool needs ≡ Some grown
+        → AllHold (class_file_checks (record class { pool = grown })) }
+{
+    class_model::constants_compare_by_value();
+    class_model::a_class_file_holds_over_a_grown_pool();
 }
