@@ -2,12 +2,12 @@
 -- field constructors in the classes of candidates' chains alone.
 use Rattle.std.proofs.Common.{◌≡◌, ◌+◌, ◌==◌, ℕ, zero, suc, Bool, true, false, List, [], ◌∷◌, slice_get, bytes_eq, Option, Some, None, option_map, IsTrue, refl, sym, ap, subst, ◌∙◌, arith}
 use Rattle.std.specs.List.{AllByRecursion, list_any}
-use Rattle.std.proofs.lemmas.Nat.{eq-Decides}
+use Rattle.std.proofs.lemmas.Bool.Decides.{Decides-eqb}
 use Rattle.std.proofs.lemmas.Option.{none-some, same_Some}
 use Rattle.class_model.specs.Header.{header_of}
 use Rattle.class_model.specs.declared.class_file.ClassFile.{ClassFile}
 use Rattle.class_model.specs.declared.class_file.MethodAt.{MethodAt}
-use Rattle.class_rewrite.proofs.MadeSites.{IsSiteClass, MakesSite, made_of_sites}
+use Rattle.class_rewrite.proofs.WrittenInstrs.{IsSiteClass, MakesSite, made_of_sites}
 use Rattle.class_model.specs.Pool.{Constants}
 use Rattle.class_model.specs.declared.class_file.Method.{Method}
 use Rattle.class_rewrite.specs.Rewriting.Folders.{AddsMethods, AreClassesWritten, IsClassWritten, IsFolderWritten, IsMade, adds_none, adds_one}
@@ -63,11 +63,12 @@ pub site_at_is : (P : Site → Type 0) (sites : List Site) (at : ℕ) (class : N
     → class_of_site sites at ≡ Some class
     → (site : Site) × P site × (site.at ≡ at) × (site.class ≡ class)
 site_at_is P [] at class all is = absurd (none-some class is)
-site_at_is P (first ∷ sites) at class all = by (first.at == at) refl where
+site_at_is P (first ∷ sites) at class all is = by (first.at == at) refl is (λ behind. site_at_is P sites at class all.1 behind) where
   by : (b : Bool) → (first.at == at) ≡ b → class_of_site (first ∷ sites) at ≡ Some class
+      → (class_of_site sites at ≡ Some class → (site : Site) × P site × (site.at ≡ at) × (site.class ≡ class))
       → (site : Site) × P site × (site.at ≡ at) × (site.class ≡ class)
-  by true told is = (first, all.0, (eq-Decides first.at at).0 told, same_Some first.class class (sym (rw (told) refl) ∙ is))
-  by false told is = site_at_is P sites at class all.1 (sym (rw (told) refl) ∙ is)
+  by true told is rest = (first, all.0, (Decides-eqb first.at at).0 told, same_Some first.class class (sym (rw (told) refl) ∙ is))
+  by false told is rest = rest (sym (rw (told) refl) ∙ is)
 
 module _ (r : Rewriting) (files : List ClassFile) (w : IsFolderWritten r files) where
   -- the flat codes of the methods that are rewritten

@@ -12,3 +12,8 @@ pub mod PlacedBlocks
 pub mod CarriedItems
 pub mod IndexedPlaces
 pub mod CountedPlaces
+pub mod WideWidths
+pub mod EmittedParts
+pub mod KeptCounts
+pub mod LedRoutes
+pub mod SitesInside

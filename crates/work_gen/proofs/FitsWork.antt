@@ -1,10 +1,8 @@
 -- The lists of generated classes fit the items that count them.
-use Rattle.std.proofs.Common.{◌≡◌, ◌<◌, ◌≤◌, ◌^◌, ℕ, suc, List, [], ◌∷◌, ◌++◌, length, ap, refl, arith}
+use Rattle.std.proofs.Common.{◌≡◌, ◌≤◌, ℕ, suc, List, [], ◌∷◌, length, ap, refl, arith}
 use Rattle.std.specs.List.{AllByRecursion}
-use Rattle.class_bytes.specs.Counts.{FitsAttrs, FitsCounts, FitsInners, FitsMethod, FitsMethods, FitsPart}
-use Rattle.class_model.specs.declared.class_file.CodePart.{CodePart}
-use Rattle.class_model.specs.declared.class_file.Method.{Method}
-use Rattle.work_gen.specs.Generated.{generated_folder, indexed, kind_code, point, point_init, point_y, work, work_method, work_methods}
+use Rattle.class_bytes.specs.Counts.{FitsCounts, FitsMethod, FitsPart}
+use Rattle.work_gen.specs.Generated.{generated_folder, indexed, kind_code, point, point_init, point_y, work, work_method}
 use Rattle.work_gen.specs.declared.choices.Choice.{Choice}
 use Rattle.work_gen.specs.declared.choices.Kind.{Kind}
 use Rattle.work_gen.specs.declared.choices.Kind.TheVariants.{Adds, Loops, Branches, Locks}

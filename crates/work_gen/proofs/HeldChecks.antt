@@ -23,15 +23,15 @@ use Rattle.work_gen.proofs.PlainNames.{IsPlainClassName, class_name, reference_n
 use Rattle.work_gen.proofs.ReadClasses.{raw}
 use Rattle.work_gen.specs.Values.{memberless, thrown, root, keeper}
 
-text : (bytes : List ℕ) → is_plain_text bytes ≡ true → IsModifiedUtf8 bytes
+pub text : (bytes : List ℕ) → is_plain_text bytes ≡ true → IsModifiedUtf8 bytes
 text bytes plain = (plain_text bytes plain).spelling
 
-other_text : (one other : List ℕ) → bytes_eq one other ≡ false → one ≢ other
+pub other_text : (one other : List ℕ) → bytes_eq one other ≡ false → one ≢ other
 other_text one other test equal = true≢false (sym ((bytes_eq-Decides one other).1 equal) ∙ test)
 
 -- ---- the descriptors
 
-abbrev void : Descriptor
+abbrev pub void : Descriptor
 void = record { params = []; result = None }
 
 abbrev takes : Descriptor
@@ -43,10 +43,10 @@ gives = record { params = []; result = Some (Named object) }
 pub object_name : IsPlainClassName object
 object_name = record { plain = refl; parts = refl; joined = refl }
 
-void_spelled : BytesSpell no_parameters void
+pub void_spelled : BytesSpell no_parameters void
 void_spelled = record { params = tt; units = omega arith; result = tt; spelled = refl }
 
-is_void : ReturnsVoid no_parameters
+pub is_void : ReturnsVoid no_parameters
 is_void = record { descriptor = void; spelled = void_spelled; no_result = refl }
 
 void_of : (flags : ℕ) → this_units flags ≤ 1 → IsDescriptorOf flags no_parameters

@@ -7,3 +7,10 @@ pub mod Indexed
 pub mod MadeChoices
 pub mod PlainMethodNames
 pub mod FitsWork
+pub mod WorkNames
+pub mod WorkChecks
+pub mod WorkDescriptors
+pub mod WorkParts
+pub mod WorkClass
+pub mod PointClass
+pub mod ClassFiles

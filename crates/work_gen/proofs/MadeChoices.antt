@@ -1,5 +1,5 @@
 -- Choices one after the other.
-use Rattle.std.proofs.Common.{◌≡◌, ◌+◌, ◌-◌, ◌<◌, ◌≤◌, ℕ, zero, suc, length, refl, List, [], ◌∷◌, ◌++◌, ap, ◌∙◌, sym, arith}
+use Rattle.std.proofs.Common.{◌≡◌, ◌+◌, ◌-◌, ◌<◌, ◌≤◌, ℕ, zero, suc, length, refl, List, ◌∷◌, ◌++◌, ap, ◌∙◌, arith}
 use Rattle.std.proofs.lemmas.List.{append-nil}
 use Rattle.work_gen.specs.Generated.{behind, choice_at, choices}
 use Rattle.work_gen.specs.declared.choices.Choice.{Choice}

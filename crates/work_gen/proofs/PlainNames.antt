@@ -88,7 +88,7 @@ utf8 name plain = (plain_text name plain.plain).spelling
 -- ---- names of methods
 
 -- neither < nor >
-abbrev is_no_angle : ℕ → Bool
+abbrev pub is_no_angle : ℕ → Bool
 is_no_angle byte = not (byte == 60) && not (byte == 62)
 
 no_angle : (byte : ℕ) → is_no_angle byte ≡ true → IsNoAngle byte

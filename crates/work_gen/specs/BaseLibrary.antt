@@ -1,6 +1,6 @@
 -- The smallest library that linking accepts (JVM Specification SE 8, 4.10.1 and 6.5): the classes that the machine
 -- knows, and L, whose two static methods take any object.
-use Rattle.std.specs.Prelude.{◌≡◌, ℕ, List, [], ◌∷◌, map, filter, codes, Option, Some, None, Ok}
+use Rattle.std.specs.Prelude.{◌≡◌, ℕ, List, [], ◌∷◌, ◌++◌, map, filter, codes, Option, Some, None, Ok}
 use Rattle.std.specs.List.{AllByRecursion}
 use Rattle.class_model.specs.ClassOf.{ClassOf}
 use Rattle.class_model.specs.Header.{header_of}
@@ -37,48 +37,49 @@ takes_object = codes "(Ljava/lang/Object;)V"
 abbrev pub gives_object : List ℕ
 gives_object = codes "()Ljava/lang/Object;"
 
-abbrev member : ℕ → List ℕ → List ℕ → Member
+abbrev pub member : ℕ → List ℕ → List ℕ → Member
 member flags name desc = record { flags = flags; name = name; desc = desc }
 
 -- a public constructor without parameters
-abbrev constructor : Member
+abbrev pub constructor : Member
 constructor = member 0x0001 init no_parameters
 
 -- Flags, superclass and methods: no class of the library has an interface or a field.
-abbrev class : Name → ℕ → Option Name → List Member → Header
+abbrev pub class : Name → ℕ → Option Name → List Member → Header
 class name flags super_name methods =
     record { name = name; flags = flags; super_name = super_name; interfaces = []; fields = []; methods = methods }
 
 -- public, interface, abstract
-abbrev interface : Name → Header
+abbrev pub interface : Name → Header
 interface name = class name 0x0601 (Some object) []
 
 -- public, final
-abbrev final : Name → Header
+abbrev pub final : Name → Header
 final name = class name 0x0031 (Some object) []
 
 -- public
-abbrev plain : Name → Header
+abbrev pub plain : Name → Header
 plain name = class name 0x0021 (Some object) []
 
-abbrev thrown_header : Name → Name → Header
+abbrev pub thrown_header : Name → Name → Header
 thrown_header super_name name = class name 0x0021 (Some super_name) (constructor ∷ [])
 
 -- clone and finalize are protected and native
-abbrev root_header : Header
+abbrev pub root_header : Header
 root_header =
     class object 0x0021 None
     (constructor ∷ member 0x0104 (codes "clone") gives_object
     ∷ member 0x0104 (codes "finalize") no_parameters ∷ [])
 
 -- use and keep are public, static and native
-abbrev keeper_header : Header
+abbrev pub keeper_header : Header
 keeper_header =
     class (codes "L") 0x0021 (Some object)
     (member 0x0109 (codes "use") takes_object ∷ member 0x0109 (codes "keep") takes_object ∷ [])
 
-abbrev pub base_headers : List Header
-base_headers =
+-- those of the classes but for the throwables that instructions raise
+abbrev pub named_headers : List Header
+named_headers =
     root_header
     ∷ interface cloneable
     ∷ interface serializable
@@ -88,7 +89,10 @@ base_headers =
     ∷ plain method_type
     ∷ keeper_header
     ∷ thrown_header object throwable
-    ∷ map (thrown_header throwable) machine_throwables
+    ∷ []
+
+abbrev pub base_headers : List Header
+base_headers = named_headers ++ map (thrown_header throwable) machine_throwables
 
 -- ---- the code of constructors
 

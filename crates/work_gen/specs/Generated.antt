@@ -1,10 +1,9 @@
 -- Generated work: a class G with methods of four kinds, the class P whose objects they make, and a script that calls each method once (this
 -- project's profile).
-use Rattle.std.specs.Prelude.{◌≡◌, Bool, true, ℕ, zero, suc, ◌+◌, ◌*◌, ◌/◌, ◌%◌, ◌==◌, List, [], ◌∷◌, ◌++◌, map, codes, decimal, Some, None, if◌then◌else◌}
+use Rattle.std.specs.Prelude.{◌≡◌, Bool, true, ℕ, zero, suc, ◌+◌, ◌*◌, ◌/◌, ◌%◌, ◌==◌, List, [], ◌∷◌, ◌++◌, codes, decimal, Some, None, if◌then◌else◌}
 use Rattle.class_model.specs.Methods.{code}
 use Rattle.class_model.specs.Names.{init}
 use Rattle.class_model.specs.Pool.{Constants}
-use Rattle.class_model.specs.declared.class_file.Attr.{Attr}
 use Rattle.class_model.specs.declared.class_file.Attr.TheVariants.{Code}
 use Rattle.class_model.specs.declared.class_file.ClassFile.{ClassFile}
 use Rattle.class_model.specs.declared.class_file.CodePart.{CodePart}
@@ -16,7 +15,7 @@ use Rattle.class_model.specs.declared.pool.Const.{Const}
 use Rattle.class_model.specs.declared.pool.Const.TheVariants.{Utf8, Class, NameAndType, Fieldref, Methodref}
 use Rattle.class_tree.specs.Names.{object, throwable}
 use Rattle.work_gen.specs.BaseLibrary.{no_parameters, takes_object}
-use Rattle.work_gen.specs.Values.{class_name, method}
+use Rattle.work_gen.specs.Values.{method}
 use Rattle.work_gen.specs.declared.choices.Choice.{Choice}
 use Rattle.work_gen.specs.declared.choices.Kind.{Kind}
 use Rattle.work_gen.specs.declared.choices.Kind.TheVariants.{Adds, Loops, Branches, Locks}

@@ -2,3 +2,4 @@ pub mod BaseLibrary
 pub mod Values
 pub mod Generated
 pub mod Entries
+pub mod Laws

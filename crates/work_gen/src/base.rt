@@ -11,11 +11,11 @@ use class_model::{
 use class_tree::{ClassFileList, METHOD_HANDLE, OBJECT, THROWABLE, machine_throwables};
 use std::alloc::Global;
 
-const INTERFACE: u16 = ACC_PUBLIC | ACC_INTERFACE | ACC_ABSTRACT;
+pub(crate) const INTERFACE: u16 = ACC_PUBLIC | ACC_INTERFACE | ACC_ABSTRACT;
 
-const OPEN: u16 = ACC_PUBLIC | ACC_SUPER;
+pub(crate) const OPEN: u16 = ACC_PUBLIC | ACC_SUPER;
 
-const FINAL: u16 = ACC_PUBLIC | ACC_SUPER | ACC_FINAL;
+pub(crate) const FINAL: u16 = ACC_PUBLIC | ACC_SUPER | ACC_FINAL;
 
 /// The class files of the smallest library that linking accepts (JVM Specification SE 8, 4.10.1 and 6.5), of version
 /// 52.0: what the machine knows of `java/lang`, `java/lang/invoke` and `java/io`, and the class `L`, whose native

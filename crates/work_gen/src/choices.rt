@@ -8,7 +8,7 @@ use std::alloc::Global;
 /// A kind of method: one that adds fields of an object, one that makes an object a turn of a loop, one on some of whose branches the object
 /// escapes, and one that locks it.
 #[derive(Clone, Copy)]
-pub(crate) enum Kind {
+pub enum Kind {
     Adds,
     Loops,
     Branches,
@@ -17,7 +17,7 @@ pub(crate) enum Kind {
 
 /// A method, and the argument that it is called with.
 #[derive(Clone, Copy)]
-pub(crate) struct Choice {
+pub struct Choice {
     pub kind: Kind,
     pub argument: u64,
 }

@@ -2,12 +2,14 @@
 ghost use Rattle.std.specs.Prelude.{◌≡◌, ◌<◌, ◌≤◌, ◌++◌, length, IfOk, OnOk};
 ghost use Rattle.std.specs.List.{AllByRecursion};
 ghost use Rattle.class_bytes.specs.Counts.{FitsCounts};
+ghost use Rattle.class_tree.specs.Headers.{IsClassFile};
 ghost use Rattle.work_gen.specs.Generated as generated;
 ghost use Rattle.work_gen.specs.Generated.{IsWork};
 
 use crate::choices::{Choice, Kind, choices_of};
 use crate::entries::{Entry, push_entries};
 use crate::kinds::{code_of_kind, point_init, point_y};
+use crate::laws::generated_classes_are_class_files;
 use crate::parts::method_of;
 use class_model::{
     ACC_PUBLIC, ACC_STATIC, ACC_SUPER, ByteList, ClassFile, Const, Field, FieldList, INIT, ListOf,
@@ -26,7 +28,7 @@ pub struct Work {
 
 /// Generated work: the class `G` with so many methods of four kinds, which draws from the number choose, the class `P` whose objects they make,
 /// and a script that calls each method once, with an argument that the draws choose too (this project's profile). It needs the library of
-/// `base_library`. Both are of version 52.0, and `G` comes first.
+/// `base_library`. Both are of version 52.0, and `G` comes first. Each is read from its bytes.
 ///
 /// # Errors
 /// `NoMemory` where memory runs out.
@@ -35,7 +37,9 @@ pub fn generate(alloc: Global, number: u32, size: u32) -> Result<Work, NoMemory>
     requires size { size ≤ 1000 }
     ensures is { IfOk result (λ work. IsWork number size work) }
     ensures fits { IfOk result (λ work. AllByRecursion FitsCounts work.folder) }
+    ensures class_files { IfOk result (λ work. AllByRecursion IsClassFile work.folder) }
 {
+    generated_classes_are_class_files();
     let chosen = choices_of(alloc, number, size)?;
     Ok(Work {
         folder: folder_of(alloc, chosen.as_slice())?,

@@ -1,5 +1,5 @@
 -- One choice more is made, and fewer are left.
-use Rattle.std.proofs.Common.{◌≡◌, ◌++◌, ◌∷◌, [], ◌-◌, ◌+◌, refl, sym, ap, ◌∙◌, append_assoc, arith}
+use Rattle.std.proofs.Common.{◌≡◌, ◌++◌, ◌∷◌, [], ◌-◌, ◌+◌, sym, ap, ◌∙◌, append_assoc, arith}
 use Rattle.work_gen.specs.Generated.{choices}
 use Rattle.work_gen.proofs.MadeChoices.{next_choices, no_choices}
 use Rattle.work_gen.proofs.choices.choices_of.Goals as goal

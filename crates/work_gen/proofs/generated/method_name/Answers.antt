@@ -1,4 +1,3 @@
-use Rattle.std.proofs.Common.{◌∙◌}
 use Rattle.work_gen.proofs.PlainMethodNames.{plain_name}
 use Rattle.work_gen.proofs.generated.method_name.Goals as goal
 

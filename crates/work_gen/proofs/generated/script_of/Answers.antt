@@ -1,4 +1,4 @@
-use Rattle.std.proofs.Common.{◌++◌, ◌+◌, get_or, take, ap, ◌∙◌, arith}
+use Rattle.std.proofs.Common.{◌++◌, get_or, take, ap, ◌∙◌, arith}
 use Rattle.work_gen.specs.Generated.{call_text, indexed}
 use Rattle.work_gen.proofs.Indexed.{next_indexed, no_choice}
 use Rattle.work_gen.proofs.generated.script_of.Goals as goal

@@ -1,4 +1,4 @@
-use Rattle.std.proofs.Common.{◌≡◌, ◌++◌, ◌∷◌, [], ◌+◌, get_or, take, ap, ◌∙◌, arith}
+use Rattle.std.proofs.Common.{◌≡◌, ◌++◌, ◌∷◌, [], get_or, take, ap, ◌∙◌, arith}
 use Rattle.class_model.specs.declared.class_file.Attr.TheVariants.{Code}
 use Rattle.work_gen.specs.Generated.{work_method, work_methods}
 use Rattle.work_gen.specs.Values.{method}

@@ -1,4 +1,4 @@
-use Rattle.std.proofs.Common.{◌≡◌, ◌++◌, ◌∷◌, [], Some, ap, ◌∙◌, append_assoc, arith, take}
+use Rattle.std.proofs.Common.{◌++◌, ◌∷◌, [], Some, ap, ◌∙◌, append_assoc, arith, take}
 use Rattle.class_model.specs.Pool.{entries_of}
 use Rattle.work_gen.specs.Generated.{indexed, name_constant, work_constants}
 use Rattle.work_gen.proofs.Indexed.{few_constants, names, next_indexed, no_choice}
