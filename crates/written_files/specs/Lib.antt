@@ -1,3 +1,4 @@
+pub mod CheckedConstructors
 pub mod FieldConstructors
-pub mod LinkedConstructors
 pub mod GrownPools
+pub mod LinkedConstructors

@@ -3,7 +3,9 @@ ghost use Rattle.std.specs.Prelude.{◌≡◌, ◌++◌, ℕ, List, Some};
 ghost use Rattle.std.specs.List.{AllByRecursion};
 ghost use Rattle.class_model.specs.Checks.{AllHold};
 ghost use Rattle.class_model.specs.ClassOf.{class_file_checks};
-ghost use Rattle.class_model.specs.Header.{method_member};
+ghost use Rattle.class_model.specs.Header.{header_of, method_member};
+ghost use Rattle.class_model.specs.Members.{Signature};
+ghost use Rattle.class_model.specs.Methods.{home_of, method_checks};
 ghost use Rattle.class_model.specs.Pool.{Constants};
 ghost use Rattle.class_model.specs.PoolChecks.{IsFieldDescriptor};
 ghost use Rattle.class_model.specs.declared.class_file.ClassFile.{ClassFile};
@@ -17,6 +19,7 @@ ghost use Rattle.making_code.specs.FieldConstructor.{constructor_method_needs};
 ghost use Rattle.member_link.specs.References.{DescriptorNames, FieldTypeNames};
 ghost use Rattle.member_link.specs.Scope.{Scope};
 ghost use Rattle.type_rules.specs.Typed.{Typed};
+ghost use Rattle.written_files.specs.CheckedConstructors.{IsNewMethod};
 ghost use Rattle.written_files.specs.FieldConstructors.{IsConstructorIn, IsDescribed, constructor_member};
 ghost use Rattle.written_files.specs.GrownPools.{AddsChecked, AreSound};
 ghost use Rattle.written_files.specs.LinkedConstructors.{HasLinkedMembers, IsLinkedMethod};
@@ -88,4 +91,18 @@ pub fn a_grown_pool_passes()
 {
     class_model::constants_compare_by_value();
     class_model::a_class_file_holds_over_a_grown_pool();
+}
+
+/// The field constructor passes all that a method of a class file is asked (JVM Specification SE 8, 4.6, 4.7.3 and 4.9.1).
+pub fn a_field_constructor_passes_its_checks()
+    ensures { (headers : Headers) (constructor : Name → List ℕ) (file : ClassFile) (s : Scope)
+        (before : List Signature) (at : ℕ)
+        → IsConstructorIn headers constructor file s
+        → IsNewMethod (constructor (header_of file).name) s before
+        → AllHold (method_checks (home_of s.class) before at s.method) }
+{
+    the_chosen_spelling_is_of_the_table();
+    a_grown_class_has_a_grown_header();
+    class_model::constants_compare_by_value();
+    class_model::parameters_are_spelled();
 }

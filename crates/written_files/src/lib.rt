@@ -5,5 +5,6 @@ mod laws;
 
 pub use laws::{
     a_field_constructor_is_a_member, a_field_constructor_is_linked, a_field_constructor_is_typed,
-    a_field_constructor_names_classes_that_are_there, a_grown_pool_passes,
+    a_field_constructor_names_classes_that_are_there, a_field_constructor_passes_its_checks,
+    a_grown_pool_passes,
 };
