@@ -1,1 +1,2 @@
 pub mod FieldConstructors
+pub mod GrownPools

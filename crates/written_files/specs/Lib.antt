@@ -1,2 +1,4 @@
+pub mod CheckedConstructors
 pub mod FieldConstructors
+pub mod GrownPools
 pub mod LinkedConstructors

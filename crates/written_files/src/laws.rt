@@ -1,7 +1,11 @@
 //! Laws of written classes.
 ghost use Rattle.std.specs.Prelude.{◌≡◌, ◌++◌, ℕ, List, Some};
 ghost use Rattle.std.specs.List.{AllByRecursion};
-ghost use Rattle.class_model.specs.Header.{method_member};
+ghost use Rattle.class_model.specs.Checks.{AllHold};
+ghost use Rattle.class_model.specs.ClassOf.{class_file_checks};
+ghost use Rattle.class_model.specs.Header.{header_of, method_member};
+ghost use Rattle.class_model.specs.Members.{Signature};
+ghost use Rattle.class_model.specs.Methods.{home_of, method_checks};
 ghost use Rattle.class_model.specs.Pool.{Constants};
 ghost use Rattle.class_model.specs.PoolChecks.{IsFieldDescriptor};
 ghost use Rattle.class_model.specs.declared.class_file.ClassFile.{ClassFile};
@@ -9,7 +13,7 @@ ghost use Rattle.class_model.specs.declared.class_file.Method.{Method};
 ghost use Rattle.class_model.specs.declared.frame.Frame.{Frame};
 ghost use Rattle.class_tree.specs.Headers.{Classes, Headers, IsThere, Name, headers_of};
 ghost use Rattle.class_tree.specs.Layouts.{instance_fields};
-ghost use Rattle.making_code.specs.Constants.{grow};
+ghost use Rattle.making_code.specs.Constants.{Need, grow};
 ghost use Rattle.making_code.specs.ConstructorCode.{IsConstructorMethod};
 ghost use Rattle.making_code.specs.FieldConstructor.{constructor_method_needs};
 ghost use Rattle.member_link.specs.Machine.Classes.{run_method_of};
@@ -19,7 +23,9 @@ ghost use Rattle.member_link.specs.Scope.{Scope};
 ghost use Rattle.plan_flow.specs.Written.WrittenPrograms.{constructor_method};
 ghost use Rattle.type_rules.specs.Grown.{AreGrownHeaders};
 ghost use Rattle.type_rules.specs.Typed.{Typed};
+ghost use Rattle.written_files.specs.CheckedConstructors.{IsNewMethod};
 ghost use Rattle.written_files.specs.FieldConstructors.{IsConstructorIn, IsDescribed, constructor_member};
+ghost use Rattle.written_files.specs.GrownPools.{AddsChecked, AreSound};
 ghost use Rattle.written_files.specs.LinkedConstructors.{HasLinkedMembers, IsLinkedMethod};
 
 use code_bytes::the_chosen_spelling_is_of_the_table;
@@ -87,5 +93,35 @@ pub fn a_field_constructor_names_classes_that_are_there()
         (instance_fields headers class)
         → DescriptorNames (IsThere among) (constructor class) }
 {
+    class_model::parameters_are_spelled();
+}
+
+/// A class file whose pool grows by constants that are well formed passes all checks of a class file (JVM Specification SE 8, 4.4).
+pub fn a_grown_pool_passes()
+    ensures added { (major limit : ℕ) (pool grown : Constants) (needs : List Need)
+        → AreSound needs
+        → grow limit pool needs ≡ Some grown
+        → AddsChecked major pool grown }
+    ensures class { (limit : ℕ) (class : ClassFile) (grown : Constants) (needs : List Need)
+        → AllHold (class_file_checks class)
+        → AreSound needs
+        → grow limit class.pool needs ≡ Some grown
+        → AllHold (class_file_checks (record class { pool = grown })) }
+{
+    class_model::constants_compare_by_value();
+    class_model::a_class_file_holds_over_a_grown_pool();
+}
+
+/// The field constructor passes all that a method of a class file is asked (JVM Specification SE 8, 4.6, 4.7.3 and 4.9.1).
+pub fn a_field_constructor_passes_its_checks()
+    ensures { (headers : Headers) (constructor : Name → List ℕ) (file : ClassFile) (s : Scope)
+        (before : List Signature) (at : ℕ)
+        → IsConstructorIn headers constructor file s
+        → IsNewMethod (constructor (header_of file).name) s before
+        → AllHold (method_checks (home_of s.class) before at s.method) }
+{
+    the_chosen_spelling_is_of_the_table();
+    a_grown_class_has_a_grown_header();
+    class_model::constants_compare_by_value();
     class_model::parameters_are_spelled();
 }

@@ -1,5 +1,5 @@
 -- The classes that frames name have their constants in a pool that grew by what frames need.
-use Rattle.std.proofs.Common.{◌≡◌, ◌++◌, ◌∙◌, ℕ, List, [], ◌∷◌, Some, None, Option, refl, sym, ap}
+use Rattle.std.proofs.Common.{◌≡◌, ◌++◌, ◌∙◌, ℕ, List, [], ◌∷◌, Some, None, Option, refl, sym}
 use Rattle.std.specs.List.{AllByRecursion, flat_map}
 use Rattle.class_model.specs.Code.{stack_map_table}
 use Rattle.class_model.specs.Pool.{Constants}
@@ -7,10 +7,10 @@ use Rattle.class_model.specs.PoolChecks.{utf8_at}
 use Rattle.class_model.specs.declared.frame.Frame.{Frame}
 use Rattle.class_model.specs.declared.frame.VType.{VType}
 use Rattle.class_model.specs.declared.frame.VType.TheVariants.{Object}
-use Rattle.class_model.specs.declared.pool.Const.TheVariants.{Utf8}
-use Rattle.making_code.specs.Constants.{grow, index_of, needs_itself, needs_text, text_index}
-use Rattle.making_code.specs.Laws.AddedConstants.{Compares, IsNamed, added_there, found_or_zero, grow_one, grow_split, grown_names, index_stays, index_there}
+use Rattle.making_code.specs.Constants.{grow, needs_text, text_index}
+use Rattle.making_code.specs.Laws.AddedConstants.{Compares, IsNamed, grow_split, grown_names}
 use Rattle.making_code.specs.Laws.GrownPools.{Begins, begins_through, grow_begins}
+use Rattle.making_code.specs.Laws.MeantConstants.{grown_text, text_later, text_read}
 use Rattle.stackmap_emit.specs.FrameConstants.{frame_needs, needs_named, stated_frames, table_needs, type_needs}
 
 -- ---- a text
@@ -22,10 +22,7 @@ text_had : Compares → (limit : ℕ) (pool middle grown : Constants) (text : Li
     → Begins middle grown
     → HasText grown text
 text_had same limit pool middle grown text is begins =
-    let found = added_there same limit pool (Utf8 text) middle refl (grow_one limit pool (needs_itself (Utf8 text)) middle is) in
-    let later : index_of grown (Utf8 text) ≡ Some found.0 =
-    ap (λ (all : Constants). index_of all (Utf8 text)) begins.is ∙ index_stays middle begins.more 0 found.0 (Utf8 text) found.1 in
-    ap (utf8_at grown) (found_or_zero grown found.0 (Utf8 text) later) ∙ rw (index_there same grown found.0 (Utf8 text) later) refl
+    text_read same grown text (text_later middle grown text begins (grown_text same limit pool middle text is))
 
 -- ---- the classes of types
 

@@ -1,18 +1,16 @@
 -- The constants of a field constructor name what its instructions mean, in the pool that has grown by them and in whatever that grows to.
-use Rattle.std.proofs.Common.{◌≡◌, ◌++◌, ◌∙◌, ℕ, List, [], ◌∷◌, codes, Some, None, refl, sym, ap, subst}
+use Rattle.std.proofs.Common.{◌≡◌, ◌++◌, ◌∙◌, ℕ, List, [], ◌∷◌, codes, Some, refl, ap}
 use Rattle.std.specs.List.{AllByRecursion, flat_map}
 use Rattle.class_model.specs.Names.{init}
 use Rattle.class_model.specs.Pool.{Constants, constant_at}
 use Rattle.class_model.specs.PoolChecks.{class_at, descriptor_at, name_at, utf8_at}
-use Rattle.class_model.specs.declared.pool.Const.TheVariants.{Class, NameAndType, Utf8}
 use Rattle.class_tree.specs.Headers.{Name}
 use Rattle.class_tree.specs.Names.{object}
-use Rattle.making_code.specs.Constants.{MemberKind, Need, grow, index_in, index_of, member_needs, needs_at, needs_itself, needs_member, needs_text, of_field, of_interface_method, of_method, reference_of_kind, text_index}
-use Rattle.making_code.specs.IndexedMaking.{index_of_last}
+use Rattle.making_code.specs.Constants.{MemberKind, grow, index_in, member_needs, needs_member, needs_text, of_field, of_interface_method, of_method, reference_of_kind, text_index}
 use Rattle.making_code.specs.FieldConstructor.{CInstr, calls_constructor, calls_object, item_needs, puts_field, simple}
-use Rattle.making_code.specs.Laws.AddedConstants.{Compares, added_there, found_or_zero, grow_one, grow_split, index_stays, index_there}
+use Rattle.making_code.specs.Laws.AddedConstants.{Compares, grow_split}
 use Rattle.making_code.specs.Laws.GrownPools.{Begins, grow_begins}
-use Rattle.making_code.specs.Laws.MeantConstants.{NamesMember, needed_means}
+use Rattle.making_code.specs.Laws.MeantConstants.{NamesMember, grown_member, grown_text, member_later, member_read, text_later, text_read}
 use Rattle.member_link.specs.Signatures.{reference_of}
 use Rattle.row_frames.specs.Laws.MorePools.{class_more, constant_more, descriptor_more, name_more}
 
@@ -22,10 +20,7 @@ pub text_had : Compares → (limit : ℕ) (pool middle grown : Constants) (text 
     → Begins middle grown
     → utf8_at grown (text_index grown text) ≡ Some text
 text_had same limit pool middle grown text is begins =
-    let found = added_there same limit pool (Utf8 text) middle refl (grow_one limit pool (needs_itself (Utf8 text)) middle is) in
-    let later : index_of grown (Utf8 text) ≡ Some found.0 =
-    ap (λ (all : Constants). index_of all (Utf8 text)) begins.is ∙ index_stays middle begins.more 0 found.0 (Utf8 text) found.1 in
-    ap (utf8_at grown) (found_or_zero grown found.0 (Utf8 text) later) ∙ rw (index_there same grown found.0 (Utf8 text) later) refl
+    text_read same grown text (text_later middle grown text begins (grown_text same limit pool middle text is))
 
 -- ---- members
 
@@ -42,33 +37,13 @@ of_parts pool of_field of_class named class name desc c n d = rw (c, n, d) refl
 of_parts pool of_method of_class named class name desc c n d = rw (c, n, d) refl
 of_parts pool of_interface_method of_class named class name desc c n d = rw (c, n, d) refl
 
--- a pool of one member, whose needs are those of the member
-abbrev one_member : MemberKind → Name → List ℕ → List ℕ → Constants
-one_member kind class name desc =
-    None ∷ Some (Utf8 class) ∷ Some (Class 1) ∷ Some (Utf8 name) ∷ Some (Utf8 desc) ∷ Some (NameAndType 3 4)
-    ∷ Some (reference_of_kind kind 2 5) ∷ []
-
-needs_of_one : (kind : MemberKind) (class : Name) (name desc : List ℕ)
-    → needs_at (one_member kind class name desc) 6 ≡ member_needs kind class name desc
-needs_of_one of_field class name desc = refl
-needs_of_one of_method class name desc = refl
-needs_of_one of_interface_method class name desc = refl
-
 pub member_had : Compares → (limit : ℕ) (pool middle grown : Constants) (kind : MemberKind) (class : Name) (name desc : List ℕ)
     → grow limit pool (member_needs kind class name desc) ≡ Some middle
     → Begins middle grown
     → NamesMember grown (index_in grown (needs_member kind class name desc)) kind class name desc
 member_had same limit pool middle grown kind class name desc is begins =
-    let old = one_member kind class name desc in
-    let needs = needs_of_one kind class name desc in
-    let means = needed_means same limit old pool middle grown 6 (subst (λ (n : List Need). grow limit pool n ≡ Some middle) (sym needs) is) begins in
-    by_last (needs_at old 6) needs (means.member kind 2 5 class name desc refl refl refl refl)
-  where
-    by_last : (needs : List Need) → needs ≡ member_needs kind class name desc
-        → NamesMember grown (index_of_last grown needs) kind class name desc
-        → NamesMember grown (index_in grown (needs_member kind class name desc)) kind class name desc
-    by_last needs same_needs named =
-        subst (λ (n : List Need). NamesMember grown (index_of_last grown n) kind class name desc) same_needs named
+    member_read same grown kind class name desc
+    (member_later middle grown kind class name desc begins (grown_member same limit pool middle kind class name desc is))
 
 -- and where the pool has more constants
 named_more : (pool more : Constants) (index : ℕ) (kind : MemberKind) (class : Name) (name desc : List ℕ)

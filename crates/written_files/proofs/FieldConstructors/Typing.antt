@@ -200,10 +200,10 @@ module _ (laws : Laws) (headers : Headers) (constructor : Name → List ℕ) (fi
 
   -- ---- its constants
 
-  texts : HasTexts headers constructor name c.pool
+  pub texts : HasTexts headers constructor name c.pool
   texts = texts_had laws.compares headers constructor name c.before c.pool c.grows
 
-  text_there : (index : ℕ) (text : List ℕ) → utf8_at c.pool index ≡ Some text → utf8_at s.class.pool index ≡ Some text
+  pub text_there : (index : ℕ) (text : List ℕ) → utf8_at c.pool index ≡ Some text → utf8_at s.class.pool index ≡ Some text
   text_there index text is = ap (λ (all : Constants). utf8_at all index) c.has ∙ text_more c.pool c.more index text is
 
   pub name_text : utf8_at s.class.pool s.method.name ≡ Some init
@@ -211,7 +211,7 @@ module _ (laws : Laws) (headers : Headers) (constructor : Name → List ℕ) (fi
       ap (utf8_at s.class.pool) c.method.name
       ∙ text_there (text_index c.pool init) init texts.name
 
-  desc_text : utf8_at s.class.pool s.method.desc ≡ Some (constructor name)
+  pub desc_text : utf8_at s.class.pool s.method.desc ≡ Some (constructor name)
   desc_text =
       ap (utf8_at s.class.pool) c.method.desc
       ∙ text_there (text_index c.pool (constructor name)) (constructor name) texts.desc
@@ -277,10 +277,10 @@ module _ (laws : Laws) (headers : Headers) (constructor : Name → List ℕ) (fi
 
   -- ---- its bytes
 
-  units_both : units_of_fields fields ≡ units_of_fields (instance_fields headers c.above) + units_of_fields own
+  pub units_both : units_of_fields fields ≡ units_of_fields (instance_fields headers c.above) + units_of_fields own
   units_both = ap units_of_fields c.fields ∙ fields_both (instance_fields headers c.above) own
 
-  small : AllByRecursion IsSmall (indexed (front ++ simple (Return None) ∷ []))
+  pub small : AllByRecursion IsSmall (indexed (front ++ simple (Return None) ∷ []))
   small =
       let few = c.few in
       let units_sum = units_both in
@@ -290,7 +290,7 @@ module _ (laws : Laws) (headers : Headers) (constructor : Name → List ℕ) (fi
       (puts_small c.pool scope.pool constructor c.count name first_put own (omega (arith, few, units_sum)) named_puts))
       (small_return, tt)
 
-  many : 4 * length (indexed (front ++ simple (Return None) ∷ [])) < 2 ^ 31
+  pub many : 4 * length (indexed (front ++ simple (Return None) ∷ [])) < 2 ^ 31
   many =
       let few = c.few in
       let units_sum = units_both in
@@ -303,6 +303,12 @@ module _ (laws : Laws) (headers : Headers) (constructor : Name → List ℕ) (fi
 
   abbrev pub instrs : List Instr
   instrs = indexed front ++ Return None ∷ []
+
+  pub code_spelled : s.part.code ≡ bytes_from 0 instrs
+  code_spelled =
+      code_is
+      ∙ ap (λ (all : List CInstr). bytes_from 0 (indexed all)) items_are
+      ∙ ap (bytes_from 0) (map-append (indexed_instr c.pool constructor) front (simple (Return None) ∷ []))
 
   pub decodes : decoded s.part.code ≡ Ok (placed 0 instrs)
   decodes =
