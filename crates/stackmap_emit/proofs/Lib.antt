@@ -9,3 +9,4 @@ pub mod FilledTables
 pub mod WalkedItems
 pub mod PlacedItems
 pub mod PlacedForms
+pub mod WideForms

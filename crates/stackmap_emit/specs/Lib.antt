@@ -4,3 +4,4 @@ pub mod FramesAttribute
 pub mod Inner
 pub mod Laws
 pub mod FramedItems
+pub mod WideItems
