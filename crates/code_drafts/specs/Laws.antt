@@ -13,4 +13,6 @@ pub mod CarriedItems
 pub mod GrownNames
 pub mod IndexedPlaces
 pub mod CountedPlaces
+pub mod QuietJumps
 pub mod WideWidths
+pub mod WideReady

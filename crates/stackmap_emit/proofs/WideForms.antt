@@ -29,8 +29,8 @@ use Rattle.plan_flow.specs.Written.Finish.{Finished, finished_items}
 use Rattle.plan_flow.specs.Written.WrittenCode.{Form, block_items, jumping_to, over_goto, pairs_to, short, start_from, start_of, target_number, wide, widened, written_items}
 use Rattle.plan_flow.specs.Written.WrittenConstants.{carried_instr, catch_index, indexed_instr, indexed_item, indexed_items, is_near, with_index}
 use Rattle.stackmap_emit.proofs.WidePlaces.{AreAsWide, are_as_wide, as_many, left_as_wide, place_behind, place_block, place_from}
-use Rattle.stackmap_emit.specs.FramedItems.{KeepsWidth, opposite_of}
-use Rattle.stackmap_emit.specs.WideItems.{GoesWide, LeadsToBlock}
+use Rattle.written_frames.specs.Laws.Turnings.{Turning, no_turn, turn_if, turn_if2, turn_null, turn_same, turning}
+use Rattle.written_frames.specs.WideItems.{GoesWide, KeepsWidth, LeadsToBlock, opposite_of}
 
 -- ---- instructions with other targets
 
@@ -126,54 +126,6 @@ placed_targets : (place : ℕ → ℕ) (numbers : List ℕ) (instr : Instr) → 
     → with_targets place (jumping_to numbers instr) ≡ jumping_to (map place numbers) instr
 placed_targets place [] instr many = same_placed place instr (sym many)
 placed_targets place (number ∷ numbers) instr many = some_placed place number numbers instr many
-
--- ---- conditional jumps
-
-pub data Turning : Instr → Type 0 where
-  no_turn : {instr : Instr} → opposite_instr instr ≡ None → Turning instr
-  turn_if : (opcode to : ℕ) → Turning (If opcode to)
-  turn_if2 : (opcode to : ℕ) → Turning (If2 opcode to)
-  turn_same : (opcode to : ℕ) → Turning (IfSame opcode to)
-  turn_null : (opcode to : ℕ) → Turning (IfNull opcode to)
-
-turning : (instr : Instr) → Turning instr
-turning (If opcode to) = turn_if opcode to
-turning (If2 opcode to) = turn_if2 opcode to
-turning (IfSame opcode to) = turn_same opcode to
-turning (IfNull opcode to) = turn_null opcode to
-turning Nop = no_turn refl
-turning (Const imm) = no_turn refl
-turning (Ldc index) = no_turn refl
-turning (Ldc2 index) = no_turn refl
-turning (Load kind local) = no_turn refl
-turning (Store kind local) = no_turn refl
-turning (Iinc local by) = no_turn refl
-turning (ArrayLoad opcode) = no_turn refl
-turning (ArrayStore opcode) = no_turn refl
-turning (Shuffle opcode) = no_turn refl
-turning (Pure opcode) = no_turn refl
-turning (Divide opcode) = no_turn refl
-turning (FloatAsk opcode) = no_turn refl
-turning (Goto to) = no_turn refl
-turning (Table low other to) = no_turn refl
-turning (Lookup other pairs) = no_turn refl
-turning (Return kind) = no_turn refl
-turning (GetStatic index) = no_turn refl
-turning (PutStatic index) = no_turn refl
-turning (GetField index) = no_turn refl
-turning (PutField index) = no_turn refl
-turning (Invoke opcode index count) = no_turn refl
-turning (Dynamic index) = no_turn refl
-turning (New index) = no_turn refl
-turning (NewArray code) = no_turn refl
-turning (NewRefArray index) = no_turn refl
-turning (NewMulti index dimensions) = no_turn refl
-turning Length = no_turn refl
-turning Throw = no_turn refl
-turning (Cast index) = no_turn refl
-turning (InstanceOf index) = no_turn refl
-turning Enter = no_turn refl
-turning Leave = no_turn refl
 
 -- ---- places
 
@@ -485,7 +437,8 @@ module _ (s : PlanScope) (constructor : Name → List ℕ) (pool : Constants) (b
       none : one.catches ≡ []
       none =
           goes.none_caught
-          (ap (λ (instr : WInstr). is_some (opposite_of instr)) is_instr ∙ ap is_some (turns opcode to)) far
+          (ap (λ (b : Bool). is_some (if b then None else opposite_of one.instr)) far
+          ∙ ap (λ (instr : WInstr). is_some (opposite_of instr)) is_instr ∙ ap is_some (turns opcode to))
 
       no_catches : plain_catches (renumbered_catches place made.catches) ≡ []
       no_catches = catches_made ∙ ap (caught wide number) none

@@ -16,9 +16,9 @@ use Rattle.plan_flow.specs.PlanScope.{PlanScope}
 use Rattle.plan_flow.specs.Written.Finish.{Finished, finished_items}
 use Rattle.plan_flow.specs.Written.WrittenCode.{Form, block_items, jumping_to, short, target_number, wide, widened, written_items}
 use Rattle.plan_flow.specs.Written.WrittenConstants.{carried_instr, indexed_instr, indexed_item, indexed_items, is_near, with_index}
-use Rattle.stackmap_emit.specs.FramedItems.{KeepsWidth, opposite_of}
 use Rattle.stackmap_emit.specs.Inner.BlockTables.{AreStarts, form_number, renumbered, starts_in}
 use Rattle.written_frames.specs.BlockStarts.{block_starts, start_of_block}
+use Rattle.written_frames.specs.WideItems.{KeepsWidth, opposite_of}
 use Rattle.written_frames.specs.declared.starts.BlockStart.{BlockStart}
 
 -- ---- conditional jumps
