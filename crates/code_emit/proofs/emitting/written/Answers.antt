@@ -1,4 +1,4 @@
-use Rattle.std.proofs.Common.{rules, ◌≡◌, List, Global, Vec, option_map, Some, sym, ap, subst, ◌∙◌}
+use Rattle.std.proofs.Common.{rules, ◌≡◌, List, Global, Vec, option_map, sym, ap, subst, ◌∙◌}
 use Rattle.std.specs.Result.{IsErrOf}
 use Rattle.class_tree.specs.Headers.{Classes, headers_of}
 use Rattle.code_drafts.specs.Counts.{AreItems}
@@ -13,7 +13,6 @@ use Rattle.code_emit.specs.EmittedCode.{IsEmittedFor, IsKeptAs}
 use Rattle.code_layout.specs.declared.emitted.EmitItem.{EmitItem}
 use Rattle.flow_code.specs.FlatCode.{FlatCode}
 use Rattle.flow_code.specs.declared.reason.KeptFault.TheVariants.{Kept}
-use Rattle.flow_code.specs.declared.reason.Reason.{Reason}
 use Rattle.flow_code.specs.declared.reason.Reason.TheVariants.{Long}
 use Rattle.materialise.specs.MadeCode.{HasFewLocals}
 use Rattle.member_link.specs.Machine.Links.{AreLinksOf}

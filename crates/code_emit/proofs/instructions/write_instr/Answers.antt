@@ -1,4 +1,3 @@
-use Rattle.std.proofs.Common.{ap, ◌∙◌}
 use Rattle.code_drafts.specs.Laws.EmittedParts.{on_ok}
 use Rattle.code_emit.proofs.InstructionLaws.{all_full, all_written}
 use Rattle.code_emit.proofs.instructions.write_instr.Goals as goal

@@ -1,4 +1,4 @@
-use Rattle.std.proofs.Common.{◌≡◌, ap, ◌∙◌}
+use Rattle.std.proofs.Common.{◌∙◌}
 use Rattle.code_drafts.specs.Laws.EmittedParts.{on_ok}
 use Rattle.code_drafts.specs.Laws.LedRoutes.{instr_is}
 use Rattle.code_emit.proofs.InstructionLaws.{test_full, test_written}
