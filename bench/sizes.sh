@@ -215,8 +215,8 @@ joined 8000 1500 64
 caught 8000 12000 64
 PLANS
 
-# A plan of code with 65,535 handlers, and of points with 5,000 stack entries below a Top: the milliseconds and megabytes that a row states, of the
-# whole program. (`broad`, of points with 65,000 local units, still takes three times as long as is wanted: docs/MEASURES.md.)
+# A plan of code with 65,535 handlers, of points with 65,000 local units, and of points with 5,000 stack entries below a Top: the milliseconds
+# and megabytes that a row states, of the whole program.
 while read -r word count most_ms most_mb; do
     is_tried judged "$word" || continue
     python3 "$root/bench/plan_cases.py" "$word" "$count" 1 >"$word.cases"
@@ -231,6 +231,7 @@ while read -r word count most_ms most_mb; do
     wanted "$((kb / 1024)) MB (at most $most_mb is wanted)" "$kb <= $most_mb * 1024"
 done <<'LARGE_PLANS'
 thrown 65535 2000 256
+broad 65000 2000 256
 sunk 5000 2000 256
 LARGE_PLANS
 

@@ -1,3 +1,16 @@
 pub mod Reporting
 pub mod WrittenKept
 pub mod SomeClasses
+pub mod WrittenInstrs
+pub mod WrittenFolders
+pub mod MeantOps
+pub mod NeededConstants
+pub mod NoHandles
+pub mod StayingIndices
+pub mod FirstEntries
+pub mod WrittenOps
+pub mod WrittenPoints
+pub mod WrittenMethods
+pub mod WrittenSorts
+pub mod WrittenClasses
+pub mod WholeFolders

@@ -2,3 +2,4 @@
 pub mod Methods
 pub mod Folders
 pub mod Lines
+pub mod WellWritten

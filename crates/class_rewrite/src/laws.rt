@@ -1,16 +1,20 @@
 //! Laws: functions that do nothing, whose contracts say what always holds.
 ghost use Rattle.same_runs.specs.ClearedFields.{ReplacesByFlats};
 ghost use Rattle.same_runs.specs.TypedFlats.{TypesFlat};
-ghost use Rattle.std.specs.Prelude.{◌≡◌, List, Some};
+ghost use Rattle.std.specs.Prelude.{◌≡◌, ◌<◌, List, Some, length};
 ghost use Rattle.class_model.specs.declared.class_file.ClassFile.{ClassFile};
 ghost use Rattle.class_model.specs.declared.class_file.MethodAt.{MethodAt};
-ghost use Rattle.class_rewrite.specs.Optimised.{KeepsMeaning};
+ghost use Rattle.class_rewrite.specs.Optimised.{KeepsMeaning, RunsAs, with_folder};
 ghost use Rattle.class_rewrite.specs.Reasons.{HasReason};
+ghost use Rattle.class_rewrite.specs.Rewriting.Folders.{IsFolderWritten};
+ghost use Rattle.class_rewrite.specs.Rewriting.Methods.{Rewriting};
+ghost use Rattle.class_rewrite.specs.Rewriting.WellWritten.{IsWellWritten};
 ghost use Rattle.class_rewrite.specs.Written.{IsWrittenFolder};
 ghost use Rattle.class_tree.specs.Headers.{Classes, headers_of};
 ghost use Rattle.class_tree.specs.Hierarchy.{IsHierarchy};
 ghost use Rattle.class_tree.specs.Trees.{IsTree};
 ghost use Rattle.expanded_code.specs.ExpandAnswers.{IsExpanded, IsNoHost};
+ghost use Rattle.expanded_runs.specs.ByteCodes.{HaveByteCodes};
 ghost use Rattle.expanded_runs.specs.ExpandedPrograms.{AreExpanded};
 ghost use Rattle.flow_code.specs.FlatCode.{FlatCode};
 ghost use Rattle.flow_code.specs.TypedFrames.{FolderFrames};
@@ -21,16 +25,25 @@ ghost use Rattle.member_link.specs.Machine.Classes.{program_of};
 ghost use Rattle.member_link.specs.Machine.Links.{AreLinksOf};
 ghost use Rattle.member_link.specs.Machine.Programs.{Links, Program};
 ghost use Rattle.member_link.specs.Machine.Replaced.{Replacement, replaced};
+ghost use Rattle.member_link.specs.Machine.SameRuns.{SameRuns};
 ghost use Rattle.member_link.specs.Scope.{Scope, scope_at};
 ghost use Rattle.same_runs.specs.EqualRuns.{EqualRuns};
 ghost use Rattle.same_runs.specs.Flats.{Flats};
 ghost use Rattle.type_rules.specs.Verified.{TypesFolder};
 
-use expanded_runs::{an_expanded_flat_code_is_typed, expanded_flat_codes_run_equally};
+use class_tree::classes_of_a_tree_are_a_hierarchy;
+use expanded_runs::{
+    an_expanded_flat_code_is_ready, an_expanded_flat_code_is_typed,
+    expanded_flat_codes_have_a_replacement, expanded_flat_codes_run_equally,
+};
 use inline_expand::a_method_has_one_expanded_flat_code;
-use machine_laws::running_the_same_is_reflexive;
-use same_runs::programs_that_are_equal_run_equally;
-use typed_programs::a_verified_folder_is_a_typed_program;
+use machine_laws::{running_the_same_composes, running_the_same_is_reflexive};
+use same_runs::{programs_that_are_equal_run_equally, running_equally_is_running_the_same};
+use typed_flats::flat_codes_run_typed;
+use typed_programs::{
+    a_verified_folder_is_a_typed_program, linked_instructions_have_linked_operations,
+};
+use written_runs::written_codes_run_the_same;
 
 /// A method of a hierarchy has one reason at most.
 pub fn a_method_has_one_reason()
@@ -91,4 +104,51 @@ pub fn an_expanded_flat_code_of_a_verified_folder_is_typed()
 {
     a_verified_folder_is_a_typed_program();
     an_expanded_flat_code_is_typed();
+}
+
+/// The codes that are written of a verified folder run the same as those of the folder: in the program in which they take the place of their
+/// methods' own, with field constructors and with flags of fields cleared, each list of actions shows the same events and the same end, with no
+/// more allocations and monitor entries at each event (`codes`). And that program is the one of the written folder, so that this runs as the
+/// folder (`folder`), where its methods have the code of their items (`IsWellWritten`). The codes of the folder are bytes, as those of class files
+/// that were read are.
+pub fn a_written_folder_runs_as_its_folder()
+    ensures codes { (r : Rewriting) (files : List ClassFile) (w : IsFolderWritten r files)
+        → IsTree r.classes
+        → HaveByteCodes r.classes
+        → IsLinked r.classes
+        → TypesFolder r.classes r.typed
+        → AreLinksOf (headers_of r.classes) r.links
+        → SameRuns (program_of r.classes r.links) (replaced (program_of r.classes r.links) w.s) }
+    ensures folder { (r : Rewriting) (files : List ClassFile) (w : IsFolderWritten r files)
+        → IsTree r.classes
+        → HaveByteCodes r.classes
+        → IsLinked r.classes
+        → TypesFolder r.classes r.typed
+        → AreLinksOf (headers_of r.classes) r.links
+        → 0 < length r.classes.folder
+        → IsWellWritten r files w
+        → RunsAs r.classes (with_folder r.classes files) }
+{
+    classes_of_a_tree_are_a_hierarchy();
+    a_verified_folder_is_a_typed_program();
+    linked_instructions_have_linked_operations();
+    an_expanded_flat_code_is_ready();
+    expanded_flat_codes_have_a_replacement();
+    expanded_flat_codes_run_equally();
+    running_equally_is_running_the_same();
+    flat_codes_run_typed();
+    written_codes_run_the_same();
+    running_the_same_composes();
+    a_method_has_one_expanded_flat_code();
+    plan_flow::flat_code_has_one_least_plan();
+    plan_flow::effect_grows();
+    class_model::constants_compare_by_value();
+    type_rules::a_grown_class_has_a_grown_header();
+    type_rules::a_grown_class_keeps_its_instructions();
+    type_rules::a_grown_class_keeps_its_code();
+    type_rules::a_grown_class_begins_alike();
+    type_rules::grown_classes_have_the_same_links();
+    code_layout::a_laid_code_means_its_items();
+    // where the folder has no class
+    programs_that_are_equal_run_equally();
 }

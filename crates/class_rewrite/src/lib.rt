@@ -8,7 +8,7 @@ mod report;
 
 pub use folder::{Optimised, optimise_folder};
 pub use laws::{
-    a_method_has_one_reason, a_written_folder_runs_the_same,
+    a_method_has_one_reason, a_written_folder_runs_as_its_folder, a_written_folder_runs_the_same,
     an_expanded_flat_code_of_a_verified_folder_is_typed,
     expanded_flat_codes_of_a_verified_folder_run_equally,
 };

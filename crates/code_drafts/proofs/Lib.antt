@@ -1,15 +1,11 @@
 mod CarriedLaws
 mod CellLaws
-mod EmitLaws
 mod EndLaws
 mod FieldLaws
 mod JoinLaws
-mod KeptLaws
-mod LedLaws
 mod PartLaws
 mod PutLaws
 mod SameEnds
-mod SiteLaws
 mod StartLaws
 mod TemplateLaws
 mod WrittenLaws

@@ -1,6 +1,16 @@
 -- Items that are counted as they are written.
-use Rattle.std.specs.Prelude.{◌≡◌, ◌≤◌, ◌+◌, ℕ, Bool, true, false, List, [], ◌∷◌, length, Option, Some, None}
+use Rattle.std.specs.Prelude.{◌≡◌, ◌⊎◌, ◌≤◌, ◌<◌, ◌+◌, ℕ, Bool, true, false, List, [], ◌∷◌, length, Option, Some, None}
 use Rattle.code_drafts.specs.declared.draft.DraftItem.{DraftItem}
+use Rattle.making_code.specs.Items.{WItem}
+
+-- the entries that items take in the exception table
+abbrev pub table_entries : List WItem → ℕ
+table_entries [] = 0
+table_entries (item ∷ items) = length item.catches + table_entries items
+
+-- more items than a code has bytes, or more entries than an exception table has (JVM Specification SE 8, 4.7.3)
+abbrev pub AreTooMany : List WItem → Type 0
+AreTooMany items = (65535 < length items) ⊎ (65535 < table_entries items)
 
 -- the handlers of items
 abbrev pub handlers_of : List DraftItem → ℕ

@@ -4,7 +4,7 @@ use Rattle.std.specs.List.{flat_map}
 use Rattle.class_model.specs.Pool.{Constants}
 use Rattle.class_model.specs.declared.instr.Instr.{Instr}
 use Rattle.class_tree.specs.Headers.{Name}
-use Rattle.code_drafts.specs.EmittedCode.{AreTooMany}
+use Rattle.code_drafts.specs.Counts.{AreTooMany}
 use Rattle.code_drafts.specs.declared.draft.BlockKind.{BlockKind}
 use Rattle.code_drafts.specs.declared.draft.BlockKind.TheVariants as kinds
 use Rattle.code_drafts.specs.declared.draft.DraftBlock.{DraftBlock}

@@ -10,6 +10,10 @@ pub mod EmittedItems
 pub mod WrittenPlaces
 pub mod PlacedBlocks
 pub mod CarriedItems
-pub mod GrownNames
 pub mod IndexedPlaces
 pub mod CountedPlaces
+pub mod WideWidths
+pub mod EmittedParts
+pub mod KeptCounts
+pub mod LedRoutes
+pub mod SitesInside

@@ -2,7 +2,6 @@ pub mod CodeOfPlans
 pub mod Counts
 pub mod Drafts
 pub mod Emits
-pub mod EmittedCode
 pub mod FlatForms
 pub mod Inner
 pub mod ItemPlaces

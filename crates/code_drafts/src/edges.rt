@@ -72,7 +72,10 @@ fn is_of_kind(one: EdgeKind, other: EdgeKind) -> bool
 }
 
 /// What the instruction of a point leaves, edge by edge, in the state in which it is written.
-pub(crate) fn effect_at(
+///
+/// # Errors
+/// `NoMemory`, where memory runs out.
+pub fn effect_at(
     alloc: Global,
     setting: &Setting<'_>,
     at: usize,
@@ -86,7 +89,7 @@ pub(crate) fn effect_at(
 }
 
 /// The edges of a point's effect are those of its plan and of its route, and objects can be made on them.
-pub(crate) fn edges_are_led(setting: &Setting<'_>, at: usize, edges: &[Edge])
+pub fn edges_are_led(setting: &Setting<'_>, at: usize, edges: &[Edge])
     requires can { IsWritable setting.now }
     requires edges { AreEffects setting.now at edges.now }
     ensures { AreLed setting.now at edges.now }

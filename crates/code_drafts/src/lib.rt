@@ -21,9 +21,12 @@ mod templates;
 
 pub use decided::is_decided;
 pub use draft::{BlockKind, DraftBlock, DraftCatch, DraftItem, Target};
-pub use edges::state_on;
+pub use edges::{edges_are_led, effect_at, state_on};
 pub use kept::KeptItems;
-pub use laws::{code_of_a_plan_makes_what_the_plan_says, items_of_a_plan_are_emitted_code};
+pub use laws::{
+    code_of_a_plan_makes_what_the_plan_says, items_of_a_plan_are_emitted_code,
+    items_of_a_plan_keep_their_widths,
+};
 pub use placing::{Numbered, number_items};
 pub use setting::Setting;
 pub use starts::block_starts;

@@ -53,6 +53,41 @@ impl<'t> Setting<'t> {
             units,
         }
     }
+
+    /// The tree of the folder.
+    pub fn tree(&self) -> &'t Tree
+        ensures { result.now ≡ self.now.classes }
+    {
+        self.tree
+    }
+
+    /// The flat code.
+    pub fn flat(&self) -> &'t Flat
+        ensures { result.now ≡ self.now.flat }
+    {
+        self.flat
+    }
+
+    /// The plan.
+    pub fn plan(&self) -> &'t Plan
+        ensures { result.now ≡ self.now.plan }
+    {
+        self.plan
+    }
+
+    /// The field constructors of the folder's classes.
+    pub fn constructors(&self) -> &'t Constructors<'t>
+        ensures { result.now ≡ self.now.classes }
+    {
+        self.constructors
+    }
+
+    /// The local units of the written code.
+    pub fn units(&self) -> &'t Units<'t>
+        ensures { result.now ≡ self.now.flat }
+    {
+        self.units
+    }
 }
 
 impl<'t> Model for Setting<'t> {

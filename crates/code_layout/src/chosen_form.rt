@@ -1,6 +1,6 @@
 //! The layout of emitted code.
-ghost use Rattle.std.specs.Prelude.{◌<◌, ◌≤◌, IfOk, OnOk, IfErr};
-ghost use Rattle.code_layout.specs.ChosenForm.{IsLaidOut, IsWithin, KeepsLong};
+ghost use Rattle.std.specs.Prelude.{◌≡◌, ◌<◌, ◌≤◌, IfOk, OnOk, IfErr};
+ghost use Rattle.code_layout.specs.ChosenForm.{IsLaidOut, IsWithin, KeepsLong, is_short};
 ghost use Rattle.code_layout.specs.EmittedCode.{HasCodeOf};
 ghost use Rattle.code_layout.specs.Inner.Writing.{ArePlaced, spelled_in};
 ghost use Rattle.code_layout.specs.Layout.{IsLaid, end_from, short_spelled, table_len};
@@ -8,7 +8,7 @@ ghost use Rattle.code_layout.specs.Layout.{IsLaid, end_from, short_spelled, tabl
 use crate::emitted::Emitted;
 use crate::form::Form;
 use crate::laid::Laid;
-use crate::places::{fits_table, places};
+use crate::places::{self, fits_table, places};
 use crate::wide_form::widened;
 use crate::writing::code_and_table;
 use class_model::{ListOf, NoMemory};
@@ -40,6 +40,13 @@ pub fn layout(alloc: Global, emitted: &Emitted) -> Result<Laid, KeptFault>
         Some(starts) => Ok(laid_out(alloc, Form::Short, emitted, starts)?),
         None => wide_layout(alloc, emitted),
     }
+}
+
+/// Whether emitted code is laid out in the short form: it has at most 32,767 bytes there. It takes time in proportion to the items.
+pub fn is_short(emitted: &Emitted) -> bool
+    ensures { result ≡ is_short emitted.now }
+{
+    places::is_short(emitted.as_slice())
 }
 
 // The layout in the wide form, where the short one has too many bytes.

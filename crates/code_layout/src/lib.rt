@@ -13,7 +13,8 @@ mod retarget;
 mod wide_form;
 mod writing;
 
-pub use chosen_form::layout;
+pub use chosen_form::{is_short, layout};
 pub use emitted::{Catch, CatchList, EmitItem, EmitItemList, Emitted};
 pub use laid::{Laid, OffsetList};
 pub use laws::a_laid_code_means_its_items;
+pub use wide_form::{wide_numbers, widened};

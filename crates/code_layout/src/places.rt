@@ -1,5 +1,6 @@
 //! Where items stand.
 ghost use Rattle.std.specs.Prelude.{◌≡◌, ◌↔◌, ◌<◌, ◌≤◌, IfOk, IsTrue, MatchOption};
+ghost use Rattle.code_layout.specs.ChosenForm.{is_short};
 ghost use Rattle.code_layout.specs.Inner.Writing.{HaveForms, most_in, spelled_in};
 ghost use Rattle.code_layout.specs.Layout.{end_from, item_starts, start_in, table_len};
 
@@ -66,6 +67,21 @@ pub(crate) fn places(
         }
     }
     Ok(Some(starts))
+}
+
+/// Whether these items have at most 32,767 bytes in the short form.
+pub(crate) fn is_short(items: &[EmitItem]) -> bool
+    requires { HaveForms items.now }
+    ensures { result ≡ is_short items.now }
+{
+    let mut at: u32 = 0;
+    for item in items {
+        at = at.saturating_add(len_of(Form::Short, &item.instr, at));
+        if at > MAX_SHORT {
+            return false;
+        }
+    }
+    true
 }
 
 /// Where the item of a number starts.

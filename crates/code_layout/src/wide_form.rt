@@ -16,11 +16,11 @@ use class_model::opcodes::{
 use class_model::{Instr, ListOf, NoMemory};
 use std::alloc::Global;
 
-/// The same code in its wide form: each conditional jump is the opposite one over a goto.
+/// The same code in its wide form: each conditional jump, but for that inside a test against null, is the opposite one over a goto.
 ///
 /// # Errors
 /// `NoMemory`, where memory runs out.
-pub(crate) fn widened(alloc: Global, emitted: &Emitted) -> Result<Emitted, NoMemory>
+pub fn widened(alloc: Global, emitted: &Emitted) -> Result<Emitted, NoMemory>
     requires { length emitted.now ≤ 65535 }
     ensures { IfOk result (λ wide. wide ≡ widened emitted.now) }
 {
@@ -55,8 +55,11 @@ fn goes_past(items: &[EmitItem]) -> bool
     }
 }
 
-// The number of each item among those of the wide form.
-fn wide_numbers(alloc: Global, items: &[EmitItem]) -> Result<Vec<u32>, NoMemory>
+/// The number of each item among those of the wide form, or of the first where it is two there.
+///
+/// # Errors
+/// `NoMemory`, where memory runs out.
+pub fn wide_numbers(alloc: Global, items: &[EmitItem]) -> Result<Vec<u32>, NoMemory>
     requires { length items.now ≤ 65535 }
     ensures { IfOk result (λ numbers. numbers.items ≡ wide_numbers items.now) }
 {

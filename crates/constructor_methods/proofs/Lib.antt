@@ -2,6 +2,5 @@ mod Adding
 mod ConstructLaws
 mod ConstructorFields
 mod ConstructorMethodLaws
-mod DescribedConstructors
 mod FewNeeds
 mod ShortForms

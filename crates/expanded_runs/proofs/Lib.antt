@@ -3,16 +3,6 @@ mod AloneProgram
 mod FlatPlaces
 mod Plans
 mod Ready
-mod RenumberedArithmetic
-mod RenumberedArrays
-mod RenumberedEntry
-mod RenumberedLocals
-mod RenumberedMembers
-mod RenumberedRows
-mod RenumberedShuffles
-mod RenumberedTable
-mod RenumberedTargets
-mod RenumberedTypes
 mod Replacements
 mod Runs
 mod StackRoom

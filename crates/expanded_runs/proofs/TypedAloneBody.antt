@@ -1,13 +1,14 @@
 -- The typed points of the flat code of a method by itself are frames of its body at each place.
 use Rattle.std.proofs.Common.{◌≡◌, ℕ, zero, List, [], ◌∷◌, length, map, Some, refl, sym, subst, ◌∙◌, arith}
 use Rattle.std.proofs.lemmas.Option.{same_Some}
+use Rattle.class_model.specs.Methods.{home_of}
 use Rattle.class_model.specs.declared.class_file.MethodAt.{MethodAt}
 use Rattle.class_model.specs.declared.frame.Frame.{Frame}
 use Rattle.class_model.specs.declared.instr.Placed.{Placed}
 use Rattle.class_tree.specs.Headers.{Classes}
 use Rattle.expanded_code.specs.Alone.{alone_points, flat_alone, number_at, number_in}
 use Rattle.expanded_runs.proofs.FlatPlaces.{each_point, frame_is_stated, one_each}
-use Rattle.expanded_runs.proofs.RenumberedEntry.{entry_same}
+use Rattle.row_frames.specs.Laws.RenumberedEntry.{entry_same}
 use Rattle.expanded_runs.proofs.TypedAloneEdges.{IsTypedMethod, counted, flows_carried}
 use Rattle.expanded_runs.proofs.TypedAloneHandlers.{table_throws}
 use Rattle.expanded_runs.proofs.TypedAloneNumbers.{number_here}
@@ -44,7 +45,7 @@ module _ (classes : Classes) (s : Scope) (at : MethodAt) (frames : List Frame) (
       let flows = flows_carried classes s at frames m (begins_at (body_of s).points (body_of s).end) (Some (entry s)) m.has.entry in
       subst (λ (place : ℕ). FlowsInto body (typed_points flat) place (Some body.entry)) first
       (subst (λ (f : Frame). FlowsInto body (typed_points flat) (number_at s (begins_at (body_of s).points (body_of s).end)) (Some f))
-      (entry_same (number_at s) s) flows)
+      (entry_same (number_at s) (home_of s.class) s.method s.part) flows)
 
   -- ---- the whole
 

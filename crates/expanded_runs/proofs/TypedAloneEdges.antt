@@ -13,9 +13,9 @@ use Rattle.class_model.specs.declared.instr.Instr.TheVariants.{Goto, Table, Look
 use Rattle.class_tree.specs.Headers.{Name, Classes}
 use Rattle.expanded_code.specs.Alone.{flat_alone, number_at, numbered_frame, numbered_type}
 use Rattle.expanded_runs.proofs.FlatPlaces.{frame_is_stated}
-use Rattle.expanded_runs.proofs.RenumberedEntry.{as_many, to_itself}
-use Rattle.expanded_runs.proofs.RenumberedRows.{Leaves}
-use Rattle.expanded_runs.proofs.RenumberedTypes.{frame_assignable_kept, renumbered}
+use Rattle.row_frames.specs.Laws.RenumberedEntry.{as_many, to_itself}
+use Rattle.row_frames.specs.Laws.RenumberedRows.{Leaves}
+use Rattle.row_frames.specs.Laws.RenumberedTypes.{frame_assignable_kept, renumbered}
 use Rattle.expanded_runs.proofs.StackRoom.{no_deeper}
 use Rattle.expanded_runs.proofs.TypedAloneNumbers.{frame_found, is_number, point_there, IsNumber}
 use Rattle.flow_code.specs.FlatCode.{FlatCode}

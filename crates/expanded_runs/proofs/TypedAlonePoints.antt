@@ -13,11 +13,11 @@ use Rattle.class_model.specs.declared.frame.VType.{VType}
 use Rattle.class_model.specs.declared.instr.Placed.{Placed}
 use Rattle.class_tree.specs.Headers.{Name, Classes}
 use Rattle.expanded_code.specs.Alone.{alone_point, flat_alone, handlers_at, number_at, numbered_frame, numbered_type}
-use Rattle.expanded_runs.proofs.RenumberedMembers.{KeepsNews}
-use Rattle.expanded_runs.proofs.RenumberedRows.{Moves, frame_moves, operands_fit, stack_moves}
-use Rattle.expanded_runs.proofs.RenumberedTable.{row_moves}
-use Rattle.expanded_runs.proofs.RenumberedTargets.{falls_same, targets_numbered}
-use Rattle.expanded_runs.proofs.RenumberedTypes.{renumbered}
+use Rattle.row_frames.specs.Laws.RenumberedMembers.{KeepsNews}
+use Rattle.row_frames.specs.Laws.RenumberedRows.{Moves, frame_moves, operands_fit, stack_moves}
+use Rattle.row_frames.specs.Laws.RenumberedTable.{row_moves}
+use Rattle.row_frames.specs.Laws.RenumberedTargets.{falls_same, targets_numbered}
+use Rattle.row_frames.specs.Laws.RenumberedTypes.{renumbered}
 use Rattle.expanded_runs.proofs.StackRoom.{two_each}
 use Rattle.expanded_runs.proofs.TypedAloneEdges.{IsTypedMethod, all_go, counted, few_behind, flows_carried, goes_carried, is_there}
 use Rattle.expanded_runs.proofs.TypedAloneHandlers.{all_catch}

@@ -1,8 +1,7 @@
 -- Make code, from its parts as they are written.
-use Rattle.std.proofs.Common.{◌≡◌, ◌≤◌, ℕ, Bool, true, false, cond, List, [], ◌∷◌, ◌++◌, map, reverse, refl, sym, ap, subst, ◌∙◌, append_assoc, append-nil}
+use Rattle.std.proofs.Common.{◌≡◌, ◌≤◌, ℕ, Bool, true, false, cond, List, [], ◌∷◌, ◌++◌, map, reverse, refl, sym, ap, subst, ◌∙◌, append_assoc}
 use Rattle.std.specs.List.{AllByRecursion, filter, flat_map}
 use Rattle.std.proofs.lemmas.List.{map-append, reverse-append}
-use Rattle.class_model.specs.Pool.{Constants}
 use Rattle.class_model.specs.declared.instr.Instr.{Instr}
 use Rattle.class_tree.specs.Headers.{Classes, Name}
 use Rattle.flow_code.specs.FlatCode.{FlatCode, point_at}
@@ -121,20 +120,19 @@ module _ (flat : FlatCode) (at : ℕ) (state : State) (sites : List ℕ) (entrie
     grows = λ constructor other described is_other.
         subst (λ (list : List ℕ). Grows old (all_making_needs constructor (make_code flat at state sites list)) new) (one_order is_order is_other)
         (subst (λ (needs : List Need). Grows old needs new) (sym (code_needs constructor order)) (two constructor described).grows);
-    instrs_are = λ constructor other described is_other.
-        let pool = grown new ++ [] in
+    instrs_are = λ constructor other described is_other more.
+        let pool = grown new ++ more in
         let kept = kept_instr flat constructor pool in
         let made = flat_map (make_one flat state) order in
         let behind = copying flat at state sites entries in
         let parts : copies ≡ (map kept (saving entries) ++ map kept made) ++ map kept behind =
         three.writes _ _
-        ∙ ap (λ (list : List Instr). list ++ map kept behind) ((two constructor described).writes [] ∙ ap (λ (list : List Instr). list ++ map kept made) (one.writes _ _)) in
+        ∙ ap (λ (list : List Instr). list ++ map kept behind) ((two constructor described).writes more ∙ ap (λ (list : List Instr). list ++ map kept made) (one.writes _ _)) in
         let joined : (map kept (saving entries) ++ map kept made) ++ map kept behind ≡ map kept (make_code flat at state sites order) =
         sym (ap (map kept) (sym (code_is order)) ∙ map-append kept (saving entries ++ made) behind ∙ ap (λ (list : List Instr). list ++ map kept behind) (map-append kept (saving entries) made)) in
         parts ∙ joined
         ∙ all_same flat constructor pool (make_code flat at state sites order) (code_fits flat at state sites can is_state order)
-        ∙ ap (λ (all : Constants). map (made_instr flat constructor all) (make_code flat at state sites order)) (append-nil (grown new))
-        ∙ ap (λ (list : List ℕ). map (made_instr flat constructor (grown new)) (make_code flat at state sites list)) (one_order is_order is_other);
+        ∙ ap (λ (list : List ℕ). map (made_instr flat constructor pool) (make_code flat at state sites list)) (one_order is_order is_other);
   }
 
   -- where it does not fit, neither does make code

@@ -3,3 +3,4 @@ pub mod Indices
 pub mod MadeCode
 pub mod Restacking
 pub mod Inner
+pub mod Laws

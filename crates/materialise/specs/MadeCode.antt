@@ -1,6 +1,7 @@
 -- What make code asks of a flat code and a state, and what it is in a constant pool that grows by what it needs.
-use Rattle.std.specs.Prelude.{◌≡◌, ◌≤◌, ◌<◌, ℕ, List, length, map, Some, IsTrue}
+use Rattle.std.specs.Prelude.{◌≡◌, ◌≤◌, ◌<◌, ◌++◌, ℕ, List, length, map, Some, IsTrue}
 use Rattle.std.specs.List.{AllByRecursion}
+use Rattle.class_model.specs.Pool.{Constants}
 use Rattle.class_model.specs.declared.instr.Instr.{Instr}
 use Rattle.class_tree.specs.Headers.{Classes, Name, headers_of}
 use Rattle.class_tree.specs.Order.{place_of}
@@ -48,7 +49,8 @@ abbrev pub DescribesConstructors : Classes → (Name → List ℕ) → Type 0
 DescribesConstructors classes constructor =
     (class desc : Name) → IsConstructor classes class (Some desc) → constructor class ≡ desc
 
--- The make code of a set of sites, and the pool that has grown by what it needs, whatever order of the sites is meant: there is one.
+-- The make code of a set of sites, and the pool that has grown by what it needs, whatever order of the sites is meant: there is one. Its
+-- instructions name the same constants in whatever the pool grows to.
 pub record IsMakeCode (classes : Classes) (flat : FlatCode) (at : ℕ) (state : State)
     (sites : List ℕ) (old new : Edit) (instrs : List Instr)
     : Type 0 where
@@ -59,5 +61,6 @@ pub record IsMakeCode (classes : Classes) (flat : FlatCode) (at : ℕ) (state : 
   pub instrs_are : (constructor : Name → List ℕ) (order : List ℕ)
       → DescribesConstructors classes constructor
       → IsMakeOrder state.objects sites order
+      → (more : Constants)
       → instrs
-      ≡ map (made_instr flat constructor (grown new)) (make_code flat at state sites order)
+      ≡ map (made_instr flat constructor (grown new ++ more)) (make_code flat at state sites order)

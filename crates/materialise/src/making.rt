@@ -56,7 +56,9 @@ pub fn make_code(
         → IsFull pool.old
         (all_making_needs constructor (make_code flat.now at state.now sites.now order)) reason }
     ensures err { OnErr result (pool.new ≡ pool.old) }
+    ensures more { Continues pool.old pool.new }
 {
+    an_edit_goes_back_to_what_it_was();
     let constructors = Constructors::new(alloc, tree)?;
     let units = Units::new(alloc, flat)?;
     write_make_code(alloc, &constructors, &units, at, state, sites, pool)
@@ -87,6 +89,7 @@ pub fn write_make_code(
         → IsFull pool.old
         (all_making_needs constructor (make_code units.now at state.now sites.now order)) reason }
     ensures err { OnErr result (pool.new ≡ pool.old) }
+    ensures more { Continues pool.old pool.new }
 {
     an_edit_goes_back_to_what_it_was();
     let count = pool.count();

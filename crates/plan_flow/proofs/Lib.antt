@@ -33,6 +33,7 @@ pub mod Opening
 pub mod TopEntries
 pub mod Gathering
 pub mod LocalUnits
+pub mod KeptUnits
 pub mod AskedSites
 pub mod Sharing
 pub mod SharedPlans

@@ -128,8 +128,8 @@ pub(crate) fn has_top(types: &[VType]) -> bool
     false
 }
 
-// Whether a type is Top.
-fn is_top(one: &VType) -> bool
+/// Whether a type is Top.
+pub(crate) fn is_top(one: &VType) -> bool
     ensures { result ≡ is_top one.now }
 {
     matches!(one, VType::Top)

@@ -1,15 +1,18 @@
 //! The local units behind an edge.
-ghost use Rattle.std.specs.Prelude.{◌≡◌, ◌≤◌, length, slice_get, take, IfOk, IsTrue};
+ghost use Rattle.std.specs.Prelude.{◌≡◌, ◌≤◌, get_or, length, slice_get, take, IfOk, IsTrue};
+ghost use Rattle.class_model.specs.Frames.{is_top as is_top_type};
+ghost use Rattle.class_model.specs.declared.frame.VType.{VType};
 ghost use Rattle.plan_flow.specs.Inner.Fitting.{local_of};
-ghost use Rattle.plan_flow.specs.Inner.Fronts.{locals_held};
+ghost use Rattle.plan_flow.specs.Inner.Fronts.{IsNextTop, KeepsSlot, locals_held, tops_before};
 ghost use Rattle.plan_flow.specs.Inner.RowViews.{stored_by};
 ghost use Rattle.plan_flow.specs.Narrow.{HasFewLocals};
 ghost use Rattle.plan_flow.specs.PlanSlots.{fit_locals};
 
+use crate::beneath::is_top;
 use crate::edge::EdgeKind;
 use crate::rows::operand;
 use crate::slots::{held, is_same, local_slot};
-use class_model::{Frame, ListOf, LocalTypeList, NoMemory};
+use class_model::{Frame, ListOf, LocalTypeList, NoMemory, VType};
 use std::alloc::Global;
 use virtual_state::{FrontSlots, Slot, VState};
 
@@ -53,7 +56,7 @@ pub(crate) fn locals_behind(
     Ok(locals)
 }
 
-// Whether slots are these local units.
+// Whether slots are these local units: those that are unusable are those that become so, and the one that is stored into keeps its slot.
 fn is_as_before(
     front: &FrontSlots,
     state: &VState,
@@ -61,42 +64,81 @@ fn is_as_before(
     stored: Option<u16>,
     target: &LocalTypeList,
 ) -> bool
-    requires { HasFewLocals types.now }
+    requires few { HasFewLocals types.now }
+    requires first { front.now ≡ take (length front.now) state.now.slots }
     ensures { IsTrue result
         → front.now ≡ fit_locals target.now (locals_held state.now types.now stored) }
 {
-    let listed = front.listed();
+    let (listed, gaps) = front.listed_with_gaps();
     if front.len() != target.len() {
+        return false;
+    }
+    if front.len() != types.locals.len() {
         return false;
     }
     if listed.len() != target.listed() {
         return false;
     }
-    are_kept(listed, state, types, stored, target)
+    if !keeps_slot(front, state, types, stored) {
+        return false;
+    }
+    has_tops_at(target, listed.len(), gaps)
 }
 
-// Whether slots are the first of these local units.
-fn are_kept(
-    slots: &[Slot],
-    state: &VState,
-    types: &Frame,
-    stored: Option<u16>,
-    target: &LocalTypeList,
-) -> bool
-    requires few { HasFewLocals types.now }
-    requires inside { length slots.now ≤ length target.now }
-    ensures { IsTrue result
-        → slots.now
-        ≡ fit_locals (take (length slots.now) target.now)
-        (locals_held state.now types.now stored) }
+// Whether the local unit that is stored into holds before what is stored.
+fn keeps_slot(front: &FrontSlots, state: &VState, types: &Frame, stored: Option<u16>) -> bool
+    requires { HasFewLocals types.now }
+    ensures { IsTrue result → KeepsSlot front.now state.now types.now stored }
 {
-    for at in 0..slots.len() {
-        let slot = local_behind(state, types, stored, target, at);
-        if !is_same(slots[at], slot) {
+    let Some(local) = stored else {
+        return true;
+    };
+    let Some(slot) = front.get(usize::from(local)) else {
+        return true;
+    };
+    is_same(slot, held(state, operand(types, 0)))
+}
+
+// Whether the local units that are Top among so many are those of these indices.
+fn has_tops_at(target: &LocalTypeList, count: usize, places: &[usize]) -> bool
+    requires { count ≤ length target.now }
+    ensures { IsTrue result → tops_before target.now count ≡ places.now }
+{
+    let mut from = 0;
+    for number in 0..places.len() {
+        let Some(at) = next_top(target, from, count) else {
+            return false;
+        };
+        if at != places[number] {
             return false;
         }
+        from = at + 1;
     }
-    true
+    next_top(target, from, count).is_none()
+}
+
+// The first local unit from one on that is Top, before an end.
+fn next_top(target: &LocalTypeList, from: usize, end: usize) -> Option<usize>
+    requires order { from ≤ end }
+    requires inside { end ≤ length target.now }
+    ensures { IsNextTop target.now from end result }
+{
+    for at in from..end {
+        if is_top_at(target, at) {
+            return Some(at);
+        }
+    }
+    None
+}
+
+// Whether a local unit is Top.
+fn is_top_at(types: &LocalTypeList, at: usize) -> bool
+    ensures { result ≡ is_top_type (get_or types.now at VType.Top) }
+{
+    match types.get(at) {
+        Some(one) => is_top(one),
+        None => true,
+    }
 }
 
 // So many of the first of these local units.

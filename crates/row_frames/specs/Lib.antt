@@ -1,2 +1,3 @@
 pub mod Behind
 pub mod Inner
+pub mod Laws

@@ -15,7 +15,7 @@ use Rattle.materialise.specs.Indices.{IsIndex, need_of_text}
 use Rattle.pool_edit.specs.Edits.{Edit, grown}
 use Rattle.stackmap_emit.proofs.Adding.{grows_both, index_stays}
 use Rattle.stackmap_emit.specs.FrameConstants.{frame_needs, table_needs}
-use Rattle.stackmap_emit.specs.FramesAttribute.{IsFramesAttribute, all_stated, one_attribute, placed_needs}
+use Rattle.stackmap_emit.specs.FramesAttribute.{AreRead, IsFramesAttribute, all_stated, one_attribute, placed_needs}
 use Rattle.stackmap_emit.specs.Inner.ClassIndices.{Adds, AreIndices}
 
 stated_needs : (frames : List PlacedFrame) → flat_map frame_needs (all_stated frames) ≡ placed_needs frames
@@ -31,14 +31,15 @@ pub attribute_is : (middle new : Edit) (entry : Frame) (frames : List PlacedFram
     → IsIndex middle (need_of_text stack_map_table) name
     → Adds middle [] (placed_needs frames) new names
     → IsTable names entry frames bytes
+    → AreRead names entry frames bytes
     → (more : Constants) → IsFramesAttribute (grown new ++ more) entry frames (record { name = name; bytes = bytes } ∷ [])
-attribute_is middle new entry frames names name bytes some known adds table more =
+attribute_is middle new entry frames names name bytes some known adds table read more =
     let index = index_stays middle new (placed_needs frames) (need_of_text stack_map_table) name adds.grows known in
     let indices : AreIndices new names = adds.indices tt in
     let same = AllByRecursion-weaker (λ (named : NamedIndex). IsIndex new (needs_class named.class) named.index)
     (λ (named : NamedIndex). named.index ≡ index_in (grown new ++ more) (needs_class named.class)) (λ named is. sym (is.is more)) names indices in
     subst (λ (n : ℕ). IsFramesAttribute (grown new ++ more) entry frames (record { name = n; bytes = bytes } ∷ [])) (index.is more)
-    (one_attribute some (same, adds.each) table)
+    (one_attribute some (same, adds.each) table read)
 
 pub attribute_grows : (old middle new : Edit) (frames : List PlacedFrame) (names : List NamedIndex)
     → frames ≢ []

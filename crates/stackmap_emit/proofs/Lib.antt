@@ -1,3 +1,12 @@
 pub mod Adding
 pub mod Attributes
 pub mod PlacedUnits
+pub mod BlockPlaces
+pub mod MarkedItems
+pub mod FramedWalks
+pub mod WidePlaces
+pub mod FilledTables
+pub mod WalkedItems
+pub mod PlacedItems
+pub mod PlacedForms
+pub mod TypedMethods

@@ -1,5 +1,7 @@
 pub mod PlacedFrames
 pub mod FrameConstants
 pub mod FramesAttribute
+pub mod TypedMethods
 pub mod Inner
 pub mod Laws
+pub mod FramedItems

@@ -2,8 +2,17 @@
 #![tactic(auto)]
 
 mod attribute;
+mod blocks;
 mod classes;
+mod depths;
+mod laws;
+mod led;
 mod noting;
+mod place;
 mod placing;
+mod walk;
 
 pub use attribute::frames_attribute;
+pub use laws::what_types_items_types_the_laid_method;
+pub use place::{WrittenCode, place_frames};
+pub use walk::WrittenFrames;

@@ -1,16 +1,26 @@
-//! Frames with offsets in place of numbers of items.
+//! Frames whose uninitialised objects get other numbers: those of items for those of points, and offsets for those of items.
 ghost use Rattle.std.specs.Prelude.{◌≡◌, ◌+◌, ◌<◌, ℕ, Some, map, length, slice_get, IfOk, OnOk};
-ghost use Rattle.code_layout.specs.Layout.{start_in};
-ghost use Rattle.stackmap_emit.specs.Inner.PlacedUnits.{ArePlacedBefore, numbered};
+ghost use Rattle.stackmap_emit.specs.Inner.PlacedUnits.{ArePlacedBefore, number_by, numbered};
 ghost use Rattle.stackmap_emit.specs.PlacedFrames.{frame_at, type_at};
 
 use class_model::{Frame, ListOf, LocalTypeList, NoMemory, VType, VTypeList};
 use std::alloc::Global;
 
-/// A frame whose uninitialised objects are named by numbers of items, with the offsets at which these start. It shares with the frame what
-/// it can.
-pub(crate) fn frame_at(alloc: Global, starts: &[u32], frame: &Frame) -> Result<Frame, NoMemory>
-    ensures { IfOk result (λ placed. placed ≡ frame_at (start_in starts.now) frame.now) }
+/// Numbers for numbers: those at their indices, or one for all others.
+#[derive(Clone, Copy)]
+pub(crate) struct Renumbering<'a> {
+    pub(crate) numbers: &'a [u32],
+    pub(crate) other: u32,
+}
+
+/// A frame whose uninitialised objects get other numbers. It shares with the frame what it can.
+pub(crate) fn frame_at(
+    alloc: Global,
+    starts: &Renumbering<'_>,
+    frame: &Frame,
+) -> Result<Frame, NoMemory>
+    ensures { IfOk result (λ placed. placed
+        ≡ frame_at (number_by starts.now.numbers.now starts.now.other) frame.now) }
 {
     let stack = stack_at(alloc, starts, frame.stack.as_slice())?;
     let locals = locals_at(alloc, starts, &frame.locals)?;
@@ -18,8 +28,9 @@ pub(crate) fn frame_at(alloc: Global, starts: &[u32], frame: &Frame) -> Result<F
 }
 
 // The types of stack entries so.
-fn stack_at(alloc: Global, starts: &[u32], types: &[VType]) -> Result<VTypeList, NoMemory>
-    ensures { IfOk result (λ placed. placed ≡ map (type_at (start_in starts.now)) types.now) }
+fn stack_at(alloc: Global, starts: &Renumbering<'_>, types: &[VType]) -> Result<VTypeList, NoMemory>
+    ensures { IfOk result (λ placed. placed
+        ≡ map (type_at (number_by starts.now.numbers.now starts.now.other)) types.now) }
 {
     let mut placed = ListOf::new(alloc);
     for entry in types {
@@ -31,10 +42,11 @@ fn stack_at(alloc: Global, starts: &[u32], types: &[VType]) -> Result<VTypeList,
 // The types of local units so.
 fn locals_at(
     alloc: Global,
-    starts: &[u32],
+    starts: &Renumbering<'_>,
     units: &LocalTypeList,
 ) -> Result<LocalTypeList, NoMemory>
-    ensures { IfOk result (λ placed. placed ≡ map (type_at (start_in starts.now)) units.now) }
+    ensures { IfOk result (λ placed. placed
+        ≡ map (type_at (number_by starts.now.numbers.now starts.now.other)) units.now) }
 {
     let mut placed = units.copy(alloc)?;
     for at in 0..units.listed() {
@@ -48,7 +60,7 @@ fn locals_at(
 
 // Changes a unit so.
 fn place_unit(
-    starts: &[u32],
+    starts: &Renumbering<'_>,
     units: &LocalTypeList,
     unit: &VType,
     at: usize,
@@ -56,8 +68,10 @@ fn place_unit(
 ) -> Result<(), NoMemory>
     requires there { at < length units.now }
     requires unit { slice_get units.now at ≡ Some unit.now }
-    requires before { ArePlacedBefore (start_in starts.now) units.now at placed.old }
-    ensures { OnOk result (ArePlacedBefore (start_in starts.now) units.now (at + 1) placed.new) }
+    requires before { ArePlacedBefore (number_by starts.now.numbers.now starts.now.other)
+        units.now at placed.old }
+    ensures { OnOk result (ArePlacedBefore (number_by starts.now.numbers.now starts.now.other)
+        units.now (at + 1) placed.new) }
 {
     if let Some(number) = number_of(unit) {
         placed.set(at, VType::Uninit(start_at(starts, number)))?;
@@ -65,7 +79,7 @@ fn place_unit(
     Ok(())
 }
 
-// The number of the item that names an uninitialised object.
+// The number that names an uninitialised object.
 fn number_of(of: &VType) -> Option<u32>
     ensures { (start : ℕ → ℕ) → type_at start of.now ≡ numbered start result of.now }
 {
@@ -83,8 +97,9 @@ fn number_of(of: &VType) -> Option<u32>
 }
 
 // A type so.
-fn type_at(starts: &[u32], of: &VType) -> Result<VType, NoMemory>
-    ensures { IfOk result (λ placed. placed ≡ type_at (start_in starts.now) of.now) }
+fn type_at(starts: &Renumbering<'_>, of: &VType) -> Result<VType, NoMemory>
+    ensures { IfOk result (λ placed. placed
+        ≡ type_at (number_by starts.now.numbers.now starts.now.other) of.now) }
 {
     match of {
         VType::Uninit(number) => Ok(VType::Uninit(start_at(starts, *number))),
@@ -92,12 +107,12 @@ fn type_at(starts: &[u32], of: &VType) -> Result<VType, NoMemory>
     }
 }
 
-// The offset of the item of a number, or 0.
-fn start_at(starts: &[u32], number: u32) -> u32
-    ensures { result ≡ start_in starts.now number }
+// The number for a number.
+fn start_at(starts: &Renumbering<'_>, number: u32) -> u32
+    ensures { result ≡ number_by starts.now.numbers.now starts.now.other number }
 {
-    match starts.get(number as usize) {
+    match starts.numbers.get(number as usize) {
         Some(start) => *start,
-        None => 0,
+        None => starts.other,
     }
 }

@@ -30,6 +30,7 @@ ghost use Rattle.member_link.specs.Fields.{FindsField};
 ghost use Rattle.member_link.specs.Machine.Classes.{handles_in, run_method_of, starts_from};
 ghost use Rattle.member_link.specs.Machine.FieldSteps.{is_barred};
 ghost use Rattle.member_link.specs.Machine.Links.{AreLinksOf};
+ghost use Rattle.member_link.specs.Machine.Codes.{call_op, instr_op};
 ghost use Rattle.member_link.specs.Machine.Programs.{Links, Program, headers_in};
 ghost use Rattle.member_link.specs.Machine.Replaced.{Replacement, replaced};
 ghost use Rattle.member_link.specs.Methods.{FindsMethod};
@@ -299,7 +300,8 @@ pub fn grown_classes_declare_what_passes()
 }
 
 /// An instruction whose operands fit the pool of a class file fits the pool of a grown one. What linking asks of it, and what its row asks
-/// behind a frame, holds there too, and the row leaves the same frame.
+/// behind a frame, holds there too, and the row leaves the same frame; and it means the same to the machine by the same links, as a
+/// call of a member does.
 pub fn a_grown_class_keeps_its_instructions()
     ensures operands { (old new : ClassFile) (max_locals : ℕ) (instr : Instr)
         → IsClassFile old
@@ -338,6 +340,17 @@ pub fn a_grown_class_keeps_its_instructions()
         → IsGrownOver scope now old.pool new.pool
         → row_frame before (row_of now before place instr)
         ≡ row_frame before (row_of scope before place instr) }
+    ensures runs { (scope now : RowScope) (old new : ClassFile) (max_locals : ℕ) (instr : Instr)
+        (links : Links) (number : ℕ → ℕ)
+        → IsClassFile old
+        → IsGrownClass old new
+        → OperandFits old.pool old.major max_locals instr
+        → IsGrownOver scope now old.pool new.pool
+        → instr_op links number now instr ≡ instr_op links number scope instr }
+    ensures calls { (scope now : RowScope) (links : Links) (opcode : ℕ) (reference : Reference)
+        → AreGrownHeaders scope.headers now.headers
+        → IsGrownHeader scope.own now.own
+        → call_op links now opcode reference ≡ call_op links scope opcode reference }
 {
     member_link::alike_classes_have_one_look_up();
 }

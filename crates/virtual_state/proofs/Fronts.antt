@@ -1,17 +1,19 @@
 -- Slots that are unusable to the end.
 use Rattle.std.proofs.Common.{◌≡◌, ◌||◌, ◌<◌, ◌≤◌, ◌++◌, ℕ, zero, suc, Bool, true, false, List, [], ◌∷◌, map, replicate, None, refl, sym, ap, ◌∙◌, inl, inr}
-use Rattle.std.specs.List.{list_any}
+use Rattle.std.specs.List.{filter, list_any}
 use Rattle.std.proofs.lemmas.Bool.{cases_lt}
-use Rattle.std.proofs.lemmas.List.{map-append}
+use Rattle.std.proofs.lemmas.List.{append-nil, map-append}
+use Rattle.std.proofs.lemmas.List.Elements.{filter-append}
 use Rattle.std.proofs.lemmas.List.Folds.{list_any-append}
 use Rattle.virtual_state.specs.Inner.Filling.{if_among, is_away, of_sites}
+use Rattle.virtual_state.specs.Inner.Listed.{holds_object}
 use Rattle.virtual_state.specs.Inner.Marks.{HasMarked}
 use Rattle.virtual_state.specs.Laws.Objects.{filter_in_order, same_objects}
 use Rattle.virtual_state.specs.Sites.{has}
 use Rattle.virtual_state.specs.States.{IsIncreasing, is_virtual, names, object_of, sites_of}
 use Rattle.virtual_state.specs.Without.{made_plain}
 use Rattle.virtual_state.specs.declared.slot.Slot.{Slot}
-use Rattle.virtual_state.specs.declared.slot.Slot.TheVariants.{Unusable}
+use Rattle.virtual_state.specs.declared.slot.Slot.TheVariants.{Plain, Virt, Unusable}
 use Rattle.virtual_state.specs.declared.slot.VObject.{VObject}
 use Rattle.virtual_state.proofs.Filling.{among_found, among_past}
 
@@ -33,8 +35,23 @@ any_listed test fails listed count =
 pub away_listed : (away : ℕ → Bool) (front listed : List Slot) (count : ℕ) → front ≡ listed ++ replicate count Unusable → list_any (is_away away) front ≡ list_any (is_away away) listed
 away_listed away front listed count is = ap (list_any (is_away away)) is ∙ any_listed (is_away away) refl listed count
 
-names_listed : (front listed : List Slot) (count : ℕ) → front ≡ listed ++ replicate count Unusable → (site : ℕ) → names front site ≡ names listed site
-names_listed front listed count is site = ap (λ (slots : List Slot). names slots site) is ∙ any_listed (is_virtual site) refl listed count
+none_held : (count : ℕ) → filter holds_object (replicate count Unusable) ≡ []
+none_held zero = refl
+none_held (suc count) = none_held count
+
+-- what front slots hold is what the listed ones do
+pub held_listed : (front listed : List Slot) (count : ℕ) → front ≡ listed ++ replicate count Unusable → filter holds_object front ≡ filter holds_object listed
+held_listed front listed count is =
+    ap (filter holds_object) is
+    ∙ filter-append holds_object listed (replicate count Unusable)
+    ∙ ap (λ (slots : List Slot). filter holds_object listed ++ slots) (none_held count)
+    ∙ append-nil (filter holds_object listed)
+
+names_held : (slots : List Slot) (site : ℕ) → names (filter holds_object slots) site ≡ names slots site
+names_held [] site = refl
+names_held (Plain ∷ slots) site = names_held slots site
+names_held (Virt one ∷ slots) site = ap (λ (b : Bool). is_virtual site (Virt one) || b) (names_held slots site)
+names_held (Unusable ∷ slots) site = names_held slots site
 
 unusable_made : (away : ℕ → Bool) (count : ℕ) → map (made_plain away) (replicate count Unusable) ≡ replicate count Unusable
 unusable_made away zero = refl
@@ -48,17 +65,17 @@ made_front away front listed count is =
 
 -- the sites of both parts of slots were marked
 pub both_marked :
-    (front back listed : List Slot) (count : ℕ) (none first second : List ℕ)
+    (front back held : List Slot) (none first second : List ℕ)
     → none ≡ []
-    → front ≡ listed ++ replicate count Unusable
-    → HasMarked none first (names listed)
+    → held ≡ filter holds_object front
+    → HasMarked none first (names held)
     → HasMarked first second (names back)
     → HasMarked [] second (names (front ++ back))
-both_marked front back listed count none first second empty is one other = record {
+both_marked front back held none first second empty is one other = record {
   kept = refl;
   marked = λ site.
       other.marked site
-      ∙ ap (λ (b : Bool). b || names back site) (one.marked site ∙ ap (λ (sites : List ℕ). has sites site || names listed site) empty ∙ sym (names_listed front listed count is site))
+      ∙ ap (λ (b : Bool). b || names back site) (one.marked site ∙ ap (λ (sites : List ℕ). has sites site || names held site) empty ∙ ap (λ (slots : List Slot). names slots site) is ∙ names_held front site)
       ∙ sym (list_any-append (is_virtual site) front back);
 }
 

@@ -5,3 +5,4 @@ pub mod Slots
 pub mod Comparing
 pub mod Places
 pub mod Filling
+pub mod Listed

@@ -3,3 +3,4 @@ pub mod Fields
 pub mod Removals
 pub mod Orders
 pub mod Ranks
+pub mod Gaps

@@ -1,4 +1,5 @@
 pub mod States
+pub mod Gaps
 pub mod Without
 pub mod Orders
 pub mod Sites

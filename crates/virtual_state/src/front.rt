@@ -1,6 +1,11 @@
 //! The first slots of states.
-ghost use Rattle.std.specs.Prelude.{◌≡◌, ◌+◌, ◌-◌, ◌≤◌, ◌++◌, length, replicate, slice_get, ◌==◌, IfOk};
+ghost use Rattle.std.specs.Prelude.{◌≡◌, ◌+◌, ◌-◌, ◌≤◌, ◌++◌, length, map, replicate, slice_get, ◌==◌, IfOk};
+ghost use Rattle.std.specs.List.{filter};
+ghost use Rattle.virtual_state.specs.Gaps.{true_from};
+ghost use Rattle.virtual_state.specs.Inner.Listed.{holds_object};
+ghost use Rattle.virtual_state.specs.States.{is_unusable};
 
+use crate::listed::ListedSlots;
 use crate::slot::{Slot, SlotList};
 use class_model::NoMemory;
 use std::alloc::Global;
@@ -11,7 +16,7 @@ use std::rc::Rc;
 /// that are unusable to the end take no space. Contracts see the list.
 #[derive(Drop)]
 pub struct FrontSlots {
-    listed: Rc<SlotList>,
+    listed: Rc<ListedSlots>,
     // how many unusable ones stand behind those
     unusable: usize,
 }
@@ -33,6 +38,7 @@ impl FrontSlots {
         requires { length listed + unusable ≤ 65536 }
         ensures { IfOk result (λ front. front ≡ listed ++ replicate unusable Slot.Unusable) }
     {
+        let listed = ListedSlots::of(alloc, listed)?;
         let listed = Rc::new(alloc, listed)?;
         Ok(FrontSlots { listed, unusable })
     }
@@ -42,7 +48,7 @@ impl FrontSlots {
         ensures len { result ≡ length self.now }
         ensures few { result ≤ 65536 }
     {
-        self.listed.len() + self.unusable
+        self.listed.as_slice().len() + self.unusable
     }
 
     /// Whether there is none.
@@ -72,6 +78,23 @@ impl FrontSlots {
             ≡ result.now ++ replicate (length self.now - length result.now) Slot.Unusable }
     {
         self.listed.as_slice()
+    }
+
+    /// The same slots, and the indices of the unusable ones among them.
+    pub fn listed_with_gaps(&self) -> (&[Slot], &[usize])
+        ensures listed { self.now
+            ≡ result.0.now
+            ++ replicate (length self.now - length result.0.now) Slot.Unusable }
+        ensures gaps { result.1.now ≡ true_from 0 (map is_unusable result.0.now) }
+    {
+        (self.listed.as_slice(), self.listed.gaps())
+    }
+
+    /// The slots that hold virtual objects.
+    pub(crate) fn held(&self) -> &[Slot]
+        ensures { result.now ≡ filter holds_object self.now }
+    {
+        self.listed.held()
     }
 
     /// The same slots, which are shared.

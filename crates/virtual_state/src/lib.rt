@@ -8,6 +8,7 @@ mod compare;
 mod depth;
 mod front;
 mod laws;
+mod listed;
 mod lost;
 mod making;
 mod marks;

@@ -141,7 +141,7 @@ fn reached_state(
     ensures { IfOk result (λ state. IsStateOf (front ++ back.value) table.now.value state) }
 {
     let mut reached = MarkedSites::new(alloc);
-    reached.mark_slots(front.listed())?;
+    reached.mark_slots(front.held())?;
     reached.mark_slots(back.as_slice())?;
     spread(&mut reached, table.as_ref(), table.as_ref())?;
     let objects = table_among(alloc, table, &reached)?;

@@ -1,6 +1,8 @@
 //! What a place of a frame or a field of a virtual object holds, and virtual objects.
 ghost use Rattle.std.specs.Prelude.{◌≡◌};
+ghost use Rattle.virtual_state.specs.Inner.Listed.{holds_object};
 ghost use Rattle.virtual_state.specs.Inner.Slots.{slot_eq};
+ghost use Rattle.virtual_state.specs.States.{is_unusable};
 
 use class_model::ListOf;
 
@@ -30,6 +32,28 @@ pub struct VObject {
 pub type VObjectList = ListOf<VObject>;
 
 impl Slot {
+    /// Whether it holds a virtual object.
+    pub(crate) fn holds_object(self) -> bool
+        ensures { result ≡ holds_object self }
+    {
+        match self {
+            Slot::Virt(_) => true,
+            Slot::Plain => false,
+            Slot::Unusable => false,
+        }
+    }
+
+    /// Whether it is unusable.
+    pub(crate) fn is_unusable(self) -> bool
+        ensures { result ≡ is_unusable self }
+    {
+        match self {
+            Slot::Unusable => true,
+            Slot::Plain => false,
+            Slot::Virt(_) => false,
+        }
+    }
+
     /// Whether two slots are the same.
     pub(crate) fn is_same(self, other: Slot) -> bool
         ensures { result ≡ slot_eq self other }

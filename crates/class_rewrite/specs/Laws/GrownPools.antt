@@ -16,7 +16,7 @@ use Rattle.stackmap_emit.specs.FrameConstants.{table_needs}
 -- ---- the pools that methods leave
 
 module _ (r : Rewriting) where
-  rewritten_begins : (at : MethodAt) (pool : Constants) (w : Rewritten) → IsRewritten r at pool w → Begins pool w.code_pool × Begins w.code_pool w.pool
+  pub rewritten_begins : (at : MethodAt) (pool : Constants) (w : Rewritten) → IsRewritten r at pool w → Begins pool w.code_pool × Begins w.code_pool w.pool
   rewritten_begins at pool w is = (grow_begins 64535 _ pool w.code_pool is.coded.grows, by (nat_le 50 is.host.class.major) is.grows) where
     by : (b : Bool) → (if b then grow 64535 w.code_pool (table_needs w.stated) else Some w.code_pool) ≡ Some w.pool → Begins w.code_pool w.pool
     by true e = grow_begins 64535 (table_needs w.stated) w.code_pool w.pool e

@@ -38,7 +38,7 @@ methods_same r class number (old ∷ olds) [] all = absurd all
 methods_same r class number (old ∷ olds) (new ∷ news) all =
     (method_same r (record { class = class; method = number }) old new all.0, methods_same r class (suc number) olds news all.1)
 
-added_begins : (r : Rewriting) (written : WrittenMethods) (file : ClassFile) (pool last : Constants) (added : List Method)
+pub added_begins : (r : Rewriting) (written : WrittenMethods) (file : ClassFile) (pool last : Constants) (added : List Method)
     → AddsMethods r written file pool last added
     → Begins pool last
 added_begins r written file pool last _ (adds_none none) = begins_itself pool

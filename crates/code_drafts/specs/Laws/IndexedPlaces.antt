@@ -10,7 +10,7 @@ use Rattle.class_model.specs.declared.instr.Instr.TheVariants.{Nop, Const, Ldc, 
 use Rattle.class_tree.specs.Headers.{Name}
 use Rattle.code_drafts.specs.ItemPlaces.{NameNews, NamesNew, item_places, new_of, places_in}
 use Rattle.code_drafts.specs.Laws.CarriedItems.{IsOfFlat, IsOfPoint, written_of_flat}
-use Rattle.code_drafts.specs.Laws.GrownNames.{ClassNamed, Compares, IsNamed, class_named, class_stays, grow_split, grown_names}
+use Rattle.making_code.specs.Laws.AddedConstants.{ClassNamed, Compares, IsNamed, class_named, class_stays, grow_split, grown_names}
 use Rattle.code_drafts.specs.Laws.PlacedBlocks.{written_places}
 use Rattle.code_drafts.specs.Laws.ReachedStarts.{finished}
 use Rattle.code_drafts.specs.Laws.WrittenPlaces.{carried_places, named_by, winstr_places, witem_places}

@@ -13,7 +13,7 @@ use Rattle.expanded_code.specs.Expanded.{Narrowing, Setting, callee_of, callee_s
 use Rattle.expanded_code.specs.Expansions.{Expands, Expansion, expands_none, expands_replaced, expands_site, expands_stays}
 use Rattle.expanded_code.specs.Sites.{HasFrames}
 use Rattle.expanded_runs.proofs.Plans.RowsGoOn.{goes_on}
-use Rattle.expanded_runs.proofs.RenumberedTargets.{falls_same}
+use Rattle.row_frames.specs.Laws.RenumberedTargets.{falls_same}
 use Rattle.expanded_runs.proofs.Types.OwnPoints.{falls_set}
 use Rattle.flow_code.specs.FlatCode.{FlatCode}
 use Rattle.flow_code.specs.TypedFrames.{FolderFrames}

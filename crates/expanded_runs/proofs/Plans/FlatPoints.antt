@@ -21,7 +21,7 @@ use Rattle.expanded_code.specs.Alone.{alone_points, handler_by, handlers_by, num
 use Rattle.expanded_code.specs.Expanded.{Argument, Narrowing, Setting, arguments, callee_of, callee_setting, frame_behind_stores, frame_stored, instr_points, narrowing, own_narrowing, own_points, point_in, points_before, points_from, points_of_callee, points_of_entry, set_frame, set_instr, store_points, test_points, tests_receiver, units_in}
 use Rattle.expanded_code.specs.Expansions.{Expands, Expansion, expands_none, expands_replaced, expands_site, expands_stays}
 use Rattle.expanded_code.specs.Sites.{HasFrames}
-use Rattle.expanded_runs.proofs.RenumberedTargets.{targets_numbered}
+use Rattle.row_frames.specs.Laws.RenumberedTargets.{targets_numbered}
 use Rattle.expanded_runs.proofs.Types.FrameFacts.{set_long}
 use Rattle.expanded_runs.proofs.Types.OwnPoints.{targets_set}
 use Rattle.flow_code.specs.TypedFrames.{FolderFrames}

@@ -22,7 +22,7 @@ use Rattle.expanded_code.specs.Expanded.{Setting, expanded, point_in, set_frame,
 use Rattle.expanded_code.specs.Expansions.{Coded, Expansion}
 use Rattle.expanded_code.specs.Sites.{HasFrames as HasTyping}
 use Rattle.expanded_runs.proofs.AloneProgram.{EachTyped}
-use Rattle.expanded_runs.proofs.RenumberedTargets.{falls_same, targets_numbered}
+use Rattle.row_frames.specs.Laws.RenumberedTargets.{falls_same, targets_numbered}
 use Rattle.expanded_runs.proofs.Runs.PositionLaws.{length_fits}
 use Rattle.expanded_runs.proofs.Runs.Positions.{Standing, frames_of, instrs_of, scope_of, start_of}
 use Rattle.expanded_runs.proofs.Runs.Standings.{IsStanding, Stands}

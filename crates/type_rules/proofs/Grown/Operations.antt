@@ -75,6 +75,21 @@ started_same links own super named no_pair = refl
 started_same links own super named (a_pair old new grows) =
     ap (λ (flags : ℕ). by_test named super (not (has flags INTERFACE) && (links.below own named && not (bytes_eq own named)))) grows.alike.same_flags
 
+start_grown : (links : Links) (old new : RowScope) → AreGrownHeaders old.headers new.headers → IsGrownHeader old.own new.own → (named : Name)
+    → special_start links new named ≡ special_start links old named
+start_grown links old new headers grows named =
+    started_is links new named
+    ∙ ap (λ (n : Name). started links n new.own.super_name named (class_named new.headers named)) grows.alike.same_name
+    ∙ ap (λ (super : Option Name). started links old.own.name super named (class_named new.headers named)) grows.alike.same_super
+    ∙ started_same links old.own.name old.own.super_name named (class_pair old.headers new.headers headers named)
+    ∙ sym (started_is links old named)
+
+-- A call of the same member is the same operation where the current class and those around it have grown.
+pub call_grown : (links : Links) (old new : RowScope) → AreGrownHeaders old.headers new.headers → IsGrownHeader old.own new.own
+    → (opcode : ℕ) (r : Reference)
+    → call_op links new opcode r ≡ call_op links old opcode r
+call_grown links old new headers grows opcode r = rw (start_grown links old new headers grows r.class) refl
+
 -- ---- operations
 
 module _ (major : ℕ) (pool more : Constants) (place : ℕ) (hold : AllHold (entries_checks major pool place pool)) where
@@ -104,16 +119,8 @@ module _ (major : ℕ) (pool more : Constants) (place : ℕ) (hold : AllHold (en
     abbrev after : RowScope
     after = record s { headers = headers; own = own; pool = later }
 
-    start_same : (named : Name) → special_start links after named ≡ special_start links before named
-    start_same named =
-        started_is links after named
-        ∙ ap (λ (n : Name). started links n own.super_name named (class_named headers named)) grows.alike.same_name
-        ∙ ap (λ (super : Option Name). started links s.own.name super named (class_named headers named)) grows.alike.same_super
-        ∙ started_same links s.own.name s.own.super_name named (class_pair s.headers headers grown_headers named)
-        ∙ sym (started_is links before named)
-
     call_same : (opcode : ℕ) (r : Reference) → call_op links after opcode r ≡ call_op links before opcode r
-    call_same opcode r = rw (start_same r.class) refl
+    call_same = call_grown links before after grown_headers grows
 
     refers : (index : ℕ) (op also : Reference → Op) → ((r : Reference) → also r ≡ op r) → IsSameReference pool later index → referring after index also ≡ referring before index op
     refers index op also each e =
@@ -126,7 +133,7 @@ module _ (major : ℕ) (pool more : Constants) (place : ℕ) (hold : AllHold (en
         rw (name_same major pool more place hold member there, desc_same major pool more place hold member there, grows.alike.same_name) refl
     dynamic_same index o e = refl
 
-    op_same : (max_locals : ℕ) (instr : Instr) → OperandFits pool major max_locals instr → instr_op links number after instr ≡ instr_op links number before instr
+    pub op_same : (max_locals : ℕ) (instr : Instr) → OperandFits pool major max_locals instr → instr_op links number after instr ≡ instr_op links number before instr
     op_same max_locals (Ldc index) h = load_same IsLoadable index (λ h. h) h
     op_same max_locals (Ldc2 index) h = load_same IsLoadable2 index (λ h. h) h
     op_same max_locals (GetStatic index) h = refers index _ _ (λ r. refl) (field_reads major pool more place hold index h)

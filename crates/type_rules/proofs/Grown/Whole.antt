@@ -27,7 +27,7 @@ use Rattle.member_link.specs.Bodies.{asked_access}
 use Rattle.member_link.specs.BodyTyping.{RowHolds}
 use Rattle.member_link.specs.Declarations.{Site, site_of}
 use Rattle.member_link.specs.Machine.Classes.{run_method_of}
-use Rattle.member_link.specs.Machine.Codes.{method_code}
+use Rattle.member_link.specs.Machine.Codes.{instr_op, method_code}
 use Rattle.member_link.specs.Machine.Programs.{Code as RunCode, Links, RunMethod}
 use Rattle.member_link.specs.RowScope.{RowScope}
 use Rattle.member_link.specs.Rows.Row.{row_frame}
@@ -41,7 +41,7 @@ use Rattle.type_rules.proofs.Grown.Links.{code_still, frames_still, handlers_sti
 use Rattle.type_rules.proofs.Grown.Methods.{FindAlike, looks_up}
 use Rattle.type_rules.proofs.Grown.Headers.{grown_alike}
 use Rattle.type_rules.proofs.Grown.Operands.{operands_still}
-use Rattle.type_rules.proofs.Grown.Operations.{code_same}
+use Rattle.type_rules.proofs.Grown.Operations.{code_same, op_same}
 use Rattle.type_rules.proofs.Grown.Pools.{operands_read}
 use Rattle.type_rules.proofs.Grown.Rows.{KeepsRow, asked_kept, left_same, row_held}
 use Rattle.type_rules.proofs.Grown.Table.{ReadsSame, row_kept}
@@ -59,6 +59,15 @@ module _ (old new : ClassFile) (is : IsClassFile old) (grown : IsGrownClass old 
   operands_kept =
       subst (λ (c : ClassFile). OperandFits c.pool c.major max_locals instr) (sym (grown_is old new is grown))
       (operands_still old.major old.pool grown.more 10 constants old.major max_locals instr fits)
+
+  pub op_still : (links : Links) (numbers : ℕ → ℕ) (s : RowScope) (after : Headers) (own : Header) → AreGrownHeaders s.headers after
+      → IsGrownHeader s.own own
+      → s.pool ≡ old.pool
+      → instr_op links numbers (record s { headers = after; own = own; pool = new.pool }) instr ≡ instr_op links numbers s instr
+  op_still links numbers s after own headers grows of_pool =
+      ap (λ (p : Constants). instr_op links numbers (record s { headers = after; own = own; pool = p }) instr) grown.pool
+      ∙ op_same old.major old.pool grown.more 10 constants links numbers s after own headers grows max_locals instr fits
+      ∙ ap (λ (p : Constants). instr_op links numbers (record s { pool = p }) instr) (sym of_pool)
 
   module _ (find : FindAlike) (before after : Headers) (headers : AreGrownHeaders before after) where
     pub instr_linked : (site : Site) → AllHold (instr_use_checks (record { headers = before; pool = old.pool; site = site }) instr)

@@ -1,6 +1,6 @@
 use Rattle.std.proofs.Common.{sym, ap, ◌∙◌}
 use Rattle.std.proofs.lemmas.Result.{IfOk-weaker}
-use Rattle.code_drafts.proofs.WrittenLaws.{instr_is}
+use Rattle.code_drafts.specs.Laws.LedRoutes.{instr_is}
 use Rattle.code_drafts.proofs.carried.written_targets.Goals as goal
 use Rattle.code_drafts.specs.Emits.{Writing}
 use Rattle.flow_code.specs.declared.point.FlatInstr.{FlatInstr}

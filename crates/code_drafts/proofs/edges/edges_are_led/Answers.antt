@@ -1,6 +1,6 @@
 use Rattle.std.proofs.Common.{subst}
 use Rattle.class_tree.specs.Headers.{headers_of}
-use Rattle.code_drafts.proofs.LedLaws.{edges_led}
+use Rattle.code_drafts.specs.Laws.LedRoutes.{edges_led}
 use Rattle.code_drafts.proofs.edges.edges_are_led.Goals as goal
 use Rattle.code_drafts.specs.Emits.{Writing}
 use Rattle.member_link.specs.Machine.Links.{AreLinksOf}

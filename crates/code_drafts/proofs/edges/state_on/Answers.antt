@@ -1,6 +1,6 @@
 use Rattle.std.proofs.Common.{ap, sym, subst, ◌∙◌, option_map}
-use Rattle.code_drafts.proofs.EmitLaws.{if_ok}
-use Rattle.code_drafts.proofs.LedLaws.{state_behind}
+use Rattle.code_drafts.specs.Laws.EmittedParts.{if_ok}
+use Rattle.code_drafts.specs.Laws.LedRoutes.{state_behind}
 use Rattle.code_drafts.proofs.edges.state_on.Goals as goal
 use Rattle.code_drafts.specs.LedEdges.{AreLed}
 use Rattle.plan_flow.specs.declared.edge.Edge.{Edge}

@@ -2,7 +2,8 @@ use Rattle.std.proofs.Common.{rules, [], ◌∷◌}
 use Rattle.std.specs.Result.{IsErrOf}
 use Rattle.code_drafts.specs.Writable.{scope}
 use Rattle.flow_code.specs.declared.reason.KeptFault.TheVariants.{Kept}
-use Rattle.code_drafts.proofs.WrittenLaws.{draft_emits, draft_full, puts_full, puts_then, throw_draft, throw_item}
+use Rattle.code_drafts.proofs.WrittenLaws.{draft_emits, draft_full, throw_draft, throw_item}
+use Rattle.code_drafts.specs.Laws.EmittedParts.{puts_full, puts_then}
 use Rattle.code_drafts.proofs.templates.write_null_test.Goals as goal
 use Rattle.code_drafts.specs.Inner.WrittenWords.{null_jump}
 

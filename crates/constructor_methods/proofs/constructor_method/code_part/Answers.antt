@@ -6,7 +6,7 @@ use Rattle.class_tree.specs.Headers.{headers_of}
 use Rattle.flow_code.specs.declared.reason.KeptFault.TheVariants.{Kept}
 use Rattle.making_code.specs.ConstructorCode.{bytes_from}
 use Rattle.constructor_methods.proofs.ConstructorMethodLaws.{instrs_few, instrs_short, part_of, raised, unraised}
-use Rattle.constructor_methods.proofs.DescribedConstructors.{descriptors, descriptors_describe}
+use Rattle.materialise.specs.Laws.DescribedConstructors.{descriptors, descriptors_describe}
 use Rattle.constructor_methods.proofs.constructor_method.code_part.Goals as goal
 use Rattle.constructor_methods.specs.Inner.ConstructorWords.{units_of_descs}
 use Rattle.constructor_methods.proofs.constructor_method.code_part.Goals.{then-call-stores, else-call-stores}

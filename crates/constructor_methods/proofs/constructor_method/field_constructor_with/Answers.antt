@@ -6,7 +6,7 @@ use Rattle.class_tree.specs.declared.place.Place.TheVariants.{Folder}
 use Rattle.flow_code.specs.declared.reason.KeptFault.TheVariants.{Kept}
 use Rattle.constructor_methods.proofs.ConstructorFields.{few_split, header_of_class, own_few}
 use Rattle.constructor_methods.proofs.ConstructorMethodLaws.{of_number}
-use Rattle.constructor_methods.proofs.DescribedConstructors.{descriptors, descriptors_describe}
+use Rattle.materialise.specs.Laws.DescribedConstructors.{descriptors, descriptors_describe}
 use Rattle.constructor_methods.proofs.FewNeeds.{not_full}
 use Rattle.constructor_methods.proofs.constructor_method.field_constructor_with.Goals as goal
 

@@ -1,4 +1,3 @@
-use Rattle.std.proofs.Common.{[], ◌∷◌}
 use Rattle.making_code.specs.Constants.{needs_itself}
 use Rattle.materialise.proofs.ConstantLaws.{if_ok, itself_means, last_itself, on_ok}
 use Rattle.materialise.proofs.meant.add_itself.Goals as goal

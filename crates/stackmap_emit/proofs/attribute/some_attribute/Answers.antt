@@ -40,7 +40,7 @@ returns-clause-attribute c =
     let adds : Adds c.add_name.new.pool [] (placed_needs c.args.frames.now) c.add_frames.new.pool classes =
     subst (λ (list : List PlacedFrame). Adds c.add_name.new.pool [] (placed_needs list) c.add_frames.new.pool classes) c.as_slice.ensures c.in_ok-classes.ensures.ok in
     attribute_is c.add_name.new.pool c.add_frames.new.pool c.args.entry.now c.args.frames.now classes c.in_ok-name.name c.in_ok-bytes.bytes c.requires.some
-    c.in_ok-name.ensures.index adds c.in_ok-bytes.ensures.chosen
+    c.in_ok-name.ensures.index adds c.in_ok-bytes.ensures.chosen c.in_ok-bytes.ensures.read
 
 pub returns-clause-ok : goal.returns-clause-ok
 returns-clause-ok c =

@@ -1,7 +1,7 @@
 use Rattle.std.proofs.Common.{◌≡◌, map, take}
-use Rattle.code_layout.specs.Layout.{start_in}
 use Rattle.stackmap_emit.proofs.placing.stack_at.Given as goal
 use Rattle.stackmap_emit.specs.PlacedFrames.{type_at}
+use Rattle.stackmap_emit.specs.Inner.PlacedUnits.{number_by}
 
 abbrev pub invariant-loop-entry : goal.invariant-loop-entry
-invariant-loop-entry l = l.placed ≡ map (type_at (start_in l.starts)) (take l.entry-index l.types)
+invariant-loop-entry l = l.placed ≡ map (type_at (number_by l.starts.numbers.now l.starts.other)) (take l.entry-index l.types)

@@ -1,4 +1,4 @@
-use Rattle.std.proofs.Common.{◌≡◌, ◌++◌, ◌-◌, [], List, length, refl, sym, subst, ◌∙◌}
+use Rattle.std.proofs.Common.{◌≡◌, ◌++◌, [], List, refl, sym, subst, ◌∙◌}
 use Rattle.virtual_state.proofs.Fronts.{both_marked}
 use Rattle.virtual_state.proofs.Reaching.{AreReached, search_reaches, reached_is_state, reached_is_of}
 use Rattle.virtual_state.specs.Inner.Filling.{of_sites}
@@ -14,10 +14,10 @@ pub from_parts-requires : goal.from_parts-requires
 from_parts-requires c =
     let all = c.args.front ++ c.args.back.value in
     let table = c.args.table.now.value in
-    let listed = c.listed.result.now in
+    let held = c.held.result.now in
     let start = c.mark_slots-2.new.self in
     let back = subst (λ (slots : List Slot). HasMarked c.mark_slots.new.self start (names slots)) (c.as_slice.ensures ∙ c.deref.ensures) c.in_ok-mark_slots-2.ensures in
-    let marked : HasMarked [] start (names all) = both_marked c.args.front c.args.back.value listed (length c.args.front - length listed) c.new-reached.result c.mark_slots.new.self start c.new-reached.ensures c.listed.ensures c.in_ok-mark_slots.ensures back in
+    let marked : HasMarked [] start (names all) = both_marked c.args.front c.args.back.value held c.new-reached.result c.mark_slots.new.self start c.new-reached.ensures c.held.ensures c.in_ok-mark_slots.ensures back in
     let reached : AreReached all table c.spread.new.sites = search_reaches all table [] start c.spread.new.sites refl marked
     (subst (λ (one : List VObject). HasSpread start c.spread.new.sites one table) c.as_ref.ensures
     (subst (λ (other : List VObject). HasSpread start c.spread.new.sites c.as_ref.result.now other) c.as_ref-2.ensures c.in_ok-spread.ensures)) in
@@ -29,10 +29,10 @@ pub returns : goal.returns
 returns c =
     let all = c.args.front ++ c.args.back.value in
     let table = c.args.table.now.value in
-    let listed = c.listed.result.now in
+    let held = c.held.result.now in
     let start = c.mark_slots-2.new.self in
     let back = subst (λ (slots : List Slot). HasMarked c.mark_slots.new.self start (names slots)) (c.as_slice.ensures ∙ c.deref.ensures) c.in_ok-mark_slots-2.ensures in
-    let marked : HasMarked [] start (names all) = both_marked c.args.front c.args.back.value listed (length c.args.front - length listed) c.new-reached.result c.mark_slots.new.self start c.new-reached.ensures c.listed.ensures c.in_ok-mark_slots.ensures back in
+    let marked : HasMarked [] start (names all) = both_marked c.args.front c.args.back.value held c.new-reached.result c.mark_slots.new.self start c.new-reached.ensures c.held.ensures c.in_ok-mark_slots.ensures back in
     let reached : AreReached all table c.spread.new.sites = search_reaches all table [] start c.spread.new.sites refl marked
     (subst (λ (one : List VObject). HasSpread start c.spread.new.sites one table) c.as_ref.ensures
     (subst (λ (other : List VObject). HasSpread start c.spread.new.sites c.as_ref.result.now other) c.as_ref-2.ensures c.in_ok-spread.ensures)) in

@@ -1,5 +1,5 @@
 use Rattle.std.proofs.Common.{rules, ◌≡◌, ◌++◌, ◌∷◌, [], length, ◌+◌, ◌<◌, ◌≤◌, Bool, true, false, sym, subst}
-use Rattle.code_drafts.proofs.KeptLaws.{counted_more, past_entries, past_length, stays_long}
+use Rattle.code_drafts.specs.Laws.KeptCounts.{counted_more, past_entries, past_length, stays_long}
 use Rattle.code_drafts.specs.Counts.{AreCounted, handlers_of}
 use Rattle.code_drafts.specs.Drafts.{Keeps}
 use Rattle.code_drafts.proofs.kept.KeptItems.push.Goals as goal

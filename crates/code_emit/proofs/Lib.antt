@@ -1,0 +1,10 @@
+mod DecidedLaws
+mod DraftedLaws
+mod EdgeLaws
+mod EmittedLaws
+mod InstructionLaws
+mod MadeLaws
+mod PadLaws
+mod PassLaws
+mod PointLaws
+mod PutLaws

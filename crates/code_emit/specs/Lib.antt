@@ -1,0 +1,2 @@
+pub mod EmittedCode
+pub mod Inner

@@ -1,0 +1,13 @@
+use Rattle.written_files.proofs.FieldConstructors.Linking.{FindsOne, constructor_linked}
+use Rattle.written_files.proofs.FieldConstructors.Typing.{Laws}
+use Rattle.written_files.proofs.laws.a_field_constructor_is_linked.Goals as goal
+
+pub returns : goal.returns
+returns c =
+    let laws : Laws = record {
+      compares = c.constants_compare_by_value.ensures;
+      spells = λ at instr has numbers. (c.the_chosen_spelling_is_of_the_table.ensures.chosen at instr has numbers).shortest.spells;
+      header = c.a_grown_class_has_a_grown_header.ensures.class;
+    } in
+    let finds : FindsOne = record { field = c.a_look_up_finds_one_field.ensures; method = c.a_look_up_finds_one_method.ensures } in
+    λ headers constructor file s is linked. constructor_linked laws finds headers constructor file s is linked

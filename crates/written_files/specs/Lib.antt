@@ -1,0 +1,2 @@
+pub mod FieldConstructors
+pub mod LinkedConstructors

@@ -1,0 +1,72 @@
+//! Laws of written classes.
+ghost use Rattle.std.specs.Prelude.{◌≡◌, ◌++◌, ℕ, List, Some};
+ghost use Rattle.std.specs.List.{AllByRecursion};
+ghost use Rattle.class_model.specs.Header.{method_member};
+ghost use Rattle.class_model.specs.Pool.{Constants};
+ghost use Rattle.class_model.specs.PoolChecks.{IsFieldDescriptor};
+ghost use Rattle.class_model.specs.declared.class_file.ClassFile.{ClassFile};
+ghost use Rattle.class_model.specs.declared.class_file.Method.{Method};
+ghost use Rattle.class_model.specs.declared.frame.Frame.{Frame};
+ghost use Rattle.class_tree.specs.Headers.{IsThere, Headers, Name};
+ghost use Rattle.class_tree.specs.Layouts.{instance_fields};
+ghost use Rattle.making_code.specs.Constants.{grow};
+ghost use Rattle.making_code.specs.ConstructorCode.{IsConstructorMethod};
+ghost use Rattle.making_code.specs.FieldConstructor.{constructor_method_needs};
+ghost use Rattle.member_link.specs.References.{DescriptorNames, FieldTypeNames};
+ghost use Rattle.member_link.specs.Scope.{Scope};
+ghost use Rattle.type_rules.specs.Typed.{Typed};
+ghost use Rattle.written_files.specs.FieldConstructors.{IsConstructorIn, IsDescribed, constructor_member};
+ghost use Rattle.written_files.specs.LinkedConstructors.{HasLinkedMembers, IsLinkedMethod};
+
+use code_bytes::the_chosen_spelling_is_of_the_table;
+use member_link::{a_look_up_finds_one_field, a_look_up_finds_one_method};
+use type_rules::a_grown_class_has_a_grown_header;
+
+/// Frames type the field constructor of a class where it stands in the written class (JVM Specification SE 8, 4.10.1.6), access to protected
+/// members with it (4.10.1.8): it calls the constructor of the superclass on its uninitialised `this`, and stores into fields of its own class.
+pub fn a_field_constructor_is_typed()
+    ensures { (headers : Headers) (constructor : Name → List ℕ) (file : ClassFile) (s : Scope)
+        → IsConstructorIn headers constructor file s
+        → (frames : List Frame) × Typed s frames }
+{
+    the_chosen_spelling_is_of_the_table();
+    a_grown_class_has_a_grown_header();
+    class_model::constants_compare_by_value();
+}
+
+/// Every reference of that constructor passes (JVM Specification SE 8, 5.4.3 and 5.4.4), where the constructor that it calls may be called.
+pub fn a_field_constructor_is_linked()
+    ensures { (headers : Headers) (constructor : Name → List ℕ) (file : ClassFile) (s : Scope)
+        (is : IsConstructorIn headers constructor file s)
+        → HasLinkedMembers headers constructor file is.above s
+        → IsLinkedMethod s }
+{
+    the_chosen_spelling_is_of_the_table();
+    a_grown_class_has_a_grown_header();
+    a_look_up_finds_one_field();
+    a_look_up_finds_one_method();
+    class_model::constants_compare_by_value();
+}
+
+/// It is a method of the class by its name, its descriptor and its flags, wherever the pool has its constants.
+pub fn a_field_constructor_is_a_member()
+    ensures { (headers : Headers) (constructor : Name → List ℕ) (class : Name)
+        (before pool more : Constants) (method : Method)
+        → grow 65535 before (constructor_method_needs headers constructor class) ≡ Some pool
+        → IsConstructorMethod headers constructor class pool method
+        → method_member (pool ++ more) method ≡ constructor_member constructor class }
+{
+    class_model::constants_compare_by_value();
+}
+
+/// The classes that its descriptor names are there, where those of the fields' types are.
+pub fn a_field_constructor_names_classes_that_are_there()
+    ensures { (headers among : Headers) (constructor : Name → List ℕ) (class : Name)
+        → IsDescribed headers constructor class
+        → AllByRecursion (λ field. IsFieldDescriptor field.desc) (instance_fields headers class)
+        → AllByRecursion (λ field. FieldTypeNames (IsThere among) field.desc)
+        (instance_fields headers class)
+        → DescriptorNames (IsThere among) (constructor class) }
+{
+    class_model::parameters_are_spelled();
+}

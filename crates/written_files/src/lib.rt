@@ -1,0 +1,9 @@
+//! What written classes are as class files: functions that do nothing, whose contracts say what always holds.
+#![tactic(auto)]
+
+mod laws;
+
+pub use laws::{
+    a_field_constructor_is_a_member, a_field_constructor_is_linked, a_field_constructor_is_typed,
+    a_field_constructor_names_classes_that_are_there,
+};
