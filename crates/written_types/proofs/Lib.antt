@@ -20,3 +20,10 @@ mod FramedBodies
 mod TypedBodies
 mod BlockEnds
 mod Given
+mod Placing
+mod FinishedBlocks
+mod EdgeRows
+mod RouteEdges
+mod EdgeFrames
+mod BlockKinds
+mod Targets
