@@ -6,11 +6,11 @@ use Rattle.std.proofs.lemmas.Option.{none-some, same_Some}
 use Rattle.flow_code.specs.FlatCode.{FlatCode, point_at}
 use Rattle.flow_code.specs.declared.point.Point.{Point}
 use Rattle.plan_flow.specs.Laws.RoutedPlans.{HasRoute, route_at}
-use Rattle.plan_flow.specs.Laws.WrittenBlocks.{begins_with_first, blocks_behind, first_block, made_next, next_part}
-use Rattle.plan_flow.specs.Laws.WrittenPads.{pad_block}
+use Rattle.plan_flow.specs.Laws.WrittenBlocks.{begins_with_first, blocks_behind, first_block, holds_of_both, made_next, next_part, pads_of}
+use Rattle.plan_flow.specs.Laws.WrittenPads.{AreNone, none_of_reached, pad_block}
 use Rattle.plan_flow.specs.PlanScope.{PlanScope}
 use Rattle.plan_flow.specs.Written.Blocks.{Block, BlockOf, before_point, blocks_of, handler_pad, handler_pad_of, handler_pads, instruction_block, is_decided, jump_pad, jump_pad_of, jump_pads, make_block, making, next_block, of_point, of_reached, on_next_edge, point_blocks, state_written}
-use Rattle.plan_flow.specs.Written.Finish.{Finished, end_of, finish}
+use Rattle.plan_flow.specs.Written.Finish.{Finished, begins_point, end_of, finish}
 use Rattle.plan_flow.specs.Written.Routes.{Route, RouteEdge, Routes, edge_by}
 use Rattle.plan_flow.specs.declared.edge.EdgeKind.{EdgeKind}
 use Rattle.plan_flow.specs.declared.edge.EdgeKind.TheVariants as edges
@@ -75,6 +75,16 @@ made_before s at route = record {
   leaves = None;
 }
 
+-- what is made of the points behind one
+abbrev pub blocks_after : PlanScope → Routes → ℕ → List Block
+blocks_after s routes at = of_reached (point_blocks s) (suc at) (drop (suc at) s.flat.points) (drop (suc at) routes)
+
+-- no block behind begins a point
+pub record PadsBehind (s : PlanScope) (behind : List Finished) : Type 0 where
+  pub right : List Block
+  pub is : behind ≡ finish s.flat right
+  pub none : (to : ℕ) → AreNone (begins_point to) right
+
 pub data BlockKind (w : Writing) (given : Given w) (one : Finished) (behind : List Finished) : Type 0 where
   makes_before_point : (at : ℕ) (point : Point) (route : Route)
       → point_at w.s.flat at ≡ Some point
@@ -84,6 +94,8 @@ pub data BlockKind (w : Writing) (given : Given w) (one : Finished) (behind : Li
       → BlockKind w given one behind
   of_instruction : (at : ℕ) (point : Point) (route : Route)
       → AtInstruction w given at point route one behind
+      → behind ≡ finish w.s.flat
+      ((next_block w.s at (edge_by route edges.Next) ++ blocks_after w.s given.setting.routes at) ++ pads_of w.s given.setting.routes)
       → BlockKind w given one behind
   makes_on_next : (at number : ℕ) (point : Point) (route : Route) (edge : RouteEdge)
       → point_at w.s.flat at ≡ Some point
@@ -98,6 +110,7 @@ pub data BlockKind (w : Writing) (given : Given w) (one : Finished) (behind : Li
       → slice_get route.edges number ≡ Some edge
       → IsPad of
       → one.block ≡ pad_block w.s of edge edge.made
+      → PadsBehind w.s behind
       → BlockKind w given one behind
 
 -- ---- pads
@@ -137,6 +150,50 @@ made_block s of at state (site ∷ sites) order leaves block right between =
     let both = in_one _ block between.left right between.is in
     record { is = both.0; last = both.1 }
 
+-- pads begin no point
+none_made : (s : PlanScope) (to : ℕ) (of : BlockOf) (edge : RouteEdge) (made : List ℕ) (leaves : Option ℕ) → begins_point to of ≡ false
+    → AreNone (begins_point to) (make_block s of edge.to edge.state made edge.order leaves)
+none_made s to of edge [] leaves none = tt
+none_made s to of edge (site ∷ sites) leaves none = (none, tt)
+
+none_of_edges : (is_it : BlockOf → Bool) (pad_of : RouteEdge → List Block) (all : List RouteEdge)
+    → ((edge : RouteEdge) → AreNone is_it (pad_of edge))
+    → AreNone is_it (flat_map pad_of all)
+none_of_edges is_it pad_of [] each = tt
+none_of_edges is_it pad_of (edge ∷ others) each =
+    holds_of_both (λ block. is_it block.of ≡ false) (pad_of edge) (flat_map pad_of others) (each edge) (none_of_edges is_it pad_of others each)
+
+pub none_in_jumps : (s : PlanScope) (to : ℕ) (points : List Point) (routes : Routes)
+    → AreNone (begins_point to) (of_reached (jump_pads s) 0 points routes)
+none_in_jumps s to points routes =
+    none_of_reached (begins_point to) (jump_pads s) 0 points routes (λ at point route low.
+    none_of_edges (begins_point to) (λ edge. jump_pad_of s at (is_decided point route) edge edge.by) route.edges
+    (λ edge. of_kind at edge (is_decided point route) edge.by)) where
+      of_kind : (at : ℕ) (edge : RouteEdge) (decided : Bool) (by : EdgeKind) → AreNone (begins_point to) (jump_pad_of s at decided edge by)
+      of_kind at edge false (edges.Jump one) = none_made s to (jump_pad at one) edge edge.made (Some edge.to) refl
+      of_kind at edge true (edges.Jump one) = tt
+      of_kind at edge false edges.Next = tt
+      of_kind at edge true edges.Next = tt
+      of_kind at edge false (edges.Handler one) = tt
+      of_kind at edge true (edges.Handler one) = tt
+
+pub none_in_handlers : (s : PlanScope) (to : ℕ) (points : List Point) (routes : Routes)
+    → AreNone (begins_point to) (of_reached (handler_pads s) 0 points routes)
+none_in_handlers s to points routes =
+    none_of_reached (begins_point to) (handler_pads s) 0 points routes (λ at point route low.
+    none_of_edges (begins_point to) (λ edge. handler_pad_of s at edge edge.by) route.edges (λ edge. of_kind at edge edge.by)) where
+      of_kind : (at : ℕ) (edge : RouteEdge) (by : EdgeKind) → AreNone (begins_point to) (handler_pad_of s at edge by)
+      of_kind at edge (edges.Handler one) = none_made s to (handler_pad at one) edge edge.made (Some edge.to) refl
+      of_kind at edge edges.Next = tt
+      of_kind at edge (edges.Jump one) = tt
+
+none_behind : (is_it : BlockOf → Bool) (all left right : List Block) (block : Block) → all ≡ left ++ (block ∷ right) → AreNone is_it all
+    → AreNone is_it right
+none_behind is_it all left right block is none = of_left left (subst (AreNone is_it) is none) where
+  of_left : (left : List Block) → AreNone is_it (left ++ (block ∷ right)) → AreNone is_it right
+  of_left [] all = all.1
+  of_left (first ∷ left) all = of_left left all.1
+
 module _ (w : Writing) (given : Given w) (fit : EdgesFit w given) where
   abbrev routes : Routes
   routes = given.setting.routes
@@ -145,8 +202,9 @@ module _ (w : Writing) (given : Given w) (fit : EdgesFit w given) where
 
   of_jump_pad : (one : Finished) (behind : List Finished) (right : List Block)
       → OfPoint (jump_pads w.s) 0 w.s.flat.points routes one.block right
+      → PadsBehind w.s behind
       → BlockKind w given one behind
-  of_jump_pad one behind right p =
+  of_jump_pad one behind right p rest =
       of_edge (of_some_item (λ (edge : RouteEdge). jump_pad_of w.s (0 + p.at) (is_decided p.point p.route) edge edge.by) p.route.edges one.block
       p.between.left p.middle p.between.is) where
         of_kind : (number : ℕ) (edge : RouteEdge) (right : List Block) (decided : Bool) (by : EdgeKind)
@@ -155,7 +213,7 @@ module _ (w : Writing) (given : Given w) (fit : EdgesFit w given) where
             → BlockKind w given one behind
         of_kind number edge right false (edges.Jump target) is between =
             of_pad p.at number p.point p.route edge (jump_pad (0 + p.at) target) p.there p.is_route is tt
-            (made_block w.s (jump_pad (0 + p.at) target) edge.to edge.state edge.made edge.order (Some edge.to) one.block right between).is
+            (made_block w.s (jump_pad (0 + p.at) target) edge.to edge.state edge.made edge.order (Some edge.to) one.block right between).is rest
         of_kind number edge right true (edges.Jump target) is between = absurd (in_none one.block between.left right between.is)
         of_kind number edge right false edges.Next is between = absurd (in_none one.block between.left right between.is)
         of_kind number edge right true edges.Next is between = absurd (in_none one.block between.left right between.is)
@@ -168,8 +226,9 @@ module _ (w : Writing) (given : Given w) (fit : EdgesFit w given) where
 
   of_handler_pad : (one : Finished) (behind : List Finished) (right : List Block)
       → OfPoint (handler_pads w.s) 0 w.s.flat.points routes one.block right
+      → PadsBehind w.s behind
       → BlockKind w given one behind
-  of_handler_pad one behind right p =
+  of_handler_pad one behind right p rest =
       of_edge (of_some_item (λ (edge : RouteEdge). handler_pad_of w.s (0 + p.at) edge edge.by) p.route.edges one.block p.between.left p.middle
       p.between.is) where
         of_kind : (number : ℕ) (edge : RouteEdge) (right : List Block) (by : EdgeKind)
@@ -178,7 +237,7 @@ module _ (w : Writing) (given : Given w) (fit : EdgesFit w given) where
             → BlockKind w given one behind
         of_kind number edge right (edges.Handler handler) is between =
             of_pad p.at number p.point p.route edge (handler_pad (0 + p.at) handler) p.there p.is_route is tt
-            (made_block w.s (handler_pad (0 + p.at) handler) edge.to edge.state edge.made edge.order (Some edge.to) one.block right between).is
+            (made_block w.s (handler_pad (0 + p.at) handler) edge.to edge.state edge.made edge.order (Some edge.to) one.block right between).is rest
         of_kind number edge right edges.Next is between = absurd (in_none one.block between.left right between.is)
         of_kind number edge right (edges.Jump target) is between = absurd (in_none one.block between.left right between.is)
 
@@ -187,8 +246,8 @@ module _ (w : Writing) (given : Given w) (fit : EdgesFit w given) where
 
   -- ---- blocks of a point
 
-  abbrev pub points_behind : ℕ → List Block
-  points_behind at = of_reached (point_blocks w.s) (suc at) (drop (suc at) w.s.flat.points) (drop (suc at) routes)
+  abbrev points_behind : ℕ → List Block
+  points_behind at = blocks_after w.s routes at
 
   -- where control goes on to the next point, its first block comes first behind the blocks of a point
   next_point : (at : ℕ) (edge : RouteEdge) (behind : List Finished) (pads : List Block)
@@ -243,11 +302,14 @@ module _ (w : Writing) (given : Given w) (fit : EdgesFit w given) where
         comes_first w.s.flat behind _ (points_behind at ++ pads) (made_next w.s at edge (site ∷ sites)) is
         (ap (λ (made : List ℕ). (make_block w.s (on_next_edge at) edge.to edge.state made edge.order None ++ points_behind at) ++ pads) some)
 
-  of_own : (one : Finished) (behind : List Finished) (right pads : List Block)
+  abbrev pads : List Block
+  pads = pads_of w.s routes
+
+  of_own : (one : Finished) (behind : List Finished) (right : List Block)
       → OfPoint (point_blocks w.s) 0 w.s.flat.points routes one.block right
       → behind ≡ finish w.s.flat (right ++ pads)
       → BlockKind w given one behind
-  of_own one behind right pads p is =
+  of_own one behind right p is =
       of_two (in_two (before ++ (own ∷ [])) next between.left p.middle one.block between.is) where
         number : 0 + p.at ≡ p.at
         number = omega arith
@@ -297,7 +359,7 @@ module _ (w : Writing) (given : Given w) (fit : EdgesFit w given) where
               next = λ edge found.
                   next_comes p.at p.point p.route edge behind pads p.there p.is_route found
                   (with_middle (next_block w.s p.at (Some edge)) (all ∙ ap (next_block w.s p.at) found));
-            })
+            }) (with_middle next all)
 
         of_next : (found : Option RouteEdge) → edge_by p.route edges.Next ≡ found → Between (next_block w.s p.at found) one.block p.middle
             → BlockKind w given one behind
@@ -346,16 +408,30 @@ module _ (w : Writing) (given : Given w) (fit : EdgesFit w given) where
 
         of_two : (m : List Block) → f.right ≡ m ++ handlers → InFirst points jumps one.block m ⊎ Between jumps one.block m → BlockKind w given one behind
         of_two m right (inl here) =
-            of_own one behind here.middle (jumps ++ handlers)
+            of_own one behind here.middle
             (of_some_point (point_blocks w.s) 0 w.s.flat.points routes one.block here.between.left here.middle here.between.is)
             (f.behind_is
             ∙ ap (finish w.s.flat)
             (right ∙ ap (λ (blocks : List Block). blocks ++ handlers) here.is ∙ append_assoc here.middle jumps handlers))
         of_two m right (inr here) =
-            of_jump_pad one behind m (of_some_point (jump_pads w.s) 0 w.s.flat.points routes one.block here.left m here.is)
+            of_jump_pad one behind m (of_some_point (jump_pads w.s) 0 w.s.flat.points routes one.block here.left m here.is) (record {
+              right = f.right;
+              is = f.behind_is;
+              none = λ to.
+                  subst (AreNone (begins_point to)) (sym right)
+                  (holds_of_both (λ block. begins_point to block.of ≡ false) m handlers
+                  (none_behind (begins_point to) jumps here.left m one.block here.is (none_in_jumps w.s to w.s.flat.points routes))
+                  (none_in_handlers w.s to w.s.flat.points routes));
+            })
 
         of_all : InFirst (points ++ jumps) handlers one.block f.right ⊎ Between handlers one.block f.right → BlockKind w given one behind
         of_all (inl here) =
             of_two here.middle here.is (in_two points jumps here.between.left here.middle one.block here.between.is)
         of_all (inr here) =
             of_handler_pad one behind f.right (of_some_point (handler_pads w.s) 0 w.s.flat.points routes one.block here.left f.right here.is)
+            (record {
+              right = f.right;
+              is = f.behind_is;
+              none = λ to.
+                  none_behind (begins_point to) handlers here.left f.right one.block here.is (none_in_handlers w.s to w.s.flat.points routes);
+            })

@@ -128,7 +128,8 @@ pub record EndsCarry (w : Writing) (given : Given w) : Type 0 where
       → slice_get given.setting.routes to ≡ Some (Some target)
       → FitsState w frame to target.state
       → EndCarries w number one behind frame
-  pub staying : (behind : List Finished) (one : Finished) (number : ℕ) (frame : Frame)
+  pub staying : (front behind : List Finished) (one : Finished) (number : ℕ) (frame : Frame)
+      → w.blocks ≡ front ++ (one ∷ behind)
       → one.block.leaves ≡ None
       → GoesBehind w (Some frame) behind
       → EndCarries w number one behind frame

@@ -27,3 +27,4 @@ mod RouteEdges
 mod EdgeFrames
 mod BlockKinds
 mod Targets
+mod Ends
