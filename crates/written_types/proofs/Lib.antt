@@ -28,3 +28,5 @@ mod EdgeFrames
 mod BlockKinds
 mod Targets
 mod Ends
+mod NewSources
+mod EdgeTargets
