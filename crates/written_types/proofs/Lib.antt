@@ -30,3 +30,4 @@ mod Targets
 mod Ends
 mod NewSources
 mod EdgeTargets
+mod NoThis
