@@ -31,3 +31,4 @@ mod Ends
 mod NewSources
 mod EdgeTargets
 mod NoThis
+mod Entry
