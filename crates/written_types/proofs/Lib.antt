@@ -32,3 +32,4 @@ mod NewSources
 mod EdgeTargets
 mod NoThis
 mod Entry
+mod StoredLocals
