@@ -50,7 +50,7 @@ use Rattle.written_types.specs.Writing.{Writing, entry_in}
 
 -- ---- Tops
 
-both_tops : (one other : ℕ) → replicate one types.Top ++ replicate other types.Top ≡ replicate (one + other) types.Top
+pub both_tops : (one other : ℕ) → replicate one types.Top ++ replicate other types.Top ≡ replicate (one + other) types.Top
 both_tops zero other = ap (λ (n : ℕ). replicate n types.Top) (the_same other (0 + other) (omega arith)) where
   the_same : (a b : ℕ) → a ≡ b → a ≡ b
   the_same a b e = e

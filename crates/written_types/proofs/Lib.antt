@@ -33,3 +33,4 @@ mod EdgeTargets
 mod NoThis
 mod Entry
 mod StoredLocals
+mod UnitTypes
