@@ -34,3 +34,4 @@ mod NoThis
 mod Entry
 mod StoredLocals
 mod UnitTypes
+mod MakingSteps
