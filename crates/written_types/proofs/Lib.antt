@@ -35,3 +35,4 @@ mod Entry
 mod StoredLocals
 mod UnitTypes
 mod MakingSteps
+mod MakingCalls

@@ -49,7 +49,7 @@ under_are below tops count is = take_left below tops (length (below ++ tops) - c
 
 
 -- one item, and what flows on
-one_step : (w : Writing) (number : ℕ) (one : WItem) (frame next : Frame)
+pub one_step : (w : Writing) (number : ℕ) (one : WItem) (frame next : Frame)
     → ItemHolds w number one frame
     → flows_on (point_in w number one) frame ≡ Some next
     → Carries w number (one ∷ []) frame (Some next)
