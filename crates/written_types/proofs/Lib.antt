@@ -36,3 +36,4 @@ mod StoredLocals
 mod UnitTypes
 mod MakingSteps
 mod MakingCalls
+mod MakingLocals
