@@ -37,3 +37,4 @@ mod UnitTypes
 mod MakingSteps
 mod MakingCalls
 mod MakingLocals
+mod MakingPlaces
