@@ -38,3 +38,4 @@ mod MakingSteps
 mod MakingCalls
 mod MakingLocals
 mod MakingPlaces
+mod MakingObjects
