@@ -1,5 +1,6 @@
 -- Objects are made one after the other: each field is loaded, the constructor is called, and the object goes to its unit.
 use Rattle.std.proofs.Common.{◌≡◌, ◌≢◌, ◌⊎◌, ◌+◌, ◌==◌, ◌||◌, ◌<◌, ◌≤◌, ℕ, zero, suc, Bool, true, false, not, List, [], ◌∷◌, ◌++◌, length, map, slice_get, Option, Some, None, IsTrue, IsFalse, refl, sym, ap, subst, ◌∙◌, inl, inr, arith}
+use Rattle.std.specs.Prelude.{is_some}
 use Rattle.std.specs.List.{AllByRecursion, filter, flat_map, list_any}
 use Rattle.std.proofs.lemmas.Bool.{eq-eqb, eqb-true, false≢true}
 use Rattle.std.proofs.lemmas.List.{append-nil, append_assoc, length-append, map-append}
@@ -21,6 +22,7 @@ use Rattle.flow_code.specs.declared.point.Point.{Point}
 use Rattle.flow_code.specs.declared.point.Site.{Site}
 use Rattle.making_code.specs.Items.{WInstr, WItem, constructs, item, load, makes, plain, store}
 use Rattle.making_code.specs.MakeCode.{enters, load_field, load_fields_from, make_object, make_one}
+use Rattle.making_code.specs.Laws.MakeOrders.{names_of_some}
 use Rattle.making_code.specs.MakeOrder.{IsMakeOrder, all_made, names_one, one_next}
 use Rattle.making_code.specs.Units.{field_unit, first_object_unit, object_unit, unit_number}
 use Rattle.member_link.specs.Assignability.{IsAssignable, from_null, of_names, to_same, to_top}
@@ -442,3 +444,103 @@ module _ (w : Writing) (given : Given w) (at : ℕ) (point : Point) (state : Sta
             by : (b : Bool) → (other == site) ≡ b → done other ≡ true
             by true e = absurd (apart_one (ap (λ (n : ℕ). first_object_unit w.s.flat + n) (eqb-true other site e)))
             by false e = sym (rw (e) refl) ∙ now
+
+  -- ---- all in order
+
+  pub record MadeAll (number : ℕ) (instrs : List WInstr) (locals stack : List VType) (saves : List (ℕ × VType)) : Type 0 where
+    pub after : List VType
+    pub done : ℕ → Bool
+    pub carries : Carries w number (map item instrs) (record { locals = locals; stack = stack }) (Some (record { locals = after; stack = stack }))
+    pub kept : KeptHere after done saves
+    pub all : (site : ℕ) → has sites site ≡ true → done site ≡ true
+
+  pub make_all : (left queue : List ℕ) (number : ℕ) (locals stack : List VType) (done : ℕ → Bool) (saves : List (ℕ × VType))
+      → IsMakeOrder state.objects left queue
+      → KeptHere locals done saves
+      → ((site : ℕ) → has left site ≡ true → has sites site ≡ true)
+      → ((site : ℕ) → has sites site ≡ true → (has left site ≡ true) ⊎ (done site ≡ true))
+      → NoneOf low high stack
+      → NoneOf low high (map (λ save. save.1) saves)
+      → PlacedHere number (flat_map (make_one w.s.flat state) queue)
+      → MadeAll number (flat_map (make_one w.s.flat state) queue) locals stack saves
+  make_all left queue number locals stack done saves all_made kept within cover fresh fresh_saves placed = record {
+    after = locals;
+    done = done;
+    carries = carries_none number (record { locals = locals; stack = stack });
+    kept = kept;
+    all = λ site taken. of_cover site (cover site taken);
+  } where
+    of_cover : (site : ℕ) → (has [] site ≡ true) ⊎ (done site ≡ true) → done site ≡ true
+    of_cover site (inl none) = absurd (false≢true none)
+    of_cover site (inr now) = now
+  make_all left queue number locals stack done saves (one_next _ rest site next more) kept within cover fresh fresh_saves placed =
+      by (object_of state.objects site) refl
+      (λ n after placed_rest kept_now cover_now. make_all (filter (λ other. not (other == site)) left) rest n after stack (with_site done site) saves more
+      kept_now (λ one is. within one (left_before site left one is)) cover_now fresh fresh_saves placed_rest) where
+        taken : has sites site ≡ true
+        taken = within site next.left_over
+
+        present : is_present state.objects site ≡ true
+        present = can.is_made.present site taken
+
+        first_instrs : List WInstr
+        first_instrs = make_one w.s.flat state site
+
+        rest_instrs : List WInstr
+        rest_instrs = flat_map (make_one w.s.flat state) rest
+
+        cover_after : (one : ℕ) → has sites one ≡ true
+            → (has (filter (λ other. not (other == site)) left) one ≡ true) ⊎ (with_site done site one ≡ true)
+        cover_after one is = of (cover one is) where
+          of_left : (one ≡ site) ⊎ (has (filter (λ other. not (other == site)) left) one ≡ true)
+              → (has (filter (λ other. not (other == site)) left) one ≡ true) ⊎ (with_site done site one ≡ true)
+          of_left (inl same) = inr (rw (eq-eqb one site same) refl)
+          of_left (inr still) = inl still
+
+          second : (a b : Bool) → b ≡ true → (a || b) ≡ true
+          second true b e = refl
+          second false b e = e
+
+          of : (has left one ≡ true) ⊎ (done one ≡ true)
+              → (has (filter (λ other. not (other == site)) left) one ≡ true) ⊎ (with_site done site one ≡ true)
+          of (inl in_left) = of_left (still_left site left one in_left)
+          of (inr now) = inr (second (one == site) (done one) now)
+
+        by : (found : Option VObject) → object_of state.objects site ≡ found
+            → ((n : ℕ) (after : List VType)
+            → PlacedHere n rest_instrs
+            → KeptHere after (with_site done site) saves
+            → ((one : ℕ) → has sites one ≡ true
+            → (has (filter (λ other. not (other == site)) left) one ≡ true) ⊎ (with_site done site one ≡ true))
+            → MadeAll n rest_instrs after stack saves)
+            → MadeAll number (first_instrs ++ rest_instrs) locals stack saves
+        by None none below = absurd (false≢true (sym (ap is_some none) ∙ present))
+        by (Some object) there below =
+            let fields = can.fits.objects site object there in
+            let passed = found_there (λ (o : VObject). o.site == site) state.objects object there in
+            let same : object.site ≡ site = eqb-true object.site site passed.passes in
+            let instrs_are : make_one w.s.flat state site ≡ make_object w.s.flat object fields.site = rw (there, fields.there) refl in
+            let made = make_it site fields.site object number locals stack done saves kept same fields.there present fields.fields
+            (ready object there) fresh fresh_saves
+            (subst (PlacedHere number) instrs_are (first_placed w low high number first_instrs rest_instrs placed)) in
+            let further = below (number + length first_instrs) made.after (rest_placed w low high number first_instrs rest_instrs placed) made.kept
+            cover_after in
+            record {
+              after = further.after;
+              done = further.done;
+              carries = then_carries w number first_instrs rest_instrs (record { locals = locals; stack = stack })
+                  (record { locals = made.after; stack = stack }) (record { locals = further.after; stack = stack })
+                  (subst (λ (instrs : List WInstr). Carries w number (map item instrs) (record { locals = locals; stack = stack })
+                  (Some (record { locals = made.after; stack = stack }))) (sym instrs_are) made.carries) further.carries;
+              kept = further.kept;
+              all = further.all;
+            }
+          where
+            ready : (object : VObject) → object_of state.objects site ≡ Some object → (named : ℕ) → names object.fields named ≡ true
+                → done named ≡ true
+            ready object there named is = of (cover named (can.is_made.closed site named (record { object = object; there = there; named = is }) taken)) where
+              of : (has left named ≡ true) ⊎ (done named ≡ true) → done named ≡ true
+              of (inr now) = now
+              of (inl in_left) =
+                  absurd (false≢true (sym next.ready ∙ names_of_some state.objects left site object there
+                  ∙ any_there (names object.fields) left named in_left is))
