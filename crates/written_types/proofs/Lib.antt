@@ -39,3 +39,4 @@ mod MakingCalls
 mod MakingLocals
 mod MakingPlaces
 mod MakingObjects
+mod MakingStack
