@@ -40,3 +40,4 @@ mod MakingLocals
 mod MakingPlaces
 mod MakingObjects
 mod MakingStack
+mod MakingReload

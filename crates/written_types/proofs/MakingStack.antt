@@ -163,7 +163,7 @@ room_of w headers types.UninitThis low locals at no_top fits room = let some = u
 room_of w headers (types.Object name) low locals at no_top fits room = let some = units_some low in omega (arith, room, some)
 room_of w headers (types.Uninit number) low locals at no_top fits room = let some = units_some low in omega (arith, room, some)
 
-depth_both : (type : VType) (all : List VType) → depth (type ∷ all) ≡ depth (type ∷ []) + depth all
+pub depth_both : (type : VType) (all : List VType) → depth (type ∷ all) ≡ depth (type ∷ []) + depth all
 depth_both type all =
     length-append (units type) (units_of_entries all) ∙ ap (λ (n : ℕ). n + depth all) (sym (depth_one type))
 
