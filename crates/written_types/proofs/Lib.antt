@@ -41,3 +41,4 @@ mod MakingPlaces
 mod MakingObjects
 mod MakingStack
 mod MakingReload
+mod MakingCopies
