@@ -42,3 +42,4 @@ mod MakingObjects
 mod MakingStack
 mod MakingReload
 mod MakingCopies
+mod NewStarts

@@ -25,6 +25,7 @@ use Rattle.written_types.proofs.Given.{NoTops, NoTopsAbove}
 use Rattle.written_types.proofs.MakingObjects.{and_carries}
 use Rattle.written_types.proofs.MakingStack.{depth_both, entries_by_item, entry_type, saved_kind, saves_of}
 use Rattle.written_types.proofs.MakingSteps.{load_carries}
+use Rattle.written_types.proofs.NoThis.{NotThis}
 use Rattle.written_types.specs.FitsTypes.{HasType, HaveTypes, IsOfType}
 use Rattle.written_types.specs.Writing.{Carries, Writing, carries_none}
 
@@ -141,6 +142,7 @@ module _ (w : Writing) (sites : List ℕ) (headers_same : w.host.headers ≡ hea
     pub entries : from_lowest sites (entries_from place below all slots) ≡ entries_from low_place low_below low_types low_slots
     pub fits : AreAssignable w.host.headers tops (entries_by_item w low_types low_slots)
     pub no_tops : NoTops low_types low_slots
+    pub not_this : AllByRecursion (λ type. NotThis (entry_type w type)) low_types
     pub typed : HaveTypes w.s (map (read_type w.s.flat) low_types) low_slots
     pub room : low_below + depth low_types ≤ below + depth all
     pub back : (new : List VType)
@@ -150,9 +152,10 @@ module _ (w : Writing) (sites : List ℕ) (headers_same : w.host.headers ≡ hea
   pub lowest : (place below : ℕ) (all : List VType) (slots : List Slot) (stack : List VType)
       → NoTopsAbove sites all slots
       → HaveTypes w.s (map (read_type w.s.flat) all) slots
+      → AllByRecursion (λ type. NotThis (entry_type w type)) all
       → AreAssignable w.host.headers stack (entries_by_item w all slots)
       → Lowest place below all slots stack
-  lowest place below [] [] [] above have fits = record {
+  lowest place below [] [] [] above have nots fits = record {
     base = [];
     tops = [];
     is = refl;
@@ -163,16 +166,17 @@ module _ (w : Writing) (sites : List ℕ) (headers_same : w.host.headers ≡ hea
     entries = refl;
     fits = tt;
     no_tops = tt;
+    not_this = tt;
     typed = tt;
     room = omega arith;
     back = λ new is. is;
   }
-  lowest place below [] [] (top ∷ stack) above have fits = absurd fits
-  lowest place below [] (slot ∷ slots) stack above have fits = absurd have
-  lowest place below (type ∷ all) [] stack above have fits = absurd have
-  lowest place below (type ∷ all) (Plain ∷ slots) [] above have fits = absurd fits
-  lowest place below (type ∷ all) (Plain ∷ slots) (top ∷ stack) above have fits =
-      let rest = lowest (suc place) (below + depth (type ∷ [])) all slots stack above.1 have.1 fits.1 in
+  lowest place below [] [] (top ∷ stack) above have nots fits = absurd fits
+  lowest place below [] (slot ∷ slots) stack above have nots fits = absurd have
+  lowest place below (type ∷ all) [] stack above have nots fits = absurd have
+  lowest place below (type ∷ all) (Plain ∷ slots) [] above have nots fits = absurd fits
+  lowest place below (type ∷ all) (Plain ∷ slots) (top ∷ stack) above have nots fits =
+      let rest = lowest (suc place) (below + depth (type ∷ [])) all slots stack above.1 have.1 nots.1 fits.1 in
       let more = depth_both type all in
       let room = rest.room in
       record {
@@ -186,12 +190,13 @@ module _ (w : Writing) (sites : List ℕ) (headers_same : w.host.headers ≡ hea
         entries = rest.entries;
         fits = rest.fits;
         no_tops = rest.no_tops;
+        not_this = rest.not_this;
         typed = rest.typed;
         room = omega (arith, more, room);
         back = λ new is. (fits.0, rest.back new is);
       }
-  lowest place below (type ∷ all) (Unusable ∷ slots) stack above have fits =
-      let rest = lowest (suc place) (below + depth (type ∷ [])) all slots stack above.1 have.1 fits in
+  lowest place below (type ∷ all) (Unusable ∷ slots) stack above have nots fits =
+      let rest = lowest (suc place) (below + depth (type ∷ [])) all slots stack above.1 have.1 nots.1 fits in
       let more = depth_both type all in
       let room = rest.room in
       record {
@@ -205,12 +210,13 @@ module _ (w : Writing) (sites : List ℕ) (headers_same : w.host.headers ≡ hea
         entries = rest.entries;
         fits = rest.fits;
         no_tops = rest.no_tops;
+        not_this = rest.not_this;
         typed = rest.typed;
         room = omega (arith, more, room);
         back = rest.back;
       }
-  lowest place below (type ∷ all) (Virt site ∷ slots) stack above have fits =
-      by (has sites site) refl (lowest (suc place) (below + depth (type ∷ [])) all slots stack above.1 have.1 fits) where
+  lowest place below (type ∷ all) (Virt site ∷ slots) stack above have nots fits =
+      by (has sites site) refl (lowest (suc place) (below + depth (type ∷ [])) all slots stack above.1 have.1 nots.1 fits) where
         by : (b : Bool) → has sites site ≡ b
             → Lowest (suc place) (below + depth (type ∷ [])) all slots stack
             → Lowest place below (type ∷ all) (Virt site ∷ slots) stack
@@ -225,6 +231,7 @@ module _ (w : Writing) (sites : List ℕ) (headers_same : w.host.headers ≡ hea
           entries = rw (taken) refl;
           fits = fits;
           no_tops = (λ plain. absurd cc, above.0 taken);
+          not_this = nots;
           typed = have;
           room = omega arith;
           back = λ new is. is;
@@ -246,6 +253,7 @@ module _ (w : Writing) (sites : List ℕ) (headers_same : w.host.headers ≡ hea
               entries = skipped ∙ rest.entries;
               fits = rest.fits;
               no_tops = rest.no_tops;
+              not_this = rest.not_this;
               typed = rest.typed;
               room = omega (arith, more, room);
               back = λ new is.
