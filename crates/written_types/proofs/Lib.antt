@@ -43,3 +43,4 @@ mod MakingStack
 mod MakingReload
 mod MakingCopies
 mod NewStarts
+mod MadeStates
