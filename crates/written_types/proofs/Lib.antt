@@ -44,3 +44,5 @@ mod MakingReload
 mod MakingCopies
 mod NewStarts
 mod MadeStates
+mod MakeCodes
+mod MakeWhole
