@@ -31,3 +31,11 @@ mod Ends
 mod NewSources
 mod EdgeTargets
 mod NoThis
+mod OtherRows
+mod FirstWays
+mod EmptyBlocks
+mod SlotFrames
+mod ItemSteps
+mod TopForms
+mod ShuffleForms
+mod Templates

@@ -149,19 +149,19 @@ module _ (place : ℕ) where
 
   -- ---- rows
 
-  module _ (f : Frame) (locals : AllByRecursion (Other place) f.locals) (stack : AllByRecursion (Other place) f.stack) where
+  module _ (f : Frame) (others : AllByRecursion (Other place) f.locals) (entries : AllByRecursion (Other place) f.stack) where
     -- what is behind a row has none
     pub record LeavesOther (row : Row) : Type 0 where
       pub locals : AllByRecursion (Other place) row.locals
       pub stack : AllByRecursion (Other place) (stack_behind f row)
 
     pub under_other : (count : ℕ) → AllByRecursion (Other place) (under count f.stack)
-    under_other count = all_taken (Other place) (length f.stack - count) f.stack stack
+    under_other count = all_taken (Other place) (length f.stack - count) f.stack entries
 
     lowest_other : (count : ℕ) → Other place (lowest_of count f.stack)
     lowest_other count = by (topmost count f.stack) refl where
       all : AllByRecursion (Other place) (topmost count f.stack)
-      all = all_dropped (Other place) (length f.stack - count) f.stack stack
+      all = all_dropped (Other place) (length f.stack - count) f.stack entries
 
       by : (top : List VType) → topmost count f.stack ≡ top → Other place (lowest_of count f.stack)
       by [] is = rw is tt
@@ -177,29 +177,29 @@ module _ (place : ℕ) where
     one_given count type other = moves count (type ∷ []) (other, tt)
 
     of_none : LeavesOther (no_row f)
-    of_none = record { locals = locals; stack = none_given 1 }
+    of_none = record { locals = others; stack = none_given 1 }
 
     const_leaves : (constant : Option Constant) → LeavesOther (const_row f constant)
     const_leaves None = of_none
-    const_leaves (Some (consts.Integer n)) = record { locals = locals; stack = one_given 0 _ tt }
-    const_leaves (Some (consts.Float bits)) = record { locals = locals; stack = one_given 0 _ tt }
-    const_leaves (Some (consts.Long n)) = record { locals = locals; stack = one_given 0 _ tt }
-    const_leaves (Some (consts.Double bits)) = record { locals = locals; stack = one_given 0 _ tt }
-    const_leaves (Some (consts.String text)) = record { locals = locals; stack = one_given 0 _ tt }
-    const_leaves (Some (consts.Class name)) = record { locals = locals; stack = one_given 0 _ tt }
-    const_leaves (Some (consts.MethodHandle kind reference)) = record { locals = locals; stack = one_given 0 _ tt }
-    const_leaves (Some (consts.MethodType descriptor)) = record { locals = locals; stack = one_given 0 _ tt }
+    const_leaves (Some (consts.Integer n)) = record { locals = others; stack = one_given 0 _ tt }
+    const_leaves (Some (consts.Float bits)) = record { locals = others; stack = one_given 0 _ tt }
+    const_leaves (Some (consts.Long n)) = record { locals = others; stack = one_given 0 _ tt }
+    const_leaves (Some (consts.Double bits)) = record { locals = others; stack = one_given 0 _ tt }
+    const_leaves (Some (consts.String text)) = record { locals = others; stack = one_given 0 _ tt }
+    const_leaves (Some (consts.Class name)) = record { locals = others; stack = one_given 0 _ tt }
+    const_leaves (Some (consts.MethodHandle kind reference)) = record { locals = others; stack = one_given 0 _ tt }
+    const_leaves (Some (consts.MethodType descriptor)) = record { locals = others; stack = one_given 0 _ tt }
     const_leaves (Some other) = of_none
 
     entry_other : (local : ℕ) → AllByRecursion (Other place) (local_entry f.locals local)
     entry_other local = by (slice_get f.locals local) refl where
       by : (found : Option VType) → slice_get f.locals local ≡ found → AllByRecursion (Other place) (local_entry f.locals local)
       by None none = rw none tt
-      by (Some type) some = rw some (all_at (Other place) f.locals local type locals some, tt)
+      by (Some type) some = rw some (all_at (Other place) f.locals local type others some, tt)
 
     elements_leaves : (found : Option Elements) → OfElements found → LeavesOther (elements_load_row f found)
     elements_leaves None of = of_none
-    elements_leaves (Some e) of = record { locals = locals; stack = one_given 2 e.type of }
+    elements_leaves (Some e) of = record { locals = others; stack = one_given 2 e.type of }
 
     load_leaves : (references : Bool) (first second : Row) → LeavesOther first → LeavesOther second → LeavesOther (either references first second)
     load_leaves true first second one other = one
@@ -207,7 +207,7 @@ module _ (place : ℕ) where
 
     stores_leaves : (found : Option Elements) → LeavesOther (elements_store_row f found)
     stores_leaves None = of_none
-    stores_leaves (Some e) = record { locals = locals; stack = none_given 3 }
+    stores_leaves (Some e) = record { locals = others; stack = none_given 3 }
 
     picked_other : (count : ℕ) (gives : List ℕ) → AllByRecursion (Other place) (picked (topmost count f.stack) gives)
     picked_other count [] = tt
@@ -215,54 +215,54 @@ module _ (place : ℕ) where
       by : (found : Option VType) → slice_get (topmost count f.stack) number ≡ found
           → AllByRecursion (Other place) (picked (topmost count f.stack) gives)
           → AllByRecursion (Other place) (picked (topmost count f.stack) (number ∷ gives))
-      by None none others = rw none others
-      by (Some type) some others =
+      by None none more = rw none more
+      by (Some type) some more =
           rw some (
-            all_at (Other place) (topmost count f.stack) number type (all_dropped (Other place) (length f.stack - count) f.stack stack) some,
-            others,
+            all_at (Other place) (topmost count f.stack) number type (all_dropped (Other place) (length f.stack - count) f.stack entries) some,
+            more,
           )
 
     form_leaves : (found : Option Form) → LeavesOther (form_row f found)
     form_leaves None = of_none
-    form_leaves (Some form) = record { locals = locals; stack = moves _ _ (picked_other (length form.takes) form.gives) }
+    form_leaves (Some form) = record { locals = others; stack = moves _ _ (picked_other (length form.takes) form.gives) }
 
     operation_leaves : (found : Option Operation) → LeavesOther (operation_row f found)
     operation_leaves None = of_none
-    operation_leaves (Some o) = record { locals = locals; stack = one_given _ _ (of_kind o.gives) }
+    operation_leaves (Some o) = record { locals = others; stack = one_given _ _ (of_kind o.gives) }
 
     jump_leaves : (known : Bool) (takes : List Need) → LeavesOther (jump_row f known takes)
-    jump_leaves true takes = record { locals = locals; stack = none_given (length takes) }
+    jump_leaves true takes = record { locals = others; stack = none_given (length takes) }
     jump_leaves false takes = of_none
 
     made_leaves : (counts : ℕ) (name : Option Name) → LeavesOther (made_row f counts name)
     made_leaves counts None = of_none
-    made_leaves counts (Some name) = record { locals = locals; stack = one_given _ _ tt }
+    made_leaves counts (Some name) = record { locals = others; stack = one_given _ _ tt }
 
     cast_leaves : (name : Option Name) → LeavesOther (cast_row f name)
     cast_leaves None = of_none
-    cast_leaves (Some name) = record { locals = locals; stack = one_given 1 _ tt }
+    cast_leaves (Some name) = record { locals = others; stack = one_given 1 _ tt }
 
     return_leaves : (sc : RowScope) (kind : Option Kind) → LeavesOther (return_row sc f kind)
-    return_leaves sc None = record { locals = locals; stack = none_given 0 }
-    return_leaves sc (Some kind) = record { locals = locals; stack = none_given 1 }
+    return_leaves sc None = record { locals = others; stack = none_given 0 }
+    return_leaves sc (Some kind) = record { locals = others; stack = none_given 1 }
 
     -- ---- members
 
     get_static_leaves : (r : Option Reference) → LeavesOther (get_static_row f r)
     get_static_leaves None = of_none
-    get_static_leaves (Some r) = record { locals = locals; stack = one_given 0 _ (of_type _) }
+    get_static_leaves (Some r) = record { locals = others; stack = one_given 0 _ (of_type _) }
 
     put_static_leaves : (r : Option Reference) → LeavesOther (put_static_row f r)
     put_static_leaves None = of_none
-    put_static_leaves (Some r) = record { locals = locals; stack = none_given 1 }
+    put_static_leaves (Some r) = record { locals = others; stack = none_given 1 }
 
     get_leaves : (sc : RowScope) (r : Option Reference) → LeavesOther (get_field_row sc f r)
     get_leaves sc None = of_none
-    get_leaves sc (Some r) = record { locals = locals; stack = one_given 1 _ (of_type _) }
+    get_leaves sc (Some r) = record { locals = others; stack = one_given 1 _ (of_type _) }
 
     put_leaves : (sc : RowScope) (r : Option Reference) → LeavesOther (put_field_row sc f r)
     put_leaves sc None = of_none
-    put_leaves sc (Some r) = record { locals = locals; stack = none_given 2 }
+    put_leaves sc (Some r) = record { locals = others; stack = none_given 2 }
 
     result_other : (found : Option FieldType) → AllByRecursion (Other place) (result_types found)
     result_other None = tt
@@ -270,7 +270,7 @@ module _ (place : ℕ) where
 
     init_leaves : (sc : RowScope) (r : Reference) → LeavesOther (init_row sc f r)
     init_leaves sc r = record {
-      locals = all_mapped (Other place) (initialised_type sc r (receiver f r.desc)) (initialised_other sc r (receiver f r.desc)) f.locals locals;
+      locals = all_mapped (Other place) (initialised_type sc r (receiver f r.desc)) (initialised_other sc r (receiver f r.desc)) f.locals others;
       stack = all_joined (Other place) _ _
           (all_mapped (Other place) (initialised_type sc r (receiver f r.desc)) (initialised_other sc r (receiver f r.desc)) _ (under_other _))
           (result_other (result_of r.desc));
@@ -279,18 +279,18 @@ module _ (place : ℕ) where
     call_leaves : (sc : RowScope) (opcode : ℕ) (r : Option Reference) → LeavesOther (call_row sc f opcode r)
     call_leaves sc opcode None = of_none
     call_leaves sc opcode (Some r) =
-        load_leaves (opcode == INVOKESTATIC) _ _ (record { locals = locals; stack = moves _ _ (result_other (result_of r.desc)) })
+        load_leaves (opcode == INVOKESTATIC) _ _ (record { locals = others; stack = moves _ _ (result_other (result_of r.desc)) })
         (load_leaves (opcode == INVOKESPECIAL) _ _
         (load_leaves (bytes_eq r.name init) _ _ (init_leaves sc r)
-        (record { locals = locals; stack = moves _ _ (result_other (result_of r.desc)) }))
-        (record { locals = locals; stack = moves _ _ (result_other (result_of r.desc)) }))
+        (record { locals = others; stack = moves _ _ (result_other (result_of r.desc)) }))
+        (record { locals = others; stack = moves _ _ (result_other (result_of r.desc)) }))
 
     dynamic_leaves : (sc : RowScope) (constant : Option Constant) → LeavesOther (dynamic_row sc f constant)
     dynamic_leaves sc (Some (consts.InvokeDynamic bootstrap member)) = by (descriptor_at sc.pool member) refl where
       by : (found : Option (List ℕ)) → descriptor_at sc.pool member ≡ found
           → LeavesOther (dynamic_row sc f (Some (consts.InvokeDynamic bootstrap member)))
       by None none = rw none of_none
-      by (Some desc) some = rw some (record { locals = locals; stack = moves _ _ (result_other (result_of desc)) })
+      by (Some desc) some = rw some (record { locals = others; stack = moves _ _ (result_other (result_of desc)) })
     dynamic_leaves sc (Some other) = of_none
     dynamic_leaves sc None = of_none
 
@@ -298,21 +298,21 @@ module _ (place : ℕ) where
 
     -- behind an instruction at another place
     pub leaves_other : (sc : RowScope) (at : ℕ) → at ≢ place → (instr : Instr) → LeavesOther (row_of sc f at instr)
-    leaves_other sc at apart Nop = record { locals = locals; stack = none_given 0 }
-    leaves_other sc at apart (Const imm) = record { locals = locals; stack = one_given 0 _ (of_imm imm) }
+    leaves_other sc at apart Nop = record { locals = others; stack = none_given 0 }
+    leaves_other sc at apart (Const imm) = record { locals = others; stack = one_given 0 _ (of_imm imm) }
     leaves_other sc at apart (Ldc index) = const_leaves (constant_at sc.pool index)
     leaves_other sc at apart (Ldc2 index) = const_leaves (constant_at sc.pool index)
-    leaves_other sc at apart (Load kind local) = record { locals = locals; stack = moves 0 _ (entry_other local) }
+    leaves_other sc at apart (Load kind local) = record { locals = others; stack = moves 0 _ (entry_other local) }
     leaves_other sc at apart (Store kind local) = record {
-      locals = stored_other local (lowest_of 1 f.stack) f.locals (lowest_other 1) locals;
+      locals = stored_other local (lowest_of 1 f.stack) f.locals (lowest_other 1) others;
       stack = none_given 1;
     }
-    leaves_other sc at apart (Iinc local by) = record { locals = locals; stack = none_given 0 }
+    leaves_other sc at apart (Iinc local by) = record { locals = others; stack = none_given 0 }
     leaves_other sc at apart (ArrayLoad opcode) =
-        load_leaves (opcode == AALOAD) _ _ (record { locals = locals; stack = one_given 2 _ (of_component (lowest_of 2 f.stack)) })
+        load_leaves (opcode == AALOAD) _ _ (record { locals = others; stack = one_given 2 _ (of_component (lowest_of 2 f.stack)) })
         (elements_leaves (elements_from IALOAD opcode) (of_loaded IALOAD opcode))
     leaves_other sc at apart (ArrayStore opcode) =
-        load_leaves (opcode == AASTORE) _ _ (record { locals = locals; stack = none_given 3 }) (stores_leaves (elements_from IASTORE opcode))
+        load_leaves (opcode == AASTORE) _ _ (record { locals = others; stack = none_given 3 }) (stores_leaves (elements_from IASTORE opcode))
     leaves_other sc at apart (Shuffle opcode) = form_leaves (form_in (forms_of opcode) f.stack)
     leaves_other sc at apart (Pure opcode) = operation_leaves (operation_in pure_operations opcode)
     leaves_other sc at apart (Divide opcode) = operation_leaves (operation_in divide_operations opcode)
@@ -321,9 +321,9 @@ module _ (place : ℕ) where
     leaves_other sc at apart (If2 opcode target) = jump_leaves (nat_le IF_ICMPEQ opcode && nat_le opcode IF_ICMPLE) _
     leaves_other sc at apart (IfSame opcode target) = jump_leaves (nat_le IF_ACMPEQ opcode && nat_le opcode IF_ACMPNE) _
     leaves_other sc at apart (IfNull opcode target) = jump_leaves (nat_le IFNULL opcode && nat_le opcode IFNONNULL) _
-    leaves_other sc at apart (Goto target) = record { locals = locals; stack = none_given 0 }
-    leaves_other sc at apart (Table low other targets) = record { locals = locals; stack = none_given 1 }
-    leaves_other sc at apart (Lookup other pairs) = record { locals = locals; stack = none_given 1 }
+    leaves_other sc at apart (Goto target) = record { locals = others; stack = none_given 0 }
+    leaves_other sc at apart (Table low other targets) = record { locals = others; stack = none_given 1 }
+    leaves_other sc at apart (Lookup other pairs) = record { locals = others; stack = none_given 1 }
     leaves_other sc at apart (Return kind) = return_leaves sc kind
     leaves_other sc at apart (GetStatic index) = get_static_leaves (reference_of sc.pool (constant_at sc.pool index))
     leaves_other sc at apart (PutStatic index) = put_static_leaves (reference_of sc.pool (constant_at sc.pool index))
@@ -332,15 +332,15 @@ module _ (place : ℕ) where
     leaves_other sc at apart (Invoke opcode index count) = call_leaves sc opcode (reference_of sc.pool (constant_at sc.pool index))
     leaves_other sc at apart (Dynamic index) = dynamic_leaves sc (constant_at sc.pool index)
     leaves_other sc at apart (New index) = record {
-      locals = all_mapped (Other place) (without_older at) (older_other at) f.locals locals;
+      locals = all_mapped (Other place) (without_older at) (older_other at) f.locals others;
       stack = one_given 0 _ apart;
     }
     leaves_other sc at apart (NewArray code) = made_leaves 1 (primitive_array code)
     leaves_other sc at apart (NewRefArray index) = made_leaves 1 (array_of (class_at sc.pool index))
     leaves_other sc at apart (NewMulti index dimensions) = made_leaves dimensions (class_at sc.pool index)
-    leaves_other sc at apart Length = record { locals = locals; stack = one_given 1 _ tt }
-    leaves_other sc at apart Throw = record { locals = locals; stack = none_given 1 }
+    leaves_other sc at apart Length = record { locals = others; stack = one_given 1 _ tt }
+    leaves_other sc at apart Throw = record { locals = others; stack = none_given 1 }
     leaves_other sc at apart (Cast index) = cast_leaves (class_at sc.pool index)
-    leaves_other sc at apart (InstanceOf index) = record { locals = locals; stack = one_given 1 _ tt }
-    leaves_other sc at apart Enter = record { locals = locals; stack = none_given 1 }
-    leaves_other sc at apart Leave = record { locals = locals; stack = none_given 1 }
+    leaves_other sc at apart (InstanceOf index) = record { locals = others; stack = one_given 1 _ tt }
+    leaves_other sc at apart Enter = record { locals = others; stack = none_given 1 }
+    leaves_other sc at apart Leave = record { locals = others; stack = none_given 1 }
