@@ -39,3 +39,5 @@ mod ItemSteps
 mod TopForms
 mod ShuffleForms
 mod Templates
+mod ShuffleOperands
+mod ShuffleTemplates

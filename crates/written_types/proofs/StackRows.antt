@@ -120,7 +120,7 @@ read_topmost flat count stack =
     ap (λ (n : ℕ). drop (n - count) (map (read_type flat) stack)) (length-map stack (read_type flat))
     ∙ drop-map (read_type flat) (length stack - count) stack
 
-read_form : (flat : FlatCode) (forms : List Form) (stack : List VType) → form_in forms (map (read_type flat) stack) ≡ form_in forms stack
+pub read_form : (flat : FlatCode) (forms : List Form) (stack : List VType) → form_in forms (map (read_type flat) stack) ≡ form_in forms stack
 read_form flat [] stack = refl
 read_form flat (first ∷ forms) stack =
     λ i. if (ap (have_widths first.takes) (read_topmost flat (length first.takes) stack)

@@ -12,7 +12,7 @@ use Rattle.flow_code.specs.ReadTypes.{read_frame, read_type}
 use Rattle.flow_code.specs.WrittenUnits.{greatest_depth}
 use Rattle.flow_code.specs.declared.point.Point.{Point}
 use Rattle.flow_code.specs.declared.point.Site.{Site}
-use Rattle.making_code.specs.Items.{WItem}
+use Rattle.making_code.specs.Items.{WInstr, WItem, item}
 use Rattle.making_code.specs.StateFrames.{field_types, site_types_from}
 use Rattle.member_link.specs.Rows.Operands.{topmost, under}
 use Rattle.member_link.specs.Rows.Row.{Row, stack_behind}
@@ -25,10 +25,11 @@ use Rattle.plan_flow.specs.PlanScope.{PlanScope}
 use Rattle.plan_flow.specs.PlanSlots.{changed, is_open, slot_from, slots_from}
 use Rattle.plan_flow.specs.PlanTable.{falls_on, held_from, held_locals, targets_at}
 use Rattle.plan_flow.specs.Plans.{PlannedPoint, state_left}
-use Rattle.plan_flow.specs.Written.Blocks.{Block, instruction_block, state_written}
+use Rattle.plan_flow.specs.Written.Blocks.{Block, leaves_to, state_written}
 use Rattle.plan_flow.specs.Written.Finish.{Finished}
 use Rattle.plan_flow.specs.Written.FramedCode.{frame_by_item, type_by_item}
 use Rattle.plan_flow.specs.Written.Routes.{IsRoute, Route, RouteEdge, edge_by}
+use Rattle.plan_flow.specs.Written.Templates.{items_at}
 use Rattle.plan_flow.specs.Written.WrittenCode.{in_form, written_items}
 use Rattle.plan_flow.specs.Written.WrittenFrames.{written_frame}
 use Rattle.plan_flow.specs.declared.edge.EdgeKind.TheVariants as edges
@@ -41,11 +42,11 @@ use Rattle.virtual_state.specs.declared.slot.VObject.{VObject}
 use Rattle.written_types.proofs.Arrivals.{FitsPoint, begins, fits_point}
 use Rattle.written_types.proofs.Given.{AtInstruction, EdgesFit, EndsCarry, Given, entries_in, frame_in_slots, locals_in, units_behind}
 use Rattle.written_types.proofs.ItemSteps.{frame_of}
-use Rattle.written_types.proofs.Placing.{block_carries, goes_behind}
+use Rattle.written_types.proofs.Placing.{IsMade, block_carries, goes_behind, same_form}
 use Rattle.written_types.proofs.SlotFrames.{AgreeingParts, UsablePlaces, agree_both, agreeing_parts, all_usable_read, as_long_dropped, as_long_taken, as_read, entries_both, held_slots, state_is, stack_parts, take_in_map, usable_places}
 use Rattle.written_types.proofs.SlotFrames.{Usable}
 use Rattle.written_types.proofs.Standing.{Standing, all_taken}
-use Rattle.written_types.specs.FitsTypes.{is_reached}
+use Rattle.written_types.specs.FitsTypes.{HaveTypes, is_reached}
 use Rattle.written_types.specs.Writing.{AgreeIn, Agrees, BlockCarries, Carries, GoesBehind, IsFresh, Writing, frame_in}
 
 -- ---- units of fields by the sites that are present
@@ -62,6 +63,22 @@ pub units_alike : (flat : FlatCode) (ones others : List VObject) → ((site : �
 units_alike flat ones others same =
     ap (λ (fields : List VType). fields ++ replicate (length flat.sites) types.Top ++ replicate (greatest_depth flat.points) types.Top)
     (sites_alike ones others same 0 flat.sites)
+
+-- ---- types of slots
+
+have_behind : (s : PlanScope) (ones others : List VType) (slots : List Slot) → HaveTypes s (ones ++ others) slots
+    → HaveTypes s others (drop (length ones) slots)
+have_behind s [] others slots have = have
+have_behind s (one ∷ ones) others [] have = absurd have
+have_behind s (one ∷ ones) others (slot ∷ slots) have = have_behind s ones others slots have.1
+
+pub have_dropped : (s : PlanScope) (count : ℕ) (all : List VType) (slots : List Slot) → HaveTypes s all slots
+    → HaveTypes s (drop count all) (drop count slots)
+have_dropped s zero all slots have = have
+have_dropped s (suc count) [] [] have = tt
+have_dropped s (suc count) [] (slot ∷ slots) have = absurd have
+have_dropped s (suc count) (type ∷ all) [] have = absurd have
+have_dropped s (suc count) (type ∷ all) (slot ∷ slots) have = have_dropped s count all slots have.1
 
 -- ---- before a template
 
@@ -124,6 +141,14 @@ module _ (w : Writing) (given : Given w) (b : Before w given) where
   pub places : UsablePlaces w.s.flat b.point.typed.locals b.point.typed.stack state.slots
   places = usable_places w.s.flat b.point.typed.locals b.point.typed.stack state.slots fits.unusable
 
+  -- what the stack holds has its types
+  pub entries_have : HaveTypes w.s read.stack entries
+  entries_have =
+      subst (λ (n : ℕ). HaveTypes w.s read.stack (drop n state.slots)) (length-map b.point.typed.locals (read_type w.s.flat))
+      (have_behind w.s read.locals read.stack state.slots
+      (subst (λ (all : List VType). HaveTypes w.s all state.slots)
+      (map-append (read_type w.s.flat) b.point.typed.locals b.point.typed.stack) fits.slots))
+
   frame_is : frame_in w b.one ≡ frame_by_item w.form w.blocks (frame_in_slots w.s.flat read state.slots entries state.objects)
   frame_is =
       ap (λ (block : Block). frame_by_item w.form w.blocks (written_frame w.s.flat block)) b.here.is_block
@@ -135,7 +160,7 @@ module _ (w : Writing) (given : Given w) (b : Before w given) where
   pub stack_agree : AgreeIn b.frame.stack (map By (entries_in read.stack entries))
   stack_agree = subst (λ (f : Frame). AgreeIn b.frame.stack f.stack) frame_is b.agrees.stack
 
-  read_long : length read.stack ≡ length b.point.typed.stack
+  pub read_long : length read.stack ≡ length b.point.typed.stack
   read_long = length-map b.point.typed.stack (read_type w.s.flat)
 
   pub entries_long : length read.stack ≡ length entries
@@ -284,3 +309,32 @@ module _ (w : Writing) (given : Given w) (b : Before w given) where
     next_carries last edge found leaves agrees carried =
         block_carries w number b.one b.behind b.frame last carried
         (ends.staying b.behind b.one (number + length (in_form w.form b.one.block.items)) last leaves (goes_next last edge found agrees))
+
+    -- ---- items that are no jumps
+
+    -- each is made, and none is one of a class file
+    abbrev pub AreMade : List WInstr → Type 0
+    AreMade instrs = AllByRecursion IsMade instrs
+
+    made_items : (instrs : List WInstr) → AreMade instrs → AllByRecursion (λ (one : WItem). IsMade one.instr) (map item instrs)
+    made_items [] all = tt
+    made_items (instr ∷ instrs) all = (all.0, made_items instrs all.1)
+
+    -- A template whose items carry the frame to one that agrees with what comes along.
+    pub template_carries : (instrs : List WInstr) (last : Frame)
+        → items_at w.s b.at b.point state b.route ≡ map item instrs
+        → AreMade instrs
+        → leaves_to b.point b.route ≡ None
+        → falls_on b.point.instr ≡ true
+        → is_open state plan_row.next ≡ true
+        → Carries w number (map item instrs) b.frame (Some last)
+        → Agrees last (frame_by_item w.form w.blocks along)
+        → BlockCarries w number b.one b.behind b.frame
+    template_carries instrs last items_are made leaves falls opens so agrees =
+        let next = next_there falls opens in
+        next_carries last next.0 next.1 (ap (λ (block : Block). block.leaves) b.here.is_block ∙ leaves) agrees
+        (subst (λ (items : List WItem). Carries w number items b.frame (Some last)) (sym written) so) where
+          written : in_form w.form b.one.block.items ≡ map item instrs
+          written =
+              ap (in_form w.form) (ap (λ (block : Block). block.items) b.here.is_block ∙ items_are)
+              ∙ same_form w.form (map item instrs) (made_items instrs made)

@@ -69,7 +69,7 @@ turned widths all long =
           ∙ ap (λ (b : Bool). has_width width type && b) (by ones tops less)
 
 -- what fits is as long, and more entries do not matter
-long_widths : (widths : List Width) (all : List VType) → have_widths widths all ≡ true → length widths ≡ length all
+pub long_widths : (widths : List Width) (all : List VType) → have_widths widths all ≡ true → length widths ≡ length all
 long_widths [] [] fits = refl
 long_widths [] (type ∷ all) fits = absurd cc
 long_widths (width ∷ widths) [] fits = absurd cc
