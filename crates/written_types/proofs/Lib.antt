@@ -41,3 +41,4 @@ mod ShuffleForms
 mod Templates
 mod ShuffleOperands
 mod ShuffleTemplates
+mod TemplateRows

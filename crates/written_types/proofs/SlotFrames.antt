@@ -212,7 +212,7 @@ as_read Plain = Plain
 as_read (Virt site) = Virt site
 as_read Unusable = Plain
 
-read_slot : (slot : Slot) → readable (Some slot) ≡ as_read slot
+pub read_slot : (slot : Slot) → readable (Some slot) ≡ as_read slot
 read_slot Plain = refl
 read_slot (Virt site) = refl
 read_slot Unusable = refl
@@ -220,7 +220,7 @@ read_slot Unusable = refl
 abbrev pub Usable : List Slot → Type 0
 Usable slots = AllByRecursion (λ slot. is_unusable slot ≡ false) slots
 
-usable_read : (slot : Slot) → is_unusable slot ≡ false → as_read slot ≡ slot
+pub usable_read : (slot : Slot) → is_unusable slot ≡ false → as_read slot ≡ slot
 usable_read Plain usable = refl
 usable_read (Virt site) usable = refl
 usable_read Unusable usable = absurd (false≢true (sym usable))
@@ -229,7 +229,7 @@ pub all_usable_read : (slots : List Slot) → Usable slots → map as_read slots
 all_usable_read [] usable = refl
 all_usable_read (slot ∷ slots) usable = λ i. usable_read slot usable.0 i ∷ all_usable_read slots usable.1 i
 
-get_is : (place : ℕ) (slots : List Slot) → place < length slots
+pub get_is : (place : ℕ) (slots : List Slot) → place < length slots
     → (slot : Slot) × (slice_get slots place ≡ Some slot) × (drop place slots ≡ slot ∷ drop (suc place) slots)
 get_is place [] low = absurd (omega (arith, low))
 get_is zero (slot ∷ slots) low = (slot, refl, refl)
