@@ -42,3 +42,4 @@ mod Templates
 mod ShuffleOperands
 mod ShuffleTemplates
 mod TemplateRows
+mod StillTemplates
