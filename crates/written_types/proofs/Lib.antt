@@ -43,3 +43,5 @@ mod ShuffleOperands
 mod ShuffleTemplates
 mod TemplateRows
 mod StillTemplates
+mod FieldUnits
+mod StoredUnits
