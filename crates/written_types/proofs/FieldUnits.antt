@@ -18,7 +18,7 @@ use Rattle.flow_code.specs.declared.point.Site.{Site}
 use Rattle.making_code.specs.StateFrames.{field_types as types_of_fields, site_types_from}
 use Rattle.virtual_state.specs.States.{State, is_present}
 use Rattle.virtual_state.specs.declared.slot.VObject.{VObject}
-use Rattle.written_types.proofs.Given.{units_behind}
+use Rattle.written_types.proofs.SlotFrames.{units_behind}
 use Rattle.written_types.specs.FitsTypes.{BeginsWithTop, HavePairs}
 
 -- ---- lists that end in no long or double

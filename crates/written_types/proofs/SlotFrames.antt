@@ -27,8 +27,36 @@ use Rattle.virtual_state.specs.declared.slot.Slot.{Slot}
 use Rattle.virtual_state.specs.declared.slot.Slot.TheVariants.{Plain, Virt, Unusable}
 use Rattle.virtual_state.specs.declared.slot.VObject.{VObject}
 use Rattle.written_types.proofs.AgreeingFrames.{is_a_top}
-use Rattle.written_types.proofs.Given.{entries_in, entries_with, frame_in_slots, locals_in, type_in, units_behind}
+use Rattle.written_types.proofs.Given.{entries_in, entries_with, frame_in_slots, locals_in, type_in}
 use Rattle.written_types.specs.Writing.{AgreeIn}
+
+-- ---- frames in slots, with all units behind those of the method together
+
+-- the units of fields, of objects, and of scratch
+abbrev pub units_behind : FlatCode → List VObject → List VType
+units_behind flat objects =
+    site_types_from (record { slots = []; objects = objects }) 0 flat.sites
+    ++ replicate (length flat.sites) types.Top
+    ++ replicate (greatest_depth flat.points) types.Top
+
+abbrev pub slots_frame : FlatCode → Frame → List Slot → List Slot → List VObject → Frame
+slots_frame flat read slots entries objects = record {
+  locals = locals_in read.locals slots ++ units_behind flat objects;
+  stack = entries_in read.stack entries;
+}
+
+pub together : (own fields objects scratch : List VType) → own ++ fields ++ objects ++ scratch ≡ own ++ (fields ++ objects ++ scratch)
+together own fields objects scratch =
+    append_assoc (own ++ fields) objects scratch
+    ∙ append_assoc own fields (objects ++ scratch)
+    ∙ ap (λ (rest : List VType). own ++ rest) (sym (append_assoc fields objects scratch))
+
+pub grouped : (flat : FlatCode) (read : Frame) (slots entries : List Slot) (objects : List VObject)
+    → frame_in_slots flat read slots entries objects ≡ slots_frame flat read slots entries objects
+grouped flat read slots entries objects =
+    ap (λ (locals : List VType). record { locals = locals; stack = entries_in read.stack entries })
+    (together (locals_in read.locals slots) (site_types_from (record { slots = []; objects = objects }) 0 flat.sites)
+    (replicate (length flat.sites) types.Top) (replicate (greatest_depth flat.points) types.Top))
 
 -- ---- lists
 
@@ -317,7 +345,7 @@ sites_are state number (site ∷ sites) =
 
 pub state_is : (flat : FlatCode) (at : ℕ) (point : Point) (state : State) → point_at flat at ≡ Some point
     → state_frame flat at state
-    ≡ frame_in_slots flat (read_frame flat point.typed) state.slots (drop (length point.typed.locals) state.slots) state.objects
+    ≡ slots_frame flat (read_frame flat point.typed) state.slots (drop (length point.typed.locals) state.slots) state.objects
 state_is flat at point state there =
     ap (λ (found : Option Point). frame_in flat found state) there
     ∙ (λ i. record { locals = locals i; stack = entries_are flat point.typed.stack (drop (length point.typed.locals) state.slots) i }) where
@@ -337,6 +365,4 @@ state_is flat at point state there =
           ≡ own ++ units_behind flat state.objects
       locals =
           (λ i. locals_are flat point.typed.locals state.slots i ++ sites_are state 0 flat.sites i ++ objects ++ scratch)
-          ∙ append_assoc (own ++ fields) objects scratch
-          ∙ append_assoc own fields (objects ++ scratch)
-          ∙ ap (λ (rest : List VType). own ++ rest) (sym (append_assoc fields objects scratch))
+          ∙ together own fields objects scratch

@@ -33,10 +33,10 @@ use Rattle.virtual_state.specs.declared.slot.Slot.{Slot}
 use Rattle.virtual_state.specs.declared.slot.Slot.TheVariants.{Plain, Virt, Unusable}
 use Rattle.virtual_state.specs.declared.slot.VObject.{VObject}
 use Rattle.written_types.proofs.BlockEnds.{topmost_none}
-use Rattle.written_types.proofs.Given.{EdgesFit, EndsCarry, Given, entries_in, locals_in, units_behind}
+use Rattle.written_types.proofs.Given.{EdgesFit, EndsCarry, Given, entries_in, locals_in}
 use Rattle.written_types.proofs.OperandRows.{Fit, map_set, no_operand}
 use Rattle.written_types.proofs.RowTable.{same_pool}
-use Rattle.written_types.proofs.SlotFrames.{SayLess, agree_less, as_read, less_both, less_mapped, say_same}
+use Rattle.written_types.proofs.SlotFrames.{units_behind, SayLess, agree_less, as_read, less_both, less_mapped, say_same}
 use Rattle.written_types.proofs.SlotTypes.{not_wide}
 use Rattle.written_types.proofs.TemplateRows.{OneType, as_many, depth_present, field_present, holds_for, less_cut, less_set, nothing_template, one_type, operand_slots, operands_are, plan_for, row_for, scope_for, two_types}
 use Rattle.written_types.proofs.Templates.{Before, By, along, entries, entries_have, entries_long, have_dropped, held_locals_are, locals_agree, locals_stay, moved_slots, number, objects_behind, places, plan_row, read, row, state, units_alike}

@@ -40,10 +40,10 @@ use Rattle.virtual_state.specs.Without.{without}
 use Rattle.virtual_state.specs.declared.slot.Slot.{Slot}
 use Rattle.virtual_state.specs.declared.slot.VObject.{VObject}
 use Rattle.written_types.proofs.Arrivals.{FitsPoint, begins, fits_point}
-use Rattle.written_types.proofs.Given.{AtInstruction, EdgesFit, EndsCarry, Given, entries_in, frame_in_slots, locals_in, units_behind}
+use Rattle.written_types.proofs.Given.{AtInstruction, EdgesFit, EndsCarry, Given, entries_in, locals_in, written_along}
 use Rattle.written_types.proofs.ItemSteps.{frame_of}
 use Rattle.written_types.proofs.Placing.{IsMade, block_carries, goes_behind, same_form}
-use Rattle.written_types.proofs.SlotFrames.{AgreeingParts, UsablePlaces, agree_both, agreeing_parts, all_usable_read, as_long_dropped, as_long_taken, as_read, entries_both, held_slots, state_is, stack_parts, take_in_map, usable_places}
+use Rattle.written_types.proofs.SlotFrames.{slots_frame, units_behind, grouped, AgreeingParts, UsablePlaces, agree_both, agreeing_parts, all_usable_read, as_long_dropped, as_long_taken, as_read, entries_both, held_slots, state_is, stack_parts, take_in_map, usable_places}
 use Rattle.written_types.proofs.SlotFrames.{Usable}
 use Rattle.written_types.proofs.Standing.{Standing, all_taken}
 use Rattle.written_types.specs.FitsTypes.{HaveTypes, is_reached}
@@ -149,7 +149,7 @@ module _ (w : Writing) (given : Given w) (b : Before w given) where
       (subst (λ (all : List VType). HaveTypes w.s all state.slots)
       (map-append (read_type w.s.flat) b.point.typed.locals b.point.typed.stack) fits.slots))
 
-  frame_is : frame_in w b.one ≡ frame_by_item w.form w.blocks (frame_in_slots w.s.flat read state.slots entries state.objects)
+  frame_is : frame_in w b.one ≡ frame_by_item w.form w.blocks (slots_frame w.s.flat read state.slots entries state.objects)
   frame_is =
       ap (λ (block : Block). frame_by_item w.form w.blocks (written_frame w.s.flat block)) b.here.is_block
       ∙ ap (frame_by_item w.form w.blocks) (state_is w.s.flat b.at b.point state b.here.there)
@@ -199,7 +199,7 @@ module _ (w : Writing) (given : Given w) (b : Before w given) where
   objects_behind = changed w.s state plan_row.change ++ state.objects
 
   abbrev pub along : Frame
-  along = frame_in_slots w.s.flat (record { locals = row.locals; stack = stack_behind read row }) (moved_slots plan_row.locals)
+  along = slots_frame w.s.flat (record { locals = row.locals; stack = stack_behind read row }) (moved_slots plan_row.locals)
       (moved_slots plan_row.stack) objects_behind
 
   -- the slots below operands stay
@@ -293,13 +293,19 @@ module _ (w : Writing) (given : Given w) (b : Before w given) where
 
   -- ---- to the next point
 
+  along_is : written_along w b.at b.point state edges.Next ≡ along
+  along_is =
+      grouped w.s.flat (record { locals = row.locals; stack = stack_behind read row }) (moved_slots plan_row.locals) (moved_slots plan_row.stack)
+      objects_behind
+
   module _ (fit : EdgesFit w given) (ends : EndsCarry w given) where
     pub goes_next : (last : Frame) (edge : RouteEdge) → edge_by b.route edges.Next ≡ Some edge
         → Agrees last (frame_by_item w.form w.blocks along)
         → GoesBehind w (Some last) b.behind
     goes_next last edge found agrees =
         goes_behind w last b.behind edge.to edge.state
-        (fit.along b.at b.point b.route edges.Next edge last b.here.there b.here.is_route found agrees) (b.here.next edge found)
+        (fit.along b.at b.point b.route edges.Next edge last b.here.there b.here.is_route found
+        (subst (λ (f : Frame). Agrees last (frame_by_item w.form w.blocks f)) (sym along_is) agrees)) (b.here.next edge found)
 
     pub next_carries : (last : Frame) (edge : RouteEdge) → edge_by b.route edges.Next ≡ Some edge
         → b.one.block.leaves ≡ None
@@ -308,7 +314,7 @@ module _ (w : Writing) (given : Given w) (b : Before w given) where
         → BlockCarries w number b.one b.behind b.frame
     next_carries last edge found leaves agrees carried =
         block_carries w number b.one b.behind b.frame last carried
-        (ends.staying b.behind b.one (number + length (in_form w.form b.one.block.items)) last leaves (goes_next last edge found agrees))
+        (ends.staying b.front b.behind b.one (number + length (in_form w.form b.one.block.items)) last b.is leaves (goes_next last edge found agrees))
 
     -- ---- items that are no jumps
 
