@@ -45,3 +45,6 @@ mod TemplateRows
 mod StillTemplates
 mod FieldUnits
 mod StoredUnits
+mod UnitTemplates
+mod TemplateEnds
+mod FieldFits

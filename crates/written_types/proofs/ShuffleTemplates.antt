@@ -35,7 +35,8 @@ use Rattle.written_types.proofs.ShuffleOperands.{agree_same, all_fit, cells_are,
 use Rattle.written_types.proofs.SlotFrames.{Usable, as_long_dropped, as_long_taken, by_top, by_wide, drop_in_map}
 use Rattle.written_types.proofs.StackRows.{read_form}
 use Rattle.written_types.proofs.Standing.{all_dropped, item_of_dropped}
-use Rattle.written_types.proofs.Templates.{Before, Taken, agrees_behind, entries, entries_have, entries_long, have_dropped, locals_stay, number, places, plan_row, read, read_long, row, state, taken, template_carries, typed, By, along, moved_slots}
+use Rattle.written_types.proofs.TemplateEnds.{template_carries}
+use Rattle.written_types.proofs.Templates.{Before, Taken, agrees_behind, entries, entries_have, entries_long, have_dropped, locals_stay, number, places, plan_row, read, read_long, row, state, taken, typed, By, along, moved_slots}
 use Rattle.written_types.proofs.TopForms.{FormMoves, form_fits, form_moves, long_widths, moved}
 use Rattle.written_types.specs.FitsTypes.{HaveTypes}
 use Rattle.written_types.specs.Writing.{AgreeIn, Agrees, BlockCarries, Carries, Writing, carries_none}

@@ -36,7 +36,8 @@ use Rattle.written_types.proofs.ItemSteps.{frame_of}
 use Rattle.written_types.proofs.OperandRows.{Cut, cut_of, no_cut, one_cut}
 use Rattle.written_types.proofs.SlotFrames.{SayLess, get_is, read_slot, say_same, usable_read}
 use Rattle.written_types.proofs.Standing.{all_at, item_of_dropped}
-use Rattle.written_types.proofs.Templates.{Before, By, Taken, agrees_behind, along, entries, entries_long, moved_slots, number, places, plan_row, read, read_long, row, state, taken, template_carries, typed}
+use Rattle.written_types.proofs.TemplateEnds.{template_carries}
+use Rattle.written_types.proofs.Templates.{Before, By, Taken, agrees_behind, along, entries, entries_long, moved_slots, number, places, plan_row, read, read_long, row, state, taken, typed}
 use Rattle.written_types.specs.Writing.{AgreeIn, Agrees, BlockCarries, Carries, Writing, carries_none}
 
 -- ---- operands that fit
