@@ -48,3 +48,9 @@ mod StoredUnits
 mod UnitTemplates
 mod TemplateEnds
 mod FieldFits
+mod FieldPlaces
+mod FieldReads
+mod FieldStores
+mod FieldWrites
+mod MadeTemplates
+mod InitTemplates

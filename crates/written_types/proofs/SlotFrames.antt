@@ -323,7 +323,7 @@ usable_places flat (type ∷ locals) stack (slot ∷ slots) is =
 
 -- ---- the frame of a state in these words
 
-locals_are : (flat : FlatCode) (all : List VType) (slots : List Slot) → local_types_from flat all slots ≡ locals_in (map (read_type flat) all) slots
+pub locals_are : (flat : FlatCode) (all : List VType) (slots : List Slot) → local_types_from flat all slots ≡ locals_in (map (read_type flat) all) slots
 locals_are flat [] slots = refl
 locals_are flat (type ∷ all) [] = refl
 locals_are flat (type ∷ all) (Plain ∷ slots) = ap (λ (rest : List VType). read_type flat type ∷ rest) (locals_are flat all slots)

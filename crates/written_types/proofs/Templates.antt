@@ -250,6 +250,14 @@ module _ (w : Writing) (given : Given w) (b : Before w given) where
   held_locals_are =
       held_slots w.s state plan_row.change 0 (length b.point.typed.locals) (let many = places.many in omega (arith, many))
 
+  pub own_stays : row.locals ≡ read.locals
+      → plan_row.locals ≡ held_locals b.point.typed
+      → locals_in row.locals (moved_slots plan_row.locals) ≡ locals_in read.locals state.slots
+  own_stays types_are sources_are =
+      (λ i. locals_in (types_are i) (moved_slots (sources_are i)))
+      ∙ ap (locals_in read.locals) held_locals_are
+      ∙ places.locals_read
+
   pub locals_stay : row.locals ≡ read.locals
       → plan_row.locals ≡ held_locals b.point.typed
       → ((site : ℕ) → is_present objects_behind site ≡ is_present state.objects site)
