@@ -54,3 +54,5 @@ mod FieldStores
 mod FieldWrites
 mod MadeTemplates
 mod InitTemplates
+mod JumpTemplates
+mod DecidedJumps

@@ -82,7 +82,7 @@ module _ (w : Writing) (given : Given w) (b : Before w given) where
     abbrev pub AreMade : List WInstr → Type 0
     AreMade instrs = AllByRecursion IsMade instrs
 
-    made_items : (instrs : List WInstr) → AreMade instrs → AllByRecursion (λ (one : WItem). IsMade one.instr) (map item instrs)
+    pub made_items : (instrs : List WInstr) → AreMade instrs → AllByRecursion (λ (one : WItem). IsMade one.instr) (map item instrs)
     made_items [] all = tt
     made_items (instr ∷ instrs) all = (all.0, made_items instrs all.1)
 
