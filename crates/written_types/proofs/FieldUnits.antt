@@ -139,9 +139,9 @@ site_long : (b : Bool) (fields : List FieldType) → length (types_of_fields b f
 site_long true fields = fields_long fields
 site_long false fields = length-replicate (parameter_units fields) types.Top
 
-site_narrow : (b : Bool) (fields : List FieldType) → EndsNarrow (types_of_fields b fields)
-site_narrow true fields = fields_narrow fields
-site_narrow false fields = narrow_tops (parameter_units fields)
+pub site_narrow_of : (b : Bool) (fields : List FieldType) → EndsNarrow (types_of_fields b fields)
+site_narrow_of true fields = fields_narrow fields
+site_narrow_of false fields = narrow_tops (parameter_units fields)
 
 pub site_among : (objects : List VObject) (from : ℕ) (sites : List Site) (number : ℕ) (site : Site) → slice_get sites number ≡ Some site
     → UnitsAt (site_types_from (bare objects) from sites) (types_of_fields (is_present objects (from + number)) site.fields)
@@ -170,7 +170,7 @@ site_among objects from (first ∷ sites) (suc number) site is =
       long =
           length-append (types_of_fields (is_present objects from) first.fields) rest.left
           ∙ (λ i. site_long (is_present objects from) first.fields i + rest.long i);
-      narrow = narrow_both (types_of_fields (is_present objects from) first.fields) rest.left (site_narrow (is_present objects from) first.fields) rest.narrow;
+      narrow = narrow_both (types_of_fields (is_present objects from) first.fields) rest.left (site_narrow_of (is_present objects from) first.fields) rest.narrow;
     }
 
 -- with the units of objects and of scratch behind

@@ -56,3 +56,4 @@ mod MadeTemplates
 mod InitTemplates
 mod JumpTemplates
 mod DecidedJumps
+mod NewTemplates

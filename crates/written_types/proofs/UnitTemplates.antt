@@ -143,7 +143,7 @@ site_less headers true true fields are = less_itself _
 site_less headers true false fields are = less_tops _ _ (fields_long fields)
 site_less headers false other fields are = tops_less headers _ _ are
 
-site_units_long : (b : Bool) (fields : List FieldType) → length (types_of_fields b fields) ≡ parameter_units fields
+pub site_units_long : (b : Bool) (fields : List FieldType) → length (types_of_fields b fields) ≡ parameter_units fields
 site_units_long true fields = fields_long fields
 site_units_long false fields = length-replicate (parameter_units fields) types.Top
 
