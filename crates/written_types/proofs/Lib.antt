@@ -57,3 +57,5 @@ mod InitTemplates
 mod JumpTemplates
 mod DecidedJumps
 mod NewTemplates
+mod NewSites
+mod NullTests
