@@ -59,3 +59,4 @@ mod DecidedJumps
 mod NewTemplates
 mod NewSites
 mod NullTests
+mod TemplateBlocks
