@@ -19,3 +19,4 @@ mod CarriedBlocks
 mod FramedBodies
 mod TypedBodies
 mod BlockEnds
+mod Given
