@@ -20,3 +20,14 @@ mod FramedBodies
 mod TypedBodies
 mod BlockEnds
 mod Given
+mod AgreeLists
+mod WrittenTypes
+mod NeedsKept
+mod StandingFrames
+mod PlainOperands
+mod KeptRows
+mod OwnUnits
+mod KeptLocals
+mod ChangedTypes
+mod KeptMembers
+mod KeptCalls

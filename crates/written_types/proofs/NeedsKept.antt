@@ -154,15 +154,36 @@ fits_agreeing w sc need type one steady fits (inl top) =
     fits_top sc need one (subst (Fits sc need) (item_top w type top) fits)
 fits_agreeing w sc need type one steady fits (inr same) = subst (Fits sc need) (sym same) (fits_item w sc need type steady fits)
 
+-- of another scope among the same classes
+fits_scope : (sc other : RowScope) → other.headers ≡ sc.headers → (need : Need) (type : VType) → Fits sc need type → Fits other need type
+fits_scope sc other same (of_kind kind) type fits = fits
+fits_scope sc other same initialised type fits = fits
+fits_scope sc other same uninitialised type fits = fits
+fits_scope sc other same (assignable_to wanted) type fits = subst (λ (headers : Headers). IsAssignable headers type wanted) (sym same) fits
+fits_scope sc other same (assignable_or_this wanted) type (inl fits) =
+    inl (subst (λ (headers : Headers). IsAssignable headers type wanted) (sym same) fits)
+fits_scope sc other same (assignable_or_this wanted) type (inr is) = inr is
+fits_scope sc other same (array_among names) type fits = fits
+fits_scope sc other same array_of_references type fits = fits
+fits_scope sc other same some_array type fits = fits
+fits_scope sc other same single type fits = fits
+fits_scope sc other same double type fits = fits
+fits_scope sc other same nothing type fits = fits
+
 -- ---- operands
 
-pub all_agreeing : (w : Writing) (sc : RowScope) (needs : List Need) (all ones : List VType) → AreSteady needs → AllFit sc needs all
+pub all_agreeing : (w : Writing) (sc other : RowScope) → other.headers ≡ sc.headers
+    → (needs : List Need) (all ones : List VType)
+    → AreSteady needs
+    → AllFit sc needs all
     → AgreeIn ones (map (by_item w) all)
-    → AllFit sc needs ones
-all_agreeing w sc [] [] [] steady fit agree = tt
-all_agreeing w sc [] [] (one ∷ ones) steady fit agree = absurd agree
-all_agreeing w sc [] (type ∷ all) ones steady fit agree = absurd fit
-all_agreeing w sc (need ∷ needs) [] ones steady fit agree = absurd fit
-all_agreeing w sc (need ∷ needs) (type ∷ all) [] steady fit agree = absurd agree
-all_agreeing w sc (need ∷ needs) (type ∷ all) (one ∷ ones) steady fit agree =
-    (fits_agreeing w sc need type one steady.0 fit.0 agree.0, all_agreeing w sc needs all ones steady.1 fit.1 agree.1)
+    → AllFit other needs ones
+all_agreeing w sc other same [] [] [] steady fit agree = tt
+all_agreeing w sc other same [] [] (one ∷ ones) steady fit agree = absurd agree
+all_agreeing w sc other same [] (type ∷ all) ones steady fit agree = absurd fit
+all_agreeing w sc other same (need ∷ needs) [] ones steady fit agree = absurd fit
+all_agreeing w sc other same (need ∷ needs) (type ∷ all) [] steady fit agree = absurd agree
+all_agreeing w sc other same (need ∷ needs) (type ∷ all) (one ∷ ones) steady fit agree = (
+  fits_scope sc other same need one (fits_agreeing w sc need type one steady.0 fit.0 agree.0),
+  all_agreeing w sc other same needs all ones steady.1 fit.1 agree.1,
+)
