@@ -1,7 +1,8 @@
 -- What all families of blocks take: the hypotheses, and what the laws of other crates and of this one say of them. And the words in which they say
 -- where a frame goes.
-use Rattle.std.specs.Prelude.{◌≡◌, ◌≢◌, ◌+◌, ◌++◌, ℕ, false, List, [], ◌∷◌, drop, length, map, replicate, slice_get, Option, Some, None}
+use Rattle.std.specs.Prelude.{◌≡◌, ◌≢◌, ◌+◌, ◌++◌, ℕ, false, List, [], ◌∷◌, drop, length, map, replicate, slice_get, Option, Some, None, IsTrue}
 use Rattle.std.specs.List.{AllByRecursion}
+use Rattle.class_model.specs.Frames.{is_top}
 use Rattle.class_model.specs.declared.frame.Frame.{Frame}
 use Rattle.class_model.specs.declared.frame.VType.{VType}
 use Rattle.class_model.specs.declared.frame.VType.TheVariants.{Top, UninitThis}
@@ -15,6 +16,7 @@ use Rattle.flow_code.specs.declared.handlers.FlatHandler.{FlatHandler}
 use Rattle.flow_code.specs.declared.point.FlatInstr.TheVariants.{Of}
 use Rattle.flow_code.specs.declared.point.Point.{Point}
 use Rattle.making_code.specs.Items.{WItem, to_handler_pad, to_point}
+use Rattle.making_code.specs.MakeCode.{names_in}
 use Rattle.making_code.specs.MakeOrder.{IsMakeOrder}
 use Rattle.making_code.specs.StateFrames.{site_types_from, state_frame}
 use Rattle.member_link.specs.Bodies.{caught_type}
@@ -23,7 +25,8 @@ use Rattle.member_link.specs.Rows.Row.{stack_behind}
 use Rattle.plan_flow.specs.Laws.RoutedPlans.{HasOneEffect}
 use Rattle.plan_flow.specs.Must.{row_of_point}
 use Rattle.plan_flow.specs.PlanSlots.{edge_locals, edge_objects, edge_stack, slots_from}
-use Rattle.plan_flow.specs.Plans.{HasPlainBeneathTop, IsMadeIn}
+use Rattle.plan_flow.specs.PlanScope.{local_types, stack_types}
+use Rattle.plan_flow.specs.Plans.{IsMadeIn}
 use Rattle.plan_flow.specs.Written.Blocks.{instruction_block, is_decided, making, of_point, state_written}
 use Rattle.plan_flow.specs.Written.Finish.{Finished, begins_point, end_items}
 use Rattle.plan_flow.specs.Written.FramedCode.{frame_by_item}
@@ -196,12 +199,22 @@ written_before w point state =
 
 -- ---- make code (A)
 
+-- the plain entries above the lowest one that is made are not Top, so that they can be saved
+abbrev pub NoTops : List VType → List Slot → Type 0
+NoTops (type ∷ types) (slot ∷ slots) = (slot ≡ Plain → is_top type ≡ false) × NoTops types slots
+NoTops types slots = Unit {0}
+
+abbrev pub NoTopsAbove : List ℕ → List VType → List Slot → Type 0
+NoTopsAbove made (type ∷ types) (slot ∷ slots) =
+    (IsTrue (names_in made slot) → NoTops types slots) × NoTopsAbove made types slots
+NoTopsAbove made types slots = Unit {0}
+
 -- A state at a typed point in which objects are made in an order.
 pub record CanMake (w : Writing) (given : Given w) (at : ℕ) (state : State) (made order : List ℕ) : Type 0 where
   pub is_state : IsState state
   pub is_made : IsMadeIn state made
   pub is_order : IsMakeOrder state.objects made order
-  pub beneath : HasPlainBeneathTop w.s at state
+  pub saves : NoTopsAbove made (stack_types w.s.flat at) (drop (length (local_types w.s.flat at)) state.slots)
   pub fits : FitsTypes w.s (is_reached given.setting.routes) at state
 
 -- items carry a frame to one that fits a state
