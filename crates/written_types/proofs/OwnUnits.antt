@@ -230,8 +230,11 @@ own_cut w rest s (suc at) written all slots within have usable own =
 
       by : (wide : Bool) → is_wide there.type ≡ wide → (also : Bool) → is_wide entry.type ≡ also → Settled w rest (suc at) written all slots
       by true wide true also =
-          rw (cut_at at all there.type true there.is_type wide, cut_at at written entry.type true entry.is also)
-          (record { long = set_long all at types.Top; own = own_over w rest written all slots at types.Top low own })
+          record {
+            long = rw (cut_at at all there.type true there.is_type wide) (set_long all at types.Top);
+            own = rw (cut_at at all there.type true there.is_type wide, cut_at at written entry.type true entry.is also)
+                (own_over w rest written all slots at types.Top low own);
+          }
       by true wide false also = absurd (elim entry.agrees [
         | inl top ↦ no_both (wide_item w there.type ∙ wide) (ap is_wide (sym plain_item ∙ top))
         | inr same ↦ no_both (ap is_wide (same ∙ plain_item) ∙ wide_item w there.type ∙ wide) also
@@ -240,15 +243,17 @@ own_cut w rest s (suc at) written all slots within have usable own =
         plain_item = ap (λ (slot : Slot). by_item w (type_in there.type slot)) (plain_if_wide s there.type there.slot there.has there.used wide)
 
       by false wide true also =
-          rw (cut_at at all there.type false there.is_type wide, cut_at at written entry.type true entry.is also)
-          (record {
-            long = refl;
-            own = own_any w rest written all slots at types.Top
-                (written_there ∙ ap Some (says_nothing w entry.type there.type there.slot entry.agrees also wide)) own;
-          })
+          record {
+            long = rw (cut_at at all there.type false there.is_type wide) refl;
+            own = rw (cut_at at all there.type false there.is_type wide, cut_at at written entry.type true entry.is also)
+                (own_any w rest written all slots at types.Top
+                (written_there ∙ ap Some (says_nothing w entry.type there.type there.slot entry.agrees also wide)) own);
+          }
       by false wide false also =
-          rw (cut_at at all there.type false there.is_type wide, cut_at at written entry.type false entry.is also)
-          (record { long = refl; own = own })
+          record {
+            long = rw (cut_at at all there.type false there.is_type wide) refl;
+            own = rw (cut_at at all there.type false there.is_type wide, cut_at at written entry.type false entry.is also) own;
+          }
 
 pub own_longer : (w : Writing) (rest written all : List VType) (slots : List Slot) → Own w rest written all slots → length all ≤ length written
 own_longer w rest written all slots own =

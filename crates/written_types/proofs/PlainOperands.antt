@@ -12,7 +12,7 @@ use Rattle.class_tree.specs.Headers.{Headers, IsThere, Name, class_named, header
 use Rattle.class_tree.specs.Hierarchy.{IsHierarchy}
 use Rattle.class_tree.specs.Laws.Above.{above_is_there, hierarchy_is_sound, there_is_no_array}
 use Rattle.class_tree.specs.Laws.Arrays.{is_array_of}
-use Rattle.class_tree.specs.Subtype.{IsArray, IsReferenceComponent, array, class}
+use Rattle.class_tree.specs.Subtype.{IsArray, IsReferenceComponent}
 use Rattle.flow_code.specs.ReadTypes.{read_frame, read_type}
 use Rattle.member_link.specs.Assignability.{IsAssignable, IsNameAssignable, from_array, from_null, of_components, of_names, to_class_above, to_interface, to_itself, to_same, to_top}
 use Rattle.member_link.specs.RowScope.{RowScope}
@@ -27,7 +27,7 @@ use Rattle.virtual_state.specs.declared.slot.Slot.{Slot}
 use Rattle.virtual_state.specs.declared.slot.Slot.TheVariants.{Plain, Virt, Unusable}
 use Rattle.written_types.proofs.SiteFields.{SitesKnown}
 use Rattle.written_types.proofs.SlotTypes.{IsOpen, is_open_type, item_before, open_object, open_top}
-use Rattle.written_types.proofs.Standing.{Standing, operand_has}
+use Rattle.written_types.proofs.Standing.{Standing, fit_long, operand_has}
 use Rattle.written_types.proofs.StandingFrames.{held_plain}
 use Rattle.written_types.specs.FitsTypes.{HasType, IsOfType}
 
@@ -92,12 +92,12 @@ module _ (s : PlanScope) (known : SitesKnown s) where
   barred_open sc (of_kind kinds.Long) _ number barred (open_object name) is fits = absurd cc
   barred_open sc (of_kind kinds.Float) _ number barred (open_object name) is fits = absurd cc
   barred_open sc (of_kind kinds.Double) _ number barred (open_object name) is fits = absurd cc
-  barred_open sc (of_kind kinds.Ref) type number barred open is fits = absurd barred
-  barred_open sc initialised type number barred open is fits = absurd barred
+  barred_open sc (of_kind kinds.Ref) type number barred opened is fits = absurd barred
+  barred_open sc initialised type number barred opened is fits = absurd barred
   barred_open sc uninitialised _ number barred open_top is fits = fits
   barred_open sc uninitialised _ number barred (open_object name) is fits = fits
-  barred_open sc (assignable_to wanted) type number barred open is fits = absurd barred
-  barred_open sc (assignable_or_this wanted) type number barred open is fits = absurd barred
+  barred_open sc (assignable_to wanted) type number barred opened is fits = absurd barred
+  barred_open sc (assignable_or_this wanted) type number barred opened is fits = absurd barred
   barred_open sc (array_among names) _ number barred open_top is fits = fits
   barred_open sc (array_among names) _ number barred (open_object name) is fits =
       object_array name number is (among_array names name barred fits)
@@ -106,10 +106,10 @@ module _ (s : PlanScope) (known : SitesKnown s) where
       object_array name number is (component_array name fits.0 fits.1)
   barred_open sc some_array _ number barred open_top is fits = fits
   barred_open sc some_array _ number barred (open_object name) is fits = object_array name number is fits
-  barred_open sc single type number barred open is fits = absurd barred
+  barred_open sc single type number barred opened is fits = absurd barred
   barred_open sc double _ number barred open_top is fits = absurd cc
   barred_open sc double _ number barred (open_object name) is fits = absurd cc
-  barred_open sc nothing type number barred open is fits = fits
+  barred_open sc nothing type number barred opened is fits = fits
 
   not_virtual : (sc : RowScope) (need : Need) (type : VType) (slot : Slot) → IsBarred need → HasType s type slot → Fits sc need type → (number : ℕ)
       → slot ≡ Virt number
@@ -128,6 +128,15 @@ IsNone before place = (site : ℕ) → held before place ≡ Virt site → ⊥
 abbrev pub Sure : Frame → State → List Need → Type 0
 Sure f before [] = Unit {0}
 Sure f before (need ∷ needs) = (IsBarred need ⊎ IsNone before (operand f (length needs))) × Sure f before needs
+
+same_or_less : (one other : ℕ) → one < suc other → (one ≡ other) ⊎ (one < other)
+same_or_less zero zero within = inl refl
+same_or_less zero (suc other) within = inr (omega arith)
+same_or_less (suc one) zero within = absurd (omega (arith, within))
+same_or_less (suc one) (suc other) within = elim (same_or_less one other (omega (arith, within))) [
+  | inl same ↦ inl (ap suc same)
+  | inr low ↦ inr (omega (arith, low))
+]
 
 dropped_next : {A : Type 0} (count : ℕ) (items : List A) (first : A) (rest : List A) → drop count items ≡ first ∷ rest → drop (suc count) items ≡ rest
 dropped_next zero [] first rest is = absurd cc
@@ -153,27 +162,21 @@ module _ (s : PlanScope) (known : SitesKnown s) (reached : ℕ → Bool) (f : Fr
           long : suc (length entries) ≡ length rf.stack - (length rf.stack - suc (length needs))
           long = sym (ap length are) ∙ length-drop (length rf.stack - suc (length needs)) rf.stack
 
+          exact : suc (length entries) ≡ suc (length needs)
+          exact = fit_long sc (need ∷ needs) (type ∷ entries) fits
+
           behind : length rf.stack - length needs ≡ suc (length rf.stack - suc (length needs))
-          behind = omega (arith, long)
+          behind = omega (arith, long, exact)
 
           next : topmost (length needs) rf.stack ≡ entries
           next =
               ap (λ (n : ℕ). drop n rf.stack) behind
               ∙ dropped_next (length rf.stack - suc (length needs)) rf.stack type entries are
 
-          same_or_less : (one other : ℕ) → one < suc other → (one ≡ other) ⊎ (one < other)
-          same_or_less zero zero within = inl refl
-          same_or_less zero (suc other) within = inr (omega arith)
-          same_or_less (suc one) zero within = absurd (omega (arith, within))
-          same_or_less (suc one) (suc other) within = elim (same_or_less one other (omega (arith, within))) [
-            | inl same ↦ inl (ap suc same)
-            | inr low ↦ inr (omega (arith, low))
-          ]
-
           here : held before (operand f (length needs)) ≡ Plain
           here = held_plain before (operand f (length needs)) none where
             many : length (topmost (suc (length needs)) rf.stack) ≡ suc (length needs)
-            many = length-drop (length rf.stack - suc (length needs)) rf.stack ∙ omega (arith, long)
+            many = length-drop (length rf.stack - suc (length needs)) rf.stack ∙ omega (arith, long, exact)
 
             none : IsNone before (operand f (length needs))
             none = elim sure.0 [
@@ -196,23 +199,16 @@ NoneAsked s before p =
 
 operand_asked : (f : Frame) (count k : ℕ) → k < count → slice_get (operands_asked f count) (count - (k + 1)) ≡ Some (any_object (operand f k))
 operand_asked f zero k less = absurd (omega (arith, less))
-operand_asked f (suc count) k less = by (same_or_less k count less) where
-  same_or_less : (one other : ℕ) → one < suc other → (one ≡ other) ⊎ (one < other)
-  same_or_less zero zero within = inl refl
-  same_or_less zero (suc other) within = inr (omega arith)
-  same_or_less (suc one) zero within = absurd (omega (arith, within))
-  same_or_less (suc one) (suc other) within = elim (same_or_less one other (omega (arith, within))) [
-    | inl same ↦ inl (ap suc same)
-    | inr low ↦ inr (omega (arith, low))
-  ]
-
-  by : (k ≡ count) ⊎ (k < count) → slice_get (operands_asked f (suc count)) (suc count - (k + 1)) ≡ Some (any_object (operand f k))
-  by (inl same) =
+operand_asked f (suc count) k less = by (same_or_less k count less) (operand_asked f count k) where
+  by : (k ≡ count) ⊎ (k < count)
+      → (k < count → slice_get (operands_asked f count) (count - (k + 1)) ≡ Some (any_object (operand f k)))
+      → slice_get (operands_asked f (suc count)) (suc count - (k + 1)) ≡ Some (any_object (operand f k))
+  by (inl same) rest =
       let first : suc count - (k + 1) ≡ 0 = omega (arith, same) in
       ap (slice_get (operands_asked f (suc count))) first ∙ ap (λ (n : ℕ). Some (any_object (operand f n))) (sym same)
-  by (inr low) =
+  by (inr low) rest =
       let later : suc count - (k + 1) ≡ suc (count - (k + 1)) = omega (arith, low) in
-      ap (slice_get (operands_asked f (suc count))) later ∙ operand_asked f count k low
+      ap (slice_get (operands_asked f (suc count))) later ∙ rest low
 
 -- so many operands are handed over
 pub handed_none : (s : PlanScope) (before : State) (f : Frame) (p : PlanRow) (count : ℕ) → p.asks ≡ operands_asked f count → NoneAsked s before p

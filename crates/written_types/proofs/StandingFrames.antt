@@ -23,32 +23,37 @@ use Rattle.written_types.specs.Writing.{AgreeIn, RowFits, Writing, scope_in}
 
 -- ---- what places hold
 
-pub held_many : (w : Writing) (before : State) (change : Change) (first count : ℕ)
-    → length (slots_from w.s before change (held_from first count)) ≡ count
-held_many w before change first zero = refl
-held_many w before change first (suc count) = ap suc (held_many w before change (first + 1) count)
+pub held_many : (w : Writing) (before : State) (does : Change) (first count : ℕ)
+    → length (slots_from w.s before does (held_from first count)) ≡ count
+held_many w before does first zero = refl
+held_many w before does first (suc count) = ap suc (held_many w before does (first + 1) count)
 
 -- the change of objects does not matter
-pub held_same : (w : Writing) (before : State) (change other : Change) (first count : ℕ)
-    → slots_from w.s before change (held_from first count) ≡ slots_from w.s before other (held_from first count)
-held_same w before change other first zero = refl
-held_same w before change other first (suc count) =
-    ap (λ (rest : List Slot). held before first ∷ rest) (held_same w before change other (first + 1) count)
+pub held_same : (w : Writing) (before : State) (does other : Change) (first count : ℕ)
+    → slots_from w.s before does (held_from first count) ≡ slots_from w.s before other (held_from first count)
+held_same w before does other first zero = refl
+held_same w before does other first (suc count) =
+    ap (λ (rest : List Slot). held before first ∷ rest) (held_same w before does other (first + 1) count)
 
 pub held_apart : (first count more : ℕ) → held_from first (count + more) ≡ held_from first count ++ held_from (first + count) more
-held_apart first zero more = ap (λ (n : ℕ). held_from n more) (omega arith)
+held_apart first zero more =
+    let none : 0 + more ≡ more = omega arith in
+    let here : first ≡ first + 0 = omega arith in
+    ap (held_from first) none ∙ ap (λ (n : ℕ). held_from n more) here
 held_apart first (suc count) more =
+    let one : suc count + more ≡ suc (count + more) = omega arith in
     let next : first + 1 + count ≡ first + suc count = omega arith in
-    ap (λ (rest : List Source). from_place first ∷ rest) (held_apart (first + 1) count more)
+    ap (held_from first) one
+    ∙ ap (λ (rest : List Source). from_place first ∷ rest) (held_apart (first + 1) count more)
     ∙ ap (λ (n : ℕ). from_place first ∷ held_from (first + 1) count ++ held_from n more) next
 
-held_plainly : (w : Writing) (before : State) (change : Change) (first count : ℕ)
+held_plainly : (w : Writing) (before : State) (does : Change) (first count : ℕ)
     → ((k : ℕ) → k < count → held before (first + k) ≡ Plain)
-    → ArePlain (slots_from w.s before change (held_from first count))
-held_plainly w before change first zero plain = tt
-held_plainly w before change first (suc count) plain = (
+    → ArePlain (slots_from w.s before does (held_from first count))
+held_plainly w before does first zero plain = tt
+held_plainly w before does first (suc count) plain = (
   ap (held before) (omega arith) ∙ plain 0 (omega arith),
-  held_plainly w before change (first + 1) count (λ k less. ap (held before) (omega arith) ∙ plain (suc k) (omega (arith, less))),
+  held_plainly w before does (first + 1) count (λ k less. ap (held before) (omega arith) ∙ plain (suc k) (omega (arith, less))),
 )
 
 -- a place that holds no virtual object is plain

@@ -25,8 +25,8 @@ entry_types w all slots = map (by_item w) (entries_in all slots)
 
 -- ---- entries
 
-same_tails : {A B : Type 0} {ones : List A} {others : List B} → suc (length ones) ≡ suc (length others) → length ones ≡ length others
-same_tails e = cc
+same_tails : {A B : Type 0} (ones : List A) (others : List B) → suc (length ones) ≡ suc (length others) → length ones ≡ length others
+same_tails ones others e = cc
 
 entries_joined : (ones others : List VType) (fronts backs : List Slot) → length ones ≡ length fronts
     → entries_in (ones ++ others) (fronts ++ backs) ≡ entries_in ones fronts ++ entries_in others backs
@@ -34,9 +34,9 @@ entries_joined [] others [] backs long = refl
 entries_joined [] others (slot ∷ fronts) backs long = absurd cc
 entries_joined (one ∷ ones) others [] backs long = absurd cc
 entries_joined (one ∷ ones) others (Plain ∷ fronts) backs long =
-    ap (λ (rest : List VType). one ∷ rest) (entries_joined ones others fronts backs (same_tails long))
-entries_joined (one ∷ ones) others (Virt site ∷ fronts) backs long = entries_joined ones others fronts backs (same_tails long)
-entries_joined (one ∷ ones) others (Unusable ∷ fronts) backs long = entries_joined ones others fronts backs (same_tails long)
+    ap (λ (rest : List VType). one ∷ rest) (entries_joined ones others fronts backs (same_tails _ _ long))
+entries_joined (one ∷ ones) others (Virt site ∷ fronts) backs long = entries_joined ones others fronts backs (same_tails _ _ long)
+entries_joined (one ∷ ones) others (Unusable ∷ fronts) backs long = entries_joined ones others fronts backs (same_tails _ _ long)
 
 abbrev pub ArePlain : List Slot → Type 0
 ArePlain slots = AllByRecursion (λ slot. slot ≡ Plain) slots
@@ -47,7 +47,7 @@ entries_plain [] (slot ∷ slots) long plain = absurd cc
 entries_plain (one ∷ ones) [] long plain = absurd cc
 entries_plain (one ∷ ones) (slot ∷ slots) long plain =
     ap (λ (found : Slot). entries_with found one (entries_in ones slots)) plain.0
-    ∙ ap (λ (rest : List VType). one ∷ rest) (entries_plain ones slots (same_tails long) plain.1)
+    ∙ ap (λ (rest : List VType). one ∷ rest) (entries_plain ones slots (same_tails _ _ long) plain.1)
 
 -- the same by items
 pub written_joined : (w : Writing) (ones others : List VType) (fronts backs : List Slot) → length ones ≡ length fronts
