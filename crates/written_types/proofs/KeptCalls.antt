@@ -98,6 +98,14 @@ module _ (w : Writing) (reached : ℕ → Bool) (f : Frame) (before : State) (re
       (arguments_steady (parameters_of r.desc))
       (sure_none f before (argument_needs r.desc) (λ k less. none k (let many = needs_long r.desc in omega (arith, less, many)))) fit (λ c. tt)
 
+  receiver_agrees : (r : Reference)
+      → AgreeAt (lowest_of (suc (length (argument_needs r.desc))) g.stack) (by_item w (lowest_of (suc (length (argument_needs r.desc))) rf.stack))
+      → AgreeAt (receiver g r.desc) (by_item w (receiver rf r.desc))
+  receiver_agrees r agrees =
+      let many = needs_long r.desc in
+      let count : suc (length (argument_needs r.desc)) ≡ length (parameters_of r.desc) + 1 = omega (arith, many) in
+      subst (λ (n : ℕ). AgreeAt (lowest_of n g.stack) (by_item w (lowest_of n rf.stack))) count agrees
+
   -- on an object of a class
   object_kept : (p : PlanRow) (r : Reference) (Further Access Wanted Passes : Type 0) → Calls p (suc (length (parameters_of r.desc))) r.desc
       → ((k : ℕ) → k < suc (length (parameters_of r.desc)) → IsNone before (operand f k))
@@ -110,14 +118,6 @@ module _ (w : Writing) (reached : ℕ → Bool) (f : Frame) (before : State) (re
       (sure_none f before (assignable_to (types.Object r.class) ∷ argument_needs r.desc)
       (λ k less. none k (let many = needs_long r.desc in omega (arith, less, many)))) fit
       (λ c. wanted (receiver_agrees r (lowest_agrees w reached f before rest g st known sc refl (suc (length (argument_needs r.desc))) c.top)))
-
-  receiver_agrees : (r : Reference)
-      → AgreeAt (lowest_of (suc (length (argument_needs r.desc))) g.stack) (by_item w (lowest_of (suc (length (argument_needs r.desc))) rf.stack))
-      → AgreeAt (receiver g r.desc) (by_item w (receiver rf r.desc))
-  receiver_agrees r agrees =
-      let many = needs_long r.desc in
-      let count : suc (length (argument_needs r.desc)) ≡ length (parameters_of r.desc) + 1 = omega (arith, many) in
-      subst (λ (n : ℕ). AgreeAt (lowest_of n g.stack) (by_item w (lowest_of n rf.stack))) count agrees
 
   pub instance_kept : (p : PlanRow) (r : Reference) → Calls p (suc (length (parameters_of r.desc))) r.desc
       → ((k : ℕ) → k < suc (length (parameters_of r.desc)) → IsNone before (operand f k))
@@ -144,7 +144,7 @@ module _ (w : Writing) (reached : ℕ → Bool) (f : Frame) (before : State) (re
 
   -- ---- types that change
 
-  slots : List Slot
+  abbrev slots : List Slot
   slots = slots_from w.s before no_change (held_locals f)
 
   -- what is left where types of locals and of the entries under the operands are changed

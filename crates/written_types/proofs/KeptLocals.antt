@@ -63,10 +63,10 @@ held_usable : (w : Writing) (before : State) (first count : ℕ)
 held_usable w before first zero = tt
 held_usable w before first (suc count) = (usable (slice_get before.slots first) refl, held_usable w before (first + 1) count) where
   usable : (found : Option Slot) → slice_get before.slots first ≡ found → held before first ≢ Unusable
-  usable None is same = absurd (cc (sym (rw is refl) ∙ same))
-  usable (Some Plain) is same = absurd (cc (sym (rw is refl) ∙ same))
-  usable (Some (Virt site)) is same = absurd (cc (sym (rw is refl) ∙ same))
-  usable (Some Unusable) is same = absurd (cc (sym (rw is refl) ∙ same))
+  usable None is same = let no : Plain ≡ Unusable = rw is at same in absurd cc
+  usable (Some Plain) is same = let no : Plain ≡ Unusable = rw is at same in absurd cc
+  usable (Some (Virt site)) is same = let no : Virt site ≡ Unusable = rw is at same in absurd cc
+  usable (Some Unusable) is same = let no : Plain ≡ Unusable = rw is at same in absurd cc
 
 room_within : (kind : Kind) (locals : List VType) (at : ℕ) → HasRoom kind locals at → at < length locals
 room_within kinds.Int locals at room = omega (arith, room)
@@ -99,7 +99,7 @@ module _ (w : Writing) (reached : ℕ → Bool) (f : Frame) (before : State) (re
   locals_long : length rf.locals ≡ length f.locals
   locals_long = length-map f.locals (read_type w.s.flat)
 
-  slots : List Slot
+  abbrev slots : List Slot
   slots = slots_from w.s before no_change (held_locals f)
 
   own : Own w rest g.locals rf.locals slots
@@ -111,8 +111,10 @@ module _ (w : Writing) (reached : ℕ → Bool) (f : Frame) (before : State) (re
       agree_entry g.locals (own_types w rf.locals slots ++ rest) at (by_item w type) st.locals
       (item_before (own_types w rf.locals slots) rest at (by_item w type)
       (own_at w rf.locals slots at type (held before at) is
-      (held_at w before 0 (length f.locals) at (let low = within_of rf.locals at type is in omega (arith, low, locals_long)))
-      ∙ ap (λ (slot : Slot). Some (by_item w (type_in type slot))) plain))
+      (held_at w before 0 (length f.locals) at (let low = within_of rf.locals at type is in omega (arith, low, locals_long)) ∙ from_none)
+      ∙ ap (λ (slot : Slot). Some (by_item w (type_in type slot))) plain)) where
+        from_none : Some (held before (0 + at)) ≡ Some (held before at)
+        from_none = let here : 0 + at ≡ at = omega arith in ap (λ (n : ℕ). Some (held before n)) here
 
   holds : (kind : Kind) (at : ℕ) → held before at ≡ Plain → (h : HoldsKind kind rf.locals at)
       → (entry : AgreeEntry g.locals at (by_item w h.0)) × IsOfKind kind entry.type

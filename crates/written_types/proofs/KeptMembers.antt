@@ -158,23 +158,24 @@ module _ (w : Writing) (reached : ℕ → Bool) (f : Frame) (before : State) (re
       → Follow (plan_put w.s f found) (put_field_row sc rf one) (put_field_row (scope_in w) g other)
   put_field_kept None other found keeps value object fit = absurd (no_operand sc rf fit)
   put_field_kept (Some r) other found keeps value object fit = rw (keeps r refl) (by found) where
+    lowest : Fits sc (assignable_or_this (types.Object r.class)) (lowest_of 2 rf.stack) × HasItsNew w.s reached (lowest_of 2 rf.stack)
+    lowest = lowest_new (assignable_or_this (types.Object r.class)) (assignable_to (field_type r.desc) ∷ []) fit
+
+    no_top : Fits sc (assignable_or_this (types.Object r.class)) types.Top → ⊥
+    no_top (inl is) = top_to_object r.class is
+    no_top (inr is) = absurd cc
+
+    puts : AgreeAt (lowest_of 2 g.stack) (by_item w (lowest_of 2 rf.stack)) → MayPut (scope_in w) r (lowest_of 2 g.stack)
+    puts (inl top) = absurd (no_top (subst (Fits sc (assignable_or_this (types.Object r.class))) (item_top w (lowest_of 2 rf.stack) top) lowest.0))
+    puts (inr is) = may_put (scope_in w) r (lowest_of 2 g.stack) (λ this. item_no_this w reached (lowest_of 2 rf.stack) lowest.1 (sym is ∙ this))
+
     row : (p : PlanRow) → changed w.s before p.change ≡ [] → p.locals ≡ held_locals f → p.stack ≡ (moving f 2 []).stack
         → Follow p (put_field_row sc rf (Some r)) (put_field_row (scope_in w) g (Some r))
     row p still locals_are is =
         kept w reached f before rest g st known sc same p (assignable_or_this (types.Object r.class) ∷ assignable_to (field_type r.desc) ∷ []) 2 [] [] []
         (MayPut sc r (lowest_of 2 rf.stack)) (PassesPut sc r (lowest_of 2 rf.stack)) (MayPut (scope_in w) r (lowest_of 2 g.stack))
         (PassesPut (scope_in w) r (lowest_of 2 g.stack)) refl still locals_are is (tt, (type_steady _, tt)) (inr object, (inr value, tt)) fit
-        (λ c. tt) (λ c. puts (lowest_agrees w reached f before rest g st known sc same 2 c.top)) where
-          puts : AgreeAt (lowest_of 2 g.stack) (by_item w (lowest_of 2 rf.stack)) → MayPut (scope_in w) r (lowest_of 2 g.stack)
-          puts (inl top) =
-              absurd (no_top (subst (Fits sc (assignable_or_this (types.Object r.class))) (item_top w (lowest_of 2 rf.stack) top) lowest.0)) where
-                no_top : Fits sc (assignable_or_this (types.Object r.class)) types.Top → ⊥
-                no_top (inl is) = top_to_object r.class is
-                no_top (inr is) = absurd cc
-          puts (inr is) = may_put (scope_in w) r (lowest_of 2 g.stack) (λ this. item_no_this w reached (lowest_of 2 rf.stack) lowest.1 (sym is ∙ this))
-
-          lowest : Fits sc (assignable_or_this (types.Object r.class)) (lowest_of 2 rf.stack) × HasItsNew w.s reached (lowest_of 2 rf.stack)
-          lowest = lowest_new (assignable_or_this (types.Object r.class)) (assignable_to (field_type r.desc) ∷ []) fit
+        (λ c. tt) (λ c. puts (lowest_agrees w reached f before rest g st known sc same 2 c.top))
 
     by : (field : Option Reference) → Follow (plan_put w.s f field) (put_field_row sc rf (Some r)) (put_field_row (scope_in w) g (Some r))
     by None = row (plan_put w.s f None) refl refl refl

@@ -180,7 +180,7 @@ module _ (w : Writing) (reached : ℕ → Bool) (f : Frame) (before : State) (re
   gives_none p needs count many still locals_are is steady sure fit =
       kept p needs count [] [] [] (Unit {0}) (Unit {0}) (Unit {0}) (Unit {0}) many still locals_are is steady sure fit (λ c. tt) (λ c. tt)
 
-  agree_one : (type : VType) → IsSteady type → AgreeIn (type ∷ []) (by_item w type ∷ [])
+  pub agree_one : (type : VType) → IsSteady type → AgreeIn (type ∷ []) (by_item w type ∷ [])
   agree_one type steady = (inr (sym (steady_item w type steady)), tt)
 
   pub gives_one : (p : PlanRow) (needs : List Need) (count : ℕ) (type : VType) → length needs ≡ count → changed w.s before p.change ≡ []

@@ -22,7 +22,7 @@ use Rattle.written_types.specs.Writing.{AgreeIn, Writing}
 
 -- ---- by number
 
-own_at : (w : Writing) (all : List VType) (slots : List Slot) (number : ℕ) (type : VType) (slot : Slot) → slice_get all number ≡ Some type
+pub own_at : (w : Writing) (all : List VType) (slots : List Slot) (number : ℕ) (type : VType) (slot : Slot) → slice_get all number ≡ Some type
     → slice_get slots number ≡ Some slot
     → slice_get (own_types w all slots) number ≡ Some (by_item w (type_in type slot))
 own_at w [] slots number type slot is at = absurd (none-some type is)

@@ -111,7 +111,7 @@ module _ (s : PlanScope) (known : SitesKnown s) where
   barred_open sc double _ number barred (open_object name) is fits = absurd cc
   barred_open sc nothing type number barred opened is fits = fits
 
-  not_virtual : (sc : RowScope) (need : Need) (type : VType) (slot : Slot) → IsBarred need → HasType s type slot → Fits sc need type → (number : ℕ)
+  pub not_virtual : (sc : RowScope) (need : Need) (type : VType) (slot : Slot) → IsBarred need → HasType s type slot → Fits sc need type → (number : ℕ)
       → slot ≡ Virt number
       → ⊥
   not_virtual sc need type slot barred has fits number is =
