@@ -98,6 +98,15 @@ module _ (w : Writing) (reached : ℕ → Bool) (f : Frame) (before : State) (re
       (arguments_steady (parameters_of r.desc))
       (sure_none f before (argument_needs r.desc) (λ k less. none k (let many = needs_long r.desc in omega (arith, less, many)))) fit (λ c. tt)
 
+  pub dynamic_called : (p : PlanRow) (desc : List ℕ) → Calls p (length (parameters_of desc)) desc
+      → ((k : ℕ) → k < length (parameters_of desc) → IsNone before (operand f k))
+      → AllFit sc (argument_needs desc) (topmost (length (argument_needs desc)) rf.stack)
+      → Follow p (plain rf (argument_needs desc) (result_types (result_of desc))) (plain g (argument_needs desc) (result_types (result_of desc)))
+  dynamic_called p desc calls none fit =
+      called p (argument_needs desc) (length (parameters_of desc)) desc (Unit {0}) (Unit {0}) (Unit {0}) (Unit {0}) calls (needs_long desc)
+      (arguments_steady (parameters_of desc))
+      (sure_none f before (argument_needs desc) (λ k less. none k (let many = needs_long desc in omega (arith, less, many)))) fit (λ c. tt)
+
   receiver_agrees : (r : Reference)
       → AgreeAt (lowest_of (suc (length (argument_needs r.desc))) g.stack) (by_item w (lowest_of (suc (length (argument_needs r.desc))) rf.stack))
       → AgreeAt (receiver g r.desc) (by_item w (receiver rf r.desc))

@@ -31,3 +31,7 @@ mod KeptLocals
 mod ChangedTypes
 mod KeptMembers
 mod KeptCalls
+mod MeantConstants
+mod NamedConstants
+mod KeptInvokes
+mod KeptTable
