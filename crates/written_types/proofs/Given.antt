@@ -25,7 +25,8 @@ use Rattle.member_link.specs.Rows.Row.{stack_behind}
 use Rattle.plan_flow.specs.Laws.RoutedPlans.{HasOneEffect}
 use Rattle.plan_flow.specs.Must.{row_of_point}
 use Rattle.plan_flow.specs.PlanSlots.{edge_locals, edge_objects, edge_stack, slots_from}
-use Rattle.plan_flow.specs.PlanScope.{local_types, stack_types}
+use Rattle.member_link.specs.Scope.{Scope}
+use Rattle.plan_flow.specs.PlanScope.{PlanScope, local_types, stack_types}
 use Rattle.plan_flow.specs.Plans.{IsMadeIn}
 use Rattle.plan_flow.specs.Written.Blocks.{instruction_block, is_decided, making, of_point, state_written}
 use Rattle.plan_flow.specs.Written.Finish.{Finished, begins_point, end_items}
@@ -127,7 +128,8 @@ pub record EndsCarry (w : Writing) (given : Given w) : Type 0 where
       → slice_get given.setting.routes to ≡ Some (Some target)
       → FitsState w frame to target.state
       → EndCarries w number one behind frame
-  pub staying : (behind : List Finished) (one : Finished) (number : ℕ) (frame : Frame)
+  pub staying : (front behind : List Finished) (one : Finished) (number : ℕ) (frame : Frame)
+      → w.blocks ≡ front ++ (one ∷ behind)
       → one.block.leaves ≡ None
       → GoesBehind w (Some frame) behind
       → EndCarries w number one behind frame
@@ -155,17 +157,13 @@ entries_in [] slots = []
 entries_in (type ∷ types) [] = []
 entries_in (type ∷ types) (slot ∷ slots) = entries_with slot type (entries_in types slots)
 
--- the units of fields, of objects, and of scratch
-abbrev pub units_behind : FlatCode → List VObject → List VType
-units_behind flat objects =
-    site_types_from (record { slots = []; objects = objects }) 0 flat.sites
-    ++ replicate (length flat.sites) Top
-    ++ replicate (greatest_depth flat.points) Top
-
 -- A typed frame, read, with the slots of its locals and of its stack, and with objects: as it is written.
 abbrev pub frame_in_slots : FlatCode → Frame → List Slot → List Slot → List VObject → Frame
 frame_in_slots flat read slots entries objects = record {
-  locals = locals_in read.locals slots ++ units_behind flat objects;
+  locals = locals_in read.locals slots
+      ++ site_types_from (record { slots = []; objects = objects }) 0 flat.sites
+      ++ replicate (length flat.sites) Top
+      ++ replicate (greatest_depth flat.points) Top;
   stack = entries_in read.stack entries;
 }
 
@@ -174,18 +172,21 @@ abbrev pub caught_at : Option FlatHandler → List VType
 caught_at None = []
 caught_at (Some handler) = caught_type (caught_class handler.catch_class) ∷ []
 
-abbrev pub read_along : (w : Writing) → ℕ → Point → EdgeKind → Frame
-read_along w at point (edges.Handler number) = record {
-  locals = (read_frame w.s.flat point.typed).locals;
+abbrev pub read_by : PlanScope → Scope → ℕ → Point → EdgeKind → Frame
+read_by s scope at point (edges.Handler number) = record {
+  locals = (read_frame s.flat point.typed).locals;
   stack = caught_at (slice_get point.handlers number);
 }
-read_along w at point by = record {
-  locals = (read_row w.s.classes w.host w.s.flat at point).locals;
-  stack = stack_behind (read_frame w.s.flat point.typed) (read_row w.s.classes w.host w.s.flat at point);
+read_by s scope at point by = record {
+  locals = (read_row s.classes scope s.flat at point).locals;
+  stack = stack_behind (read_frame s.flat point.typed) (read_row s.classes scope s.flat at point);
 }
 
+abbrev pub read_along : Writing → ℕ → Point → EdgeKind → Frame
+read_along w at point by = read_by w.s w.host at point by
+
 -- the same as it is written in the slots and with the objects that come along the edge from a state
-abbrev pub written_along : (w : Writing) → ℕ → Point → State → EdgeKind → Frame
+abbrev pub written_along : Writing → ℕ → Point → State → EdgeKind → Frame
 written_along w at point before by =
     frame_in_slots w.s.flat (read_along w at point by)
     (slots_from w.s before (row_of_point w.s at point).change (edge_locals (row_of_point w.s at point) (length point.typed.locals) by))
@@ -193,7 +194,7 @@ written_along w at point before by =
     (edge_objects w.s before (row_of_point w.s at point) by)
 
 -- what the block of an instruction begins with, in the same words
-abbrev pub written_before : (w : Writing) → Point → State → Frame
+abbrev pub written_before : Writing → Point → State → Frame
 written_before w point state =
     frame_in_slots w.s.flat (read_frame w.s.flat point.typed) state.slots (drop (length point.typed.locals) state.slots) state.objects
 

@@ -35,3 +35,11 @@ mod MeantConstants
 mod NamedConstants
 mod KeptInvokes
 mod KeptTable
+mod Placing
+mod FinishedBlocks
+mod EdgeRows
+mod RouteEdges
+mod EdgeFrames
+mod BlockKinds
+mod Targets
+mod Ends

@@ -116,7 +116,7 @@ route_of s first (Some point ∷ plan) (Some one ∷ routes) are (suc number) ro
     subst (λ (n : ℕ). RouteOf s n (slice_get plan number) route) (omega arith) (route_of s (suc first) plan routes are.1 number route is)
 
 -- a plan and its routes reach the same points
-same_reached : (s : PlanScope) (first : ℕ) (plan : Plan) (routes : Routes) → AreRoutes s first plan routes → (number : ℕ)
+pub same_reached : (s : PlanScope) (first : ℕ) (plan : Plan) (routes : Routes) → AreRoutes s first plan routes → (number : ℕ)
     → is_some (planned plan number) ≡ is_reached routes number
 same_reached s first [] [] are number = refl
 same_reached s first [] (one ∷ routes) are number = absurd are
@@ -148,7 +148,7 @@ module _ (classes : Classes) (links : Links) (scope : Scope) (flat : FlatCode) (
       let candidate = (candidate_at number site is).candidate in
       ap is_some (class_of_folder (headers_of classes) site.class candidate.header candidate.found)
 
-  sites : SitesKnown s
+  pub sites : SitesKnown s
   sites = record {
     hierarchy = hierarchy;
     links = are_links;
@@ -156,10 +156,10 @@ module _ (classes : Classes) (links : Links) (scope : Scope) (flat : FlatCode) (
     fields = λ number site is. (candidate_at number site is).fields;
   }
 
-  headers_are : scope.headers ≡ headers_of classes
+  pub headers_are : scope.headers ≡ headers_of classes
   headers_are = scope_headers classes flat.host scope ready.host
 
-  no_initialiser : is_init scope ≡ false
+  pub no_initialiser : is_init scope ≡ false
   no_initialiser = by (is_init scope) refl where
     by : (b : Bool) → is_init scope ≡ b → is_init scope ≡ false
     by true is = absurd (candidates.host (is_initialiser scope ready.host (inl is)))
@@ -178,7 +178,7 @@ module _ (classes : Classes) (links : Links) (scope : Scope) (flat : FlatCode) (
       → ⊥
   none_asked number point before must at position site is asks = false≢true (must.asked site (by_position at position site is asks))
 
-  point_known : (number : ℕ) (one : PlannedPoint) → planned plan number ≡ Some one → (point : Point) → point_at flat number ≡ Some point
+  pub point_known : (number : ℕ) (one : PlannedPoint) → planned plan number ≡ Some one → (point : Point) → point_at flat number ≡ Some point
       → PointKnown s reached scope number point (state_left one)
   point_known number one is point there = record {
     typed = ready.typed.points number point there;
