@@ -43,3 +43,7 @@ mod EdgeFrames
 mod BlockKinds
 mod Targets
 mod Ends
+mod PointFrames
+mod ItemRows
+mod WrittenPool
+mod ReadyPoints

@@ -56,7 +56,7 @@ item_of_taken (suc count) [] n item is = absurd (none-some item is)
 item_of_taken (suc count) (first ∷ items) zero item is = is
 item_of_taken (suc count) (first ∷ items) (suc n) item is = item_of_taken count items n item is
 
-item_of_dropped : {A : Type 0} (count : ℕ) (items : List A) (n : ℕ) → slice_get (drop count items) n ≡ slice_get items (count + n)
+pub item_of_dropped : {A : Type 0} (count : ℕ) (items : List A) (n : ℕ) → slice_get (drop count items) n ≡ slice_get items (count + n)
 item_of_dropped zero items n = ap (slice_get items) (omega arith)
 item_of_dropped (suc count) [] n = refl
 item_of_dropped (suc count) (first ∷ items) n =
