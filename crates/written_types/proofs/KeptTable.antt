@@ -143,6 +143,45 @@ float_numbers : OfNumbers float_operations
 float_numbers = (two_numbers, (two_numbers, (one_number, (one_number, (one_number, (one_number, (one_number, (one_number, (one_number, (one_number, (one_number,
     (one_number, (one_number, (one_number, (two_numbers, (two_numbers, tt))))))))))))))))
 
+-- ---- what is known of an instruction
+
+-- its constant means the same by another index of another pool
+abbrev pub Meant : Constants → Constants → ℕ → Instr → Type 0
+Meant old pool new (Ldc index) = SameLoaded old index pool new
+Meant old pool new (Ldc2 index) = SameLoaded old index pool new
+Meant old pool new (GetStatic index) = SameNamed old index pool new
+Meant old pool new (PutStatic index) = SameNamed old index pool new
+Meant old pool new (GetField index) = SameNamed old index pool new
+Meant old pool new (PutField index) = SameNamed old index pool new
+Meant old pool new (Invoke opcode index count) = SameNamed old index pool new
+Meant old pool new (Dynamic index) = SameDynamic old index pool new
+Meant old pool new (NewRefArray index) = SameNamed old index pool new
+Meant old pool new (NewMulti index dimensions) = SameNamed old index pool new
+Meant old pool new (Cast index) = SameNamed old index pool new
+Meant old pool new instr = Unit {0}
+
+abbrev pub FindsField : PlanScope → Constants → ℕ → Type 0
+FindsField s old index = (r : Reference) → reference_of old (constant_at old index) ≡ Some r → (field : Reference) × (s.links.field r ≡ Some field)
+
+-- what it names is found
+abbrev pub IsFound : PlanScope → Constants → Instr → Type 0
+IsFound s old (GetField index) = FindsField s old index
+IsFound s old (PutField index) = FindsField s old index
+IsFound s old (InstanceOf index) = (name : Name) × (class_at old index ≡ Some name)
+IsFound s old (Invoke opcode index count) =
+    (r : Reference) → reference_of old (constant_at old index) ≡ Some r → is_object_init r ≡ true → IsObjectInit opcode r
+IsFound s old instr = Unit {0}
+
+-- a new stands at its item, and no object of it is on the stack
+pub record NewHere (w : Writing) (reached : ℕ → Bool) (at number : ℕ) (g : Frame) : Type 0 where
+  pub is_reached : IsReachedNew w.s reached at
+  pub here : new_item w at ≡ number
+  pub fresh : AllByRecursion (λ type. type ≢ types.Uninit number) g.stack
+
+abbrev pub StandsNew : Writing → (ℕ → Bool) → ℕ → ℕ → Frame → Instr → Type 0
+StandsNew w reached at number g (New index) = NewHere w reached at number g
+StandsNew w reached at number g instr = Unit {0}
+
 -- ---- the table
 
 module _ (w : Writing) (reached : ℕ → Bool) (f : Frame) (before : State) (rest : List VType) (g : Frame) (st : Stands w reached f before rest g)
@@ -163,32 +202,6 @@ module _ (w : Writing) (reached : ℕ → Bool) (f : Frame) (before : State) (re
   abbrev pub Follow : Instr → Type 0
   Follow instr = RowFollows w before rest f g (row_at w.s at f (Of class instr)) (flat_row instr) (row_of (scope_in w) g number (with_index new instr))
 
-  -- the constant means the same
-  abbrev pub Meant : Instr → Type 0
-  Meant (Ldc index) = SameLoaded old index w.pool new
-  Meant (Ldc2 index) = SameLoaded old index w.pool new
-  Meant (GetStatic index) = SameNamed old index w.pool new
-  Meant (PutStatic index) = SameNamed old index w.pool new
-  Meant (GetField index) = SameNamed old index w.pool new
-  Meant (PutField index) = SameNamed old index w.pool new
-  Meant (Invoke opcode index count) = SameNamed old index w.pool new
-  Meant (Dynamic index) = SameDynamic old index w.pool new
-  Meant (NewRefArray index) = SameNamed old index w.pool new
-  Meant (NewMulti index dimensions) = SameNamed old index w.pool new
-  Meant (Cast index) = SameNamed old index w.pool new
-  Meant instr = Unit {0}
-
-  -- what it names is found, and a new stands at its item
-  abbrev pub IsFound : Instr → Type 0
-  IsFound (GetField index) = (r : Reference) → reference_of old (constant_at old index) ≡ Some r → (field : Reference) × (w.s.links.field r ≡ Some field)
-  IsFound (PutField index) = (r : Reference) → reference_of old (constant_at old index) ≡ Some r → (field : Reference) × (w.s.links.field r ≡ Some field)
-  IsFound (InstanceOf index) = (name : Name) × (class_at old index ≡ Some name)
-  IsFound (Invoke opcode index count) =
-      (r : Reference) → reference_of old (constant_at old index) ≡ Some r → is_object_init r ≡ true → IsObjectInit opcode r
-  IsFound (New index) =
-      IsReachedNew w.s reached at × (new_item w at ≡ number) × AllByRecursion (λ type. type ≢ types.Uninit number) g.stack
-  IsFound instr = Unit {0}
-
   handed_first : (p : PlanRow) → p.asks ≡ operands_asked f 1 → NoneAsked w.s before p → IsNone before (operand f 0)
   handed_first p asks none = handed_none w.s before f p 1 asks none 0 (omega arith)
 
@@ -196,46 +209,47 @@ module _ (w : Writing) (reached : ℕ → Bool) (f : Frame) (before : State) (re
   no_operands = subst (AllFit sc []) (sym (topmost_none rf.stack)) tt
 
   pub instr_kept : (instr : Instr) → template w.s at f before route class instr ≡ None → NoneAsked w.s before (row_at w.s at f (Of class instr))
-      → Meant instr
-      → IsFound instr
+      → Meant old w.pool new instr
+      → IsFound w.s old instr
+      → StandsNew w reached at number g instr
       → RowHolds sc rf (flat_row instr)
       → Follow instr
-  instr_kept Nop none asks meant found holds =
+  instr_kept Nop none asks meant found stands holds =
       gives_none w reached f before rest g st known sc refl (moving f 0 []) [] 0 refl refl refl refl tt tt no_operands
-  instr_kept (Const imm) none asks meant found holds = imm_kept w reached f before rest g st known sc refl imm
-  instr_kept (Ldc index) none asks meant found holds =
+  instr_kept (Const imm) none asks meant found stands holds = imm_kept w reached f before rest g st known sc refl imm
+  instr_kept (Ldc index) none asks meant found stands holds =
       without_access (const_kept w reached f before rest g st known sc refl (constant_at old index) (constant_at w.pool new) meant holds.operands)
-  instr_kept (Ldc2 index) none asks meant found holds =
+  instr_kept (Ldc2 index) none asks meant found stands holds =
       without_access (const_kept w reached f before rest g st known sc refl (constant_at old index) (constant_at w.pool new) meant holds.operands)
-  instr_kept (Load kind local) none asks meant found holds =
+  instr_kept (Load kind local) none asks meant found stands holds =
       load_kept w reached f before rest g st known sc refl kind local (nothing_none (held before local) none) holds.local
-  instr_kept (Store kind local) none asks meant found holds =
+  instr_kept (Store kind local) none asks meant found stands holds =
       store_kept w reached f before rest g st known sc refl kind local (nothing_none (held before (operand f 0)) none) holds.local holds.operands
-  instr_kept (Iinc local by) none asks meant found holds = iinc_kept w reached f before rest g st known sc refl local holds.local
-  instr_kept (ArrayLoad opcode) none asks meant found holds =
+  instr_kept (Iinc local by) none asks meant found stands holds = iinc_kept w reached f before rest g st known sc refl local holds.local
+  instr_kept (ArrayLoad opcode) none asks meant found stands holds =
       without_access (array_load_kept w reached f before rest g st known sc refl (opcode == AALOAD) (elements_from IALOAD opcode) (sure_elements IALOAD opcode)
       holds.operands)
-  instr_kept (ArrayStore opcode) none asks meant found holds =
+  instr_kept (ArrayStore opcode) none asks meant found stands holds =
       without_access (array_store_kept w reached f before rest g st known sc refl (record (throwing f 3 []) { asks = value_stored f }) refl refl refl
       (handed_first (record (throwing f 3 []) { asks = value_stored f }) refl asks) (opcode == AASTORE) (elements_from IASTORE opcode)
       (sure_elements IASTORE opcode) holds.operands)
-  instr_kept (Shuffle opcode) none asks meant found holds = absurd (none-some _ (sym none))
-  instr_kept (Pure opcode) none asks meant found holds =
+  instr_kept (Shuffle opcode) none asks meant found stands holds = absurd (none-some _ (sym none))
+  instr_kept (Pure opcode) none asks meant found stands holds =
       without_access (operation_kept w reached f before rest g st known sc refl (λ count. moving f count (plain_value ∷ [])) (λ count. refl) (λ count. refl) (λ count. refl)
       (operation_in pure_operations opcode) (λ o is. found_numbers pure_operations opcode o pure_numbers is) holds.operands)
-  instr_kept (Divide opcode) none asks meant found holds =
+  instr_kept (Divide opcode) none asks meant found stands holds =
       without_access (operation_kept w reached f before rest g st known sc refl (λ count. throwing f count (plain_value ∷ [])) (λ count. refl) (λ count. refl)
       (λ count. refl) (operation_in divide_operations opcode) (λ o is. found_numbers divide_operations opcode o divide_numbers is) holds.operands)
-  instr_kept (FloatAsk opcode) none asks meant found holds =
+  instr_kept (FloatAsk opcode) none asks meant found stands holds =
       without_access (operation_kept w reached f before rest g st known sc refl (λ count. moving f count (plain_value ∷ [])) (λ count. refl) (λ count. refl) (λ count. refl)
       (operation_in float_operations opcode) (λ o is. found_numbers float_operations opcode o float_numbers is) holds.operands)
-  instr_kept (If opcode target) none asks meant found holds =
+  instr_kept (If opcode target) none asks meant found stands holds =
       without_access (jump_kept w reached f before rest g st known sc refl (moving f 1 []) (of_kind kinds.Int ∷ []) refl refl refl (tt, tt) (inl tt, tt)
       (nat_le IFEQ opcode && nat_le opcode IFLE) holds.operands)
-  instr_kept (If2 opcode target) none asks meant found holds =
+  instr_kept (If2 opcode target) none asks meant found stands holds =
       without_access (jump_kept w reached f before rest g st known sc refl (moving f 2 []) (of_kind kinds.Int ∷ of_kind kinds.Int ∷ []) refl refl refl (tt, (tt, tt))
       (inl tt, (inl tt, tt)) (nat_le IF_ICMPEQ opcode && nat_le opcode IF_ICMPLE) holds.operands)
-  instr_kept (IfSame opcode target) none asks meant found holds = by (opcode == IF_ACMPEQ) refl where
+  instr_kept (IfSame opcode target) none asks meant found stands holds = by (opcode == IF_ACMPEQ) refl where
     row : (p : PlanRow) → changed w.s before p.change ≡ [] → p.locals ≡ held_locals f → p.stack ≡ (moving f 2 []).stack
         → RowFollows w before rest f g p (flat_row (IfSame opcode target)) (row_of (scope_in w) g number (IfSame opcode target))
     row p still locals_are is =
@@ -247,7 +261,7 @@ module _ (w : Writing) (reached : ℕ → Bool) (f : Frame) (before : State) (re
     by : (b : Bool) → (opcode == IF_ACMPEQ) ≡ b → Follow (IfSame opcode target)
     by true is = row (same_row f opcode) (rw is refl) (rw is refl) (rw is refl)
     by false is = row (same_row f opcode) (rw is refl) (rw is refl) (rw is refl)
-  instr_kept (IfNull opcode target) none asks meant found holds = by (opcode == IFNULL) refl where
+  instr_kept (IfNull opcode target) none asks meant found stands holds = by (opcode == IFNULL) refl where
     row : (p : PlanRow) → changed w.s before p.change ≡ [] → p.locals ≡ held_locals f → p.stack ≡ (moving f 1 []).stack
         → RowFollows w before rest f g p (flat_row (IfNull opcode target)) (row_of (scope_in w) g number (IfNull opcode target))
     row p still locals_are is =
@@ -257,26 +271,26 @@ module _ (w : Writing) (reached : ℕ → Bool) (f : Frame) (before : State) (re
     by : (b : Bool) → (opcode == IFNULL) ≡ b → Follow (IfNull opcode target)
     by true is = row (null_row f opcode) (rw is refl) (rw is refl) (rw is refl)
     by false is = row (null_row f opcode) (rw is refl) (rw is refl) (rw is refl)
-  instr_kept (Goto target) none asks meant found holds = absurd (none-some _ (sym none))
-  instr_kept (Table low other targets) none asks meant found holds =
+  instr_kept (Goto target) none asks meant found stands holds = absurd (none-some _ (sym none))
+  instr_kept (Table low other targets) none asks meant found stands holds =
       gives_none w reached f before rest g st known sc refl (moving f 1 []) (of_kind kinds.Int ∷ []) 1 refl refl refl refl (tt, tt) (inl tt, tt)
       holds.operands
-  instr_kept (Lookup other pairs) none asks meant found holds =
+  instr_kept (Lookup other pairs) none asks meant found stands holds =
       gives_none w reached f before rest g st known sc refl (moving f 1 []) (of_kind kinds.Int ∷ []) 1 refl refl refl refl (tt, tt) (inl tt, tt)
       holds.operands
-  instr_kept (Return None) none asks meant found holds =
+  instr_kept (Return None) none asks meant found stands holds =
       without_access (return_kept w reached f before rest g st known sc refl (moving f 0 []) refl refl no_init None (λ one is. absurd (none-some one is))
       holds.operands holds.further)
-  instr_kept (Return (Some kind)) none asks meant found holds =
+  instr_kept (Return (Some kind)) none asks meant found stands holds =
       without_access (return_kept w reached f before rest g st known sc refl (row_at w.s at f (Of class (Return (Some kind)))) refl refl no_init (Some kind)
       (λ one is. handed_first (row_at w.s at f (Of class (Return (Some kind)))) refl asks) holds.operands holds.further)
-  instr_kept (GetStatic index) none asks meant found holds =
+  instr_kept (GetStatic index) none asks meant found stands holds =
       without_access (get_static_kept w reached f before rest g st known sc refl (reference_of old (constant_at old index)) (reference_of w.pool (constant_at w.pool new))
       meant.member holds.operands)
-  instr_kept (PutStatic index) none asks meant found holds =
+  instr_kept (PutStatic index) none asks meant found stands holds =
       without_access (put_static_kept w reached f before rest g st known sc refl (reference_of old (constant_at old index)) (reference_of w.pool (constant_at w.pool new))
       meant.member (handed_first (record (throwing f 1 []) { asks = value_stored f }) refl asks) holds.operands)
-  instr_kept (GetField index) none asks meant found holds = by (reference_of old (constant_at old index)) refl where
+  instr_kept (GetField index) none asks meant found stands holds = by (reference_of old (constant_at old index)) refl where
     field_is : field_of w.s class index ≡ option_and_then w.s.links.field (reference_of old (constant_at old index))
     field_is = ap (λ (pool : Constants). option_and_then w.s.links.field (reference_of pool (constant_at pool index))) (same_pool w.s class)
 
@@ -289,7 +303,7 @@ module _ (w : Writing) (reached : ℕ → Bool) (f : Frame) (before : State) (re
         (subst (λ (x : Option Reference). get_template w.s before (held before (operand f 0)) x ≡ None) some none)) holds.operands) where
       some : field_of w.s class index ≡ Some (found r is).0
       some = field_is ∙ ap (option_and_then w.s.links.field) is ∙ (found r is).1
-  instr_kept (PutField index) none asks meant found holds = by (reference_of old (constant_at old index)) refl where
+  instr_kept (PutField index) none asks meant found stands holds = by (reference_of old (constant_at old index)) refl where
     field_is : field_of w.s class index ≡ option_and_then w.s.links.field (reference_of old (constant_at old index))
     field_is = ap (λ (pool : Constants). option_and_then w.s.links.field (reference_of pool (constant_at pool index))) (same_pool w.s class)
 
@@ -311,7 +325,7 @@ module _ (w : Writing) (reached : ℕ → Bool) (f : Frame) (before : State) (re
 
       value : IsNone before (operand f 0)
       value = put_value w.s f before (found r is).0 object asks_put
-  instr_kept (Invoke opcode index count) none asks meant found holds =
+  instr_kept (Invoke opcode index count) none asks meant found stands holds =
       subst (λ (pool : Constants). RowFollows w before rest f g (call_row f opcode (reference_of pool (constant_at pool index)))
       (flat_row (Invoke opcode index count)) (row_of (scope_in w) g number (Invoke opcode new count))) (sym (same_pool w.s class))
       (call_kept w reached f before rest g st known class news opcode (reference_of old (constant_at old index)) (reference_of w.pool (constant_at w.pool new))
@@ -320,52 +334,52 @@ module _ (w : Writing) (reached : ℕ → Bool) (f : Frame) (before : State) (re
       (reference_of pool (constant_at pool index)) ≡ None) (same_pool w.s class) none)
       (subst (λ (pool : Constants). NoneAsked w.s before (call_row f opcode (reference_of pool (constant_at pool index)))) (same_pool w.s class) asks)
       holds.operands holds.further)
-  instr_kept (Dynamic index) none asks meant found holds =
+  instr_kept (Dynamic index) none asks meant found stands holds =
       subst (λ (pool : Constants). RowFollows w before rest f g (dynamic_row pool f (constant_at pool index)) (flat_row (Dynamic index))
       (row_of (scope_in w) g number (Dynamic new))) (sym (same_pool w.s class))
       (without_access (dynamic_kept w reached f before rest g st known class (constant_at old index) (constant_at w.pool new) meant
       (subst (λ (pool : Constants). NoneAsked w.s before (dynamic_row pool f (constant_at pool index))) (same_pool w.s class) asks) holds.operands))
-  instr_kept (New index) none asks meant found holds = by (site_at w.s.flat at) refl none where
+  instr_kept (New index) none asks meant found stands holds = by (site_at w.s.flat at) refl none where
     by : (site : Option ℕ) → site_at w.s.flat at ≡ site → new_template w.s site ≡ None → Follow (New index)
     by (Some site) is there = absurd (none-some _ (sym there))
     by None is there =
         let no_site = no_site_of_point w.s.flat.sites at is in
         rw (is, no_site)
-        (new_kept w reached f before rest g st known class news at number (record { new = found.0; no_site = no_site }) found.1 found.2)
-  instr_kept (NewArray code) none asks meant found holds =
+        (new_kept w reached f before rest g st known class news at number (record { new = stands.is_reached; no_site = no_site }) stands.here stands.fresh)
+  instr_kept (NewArray code) none asks meant found stands holds =
       without_access (made_kept w reached f before rest g st known sc refl 1 (primitive_array code) (primitive_array code) (λ name is. is) holds.operands)
-  instr_kept (NewRefArray index) none asks meant found holds =
+  instr_kept (NewRefArray index) none asks meant found stands holds =
       without_access (made_kept w reached f before rest g st known sc refl 1 (array_of (class_at old index)) (array_of (class_at w.pool new))
       (arrays_same (class_at old index) (class_at w.pool new) meant.class) holds.operands) where
         arrays_same : (one other : Option Name) → ((name : Name) → one ≡ Some name → other ≡ Some name) → (name : Name) → array_of one ≡ Some name
             → array_of other ≡ Some name
         arrays_same None other keeps name is = absurd (none-some name is)
         arrays_same (Some element) other keeps name is = ap array_of (keeps element refl) ∙ is
-  instr_kept (NewMulti index dimensions) none asks meant found holds =
+  instr_kept (NewMulti index dimensions) none asks meant found stands holds =
       without_access (made_kept w reached f before rest g st known sc refl dimensions (class_at old index) (class_at w.pool new) meant.class holds.operands)
-  instr_kept Length none asks meant found holds =
+  instr_kept Length none asks meant found stands holds =
       gives_one w reached f before rest g st known sc refl (throwing f 1 (plain_value ∷ [])) (some_array ∷ []) 1 types.Int refl refl refl refl tt (tt, tt)
       (inl tt, tt) holds.operands
-  instr_kept Throw none asks meant found holds =
+  instr_kept Throw none asks meant found stands holds =
       throw_kept w reached f before rest g st known sc refl (row_at w.s at f (Of class Throw)) refl
       (handed_first (row_at w.s at f (Of class Throw)) refl asks) holds.operands
-  instr_kept (Cast index) none asks meant found holds =
+  instr_kept (Cast index) none asks meant found stands holds =
       subst (λ (pool : Constants). RowFollows w before rest f g (cast_row f (class_at pool index)) (flat_row (Cast index))
       (row_of (scope_in w) g number (Cast new))) (sym (same_pool w.s class))
       (without_access (cast_kept w reached f before rest g st known sc refl (class_at old index) (class_at w.pool new) meant.class
       (nothing_none (held before (operand f 0)) none) holds.operands))
-  instr_kept (InstanceOf index) none asks meant found holds =
+  instr_kept (InstanceOf index) none asks meant found stands holds =
       gives_one w reached f before rest g st known sc refl (moving f 1 (plain_value ∷ [])) (initialised ∷ []) 1 types.Int refl refl refl refl tt (tt, tt)
       (inr (instance_none w.s (held before (operand f 0)) found.0
       (subst (λ (x : Option Name). instance_template w.s (held before (operand f 0)) x ≡ None)
       (ap (λ (pool : Constants). class_at pool index) (same_pool w.s class) ∙ found.1) none)), tt) holds.operands
-  instr_kept Enter none asks meant found holds =
+  instr_kept Enter none asks meant found stands holds =
       gives_none w reached f before rest g st known sc refl (row_at w.s at f (Of class Enter)) (of_kind kinds.Ref ∷ []) 1 refl
       (monitor_still (nothing_none (held before (operand f 0)) none)) refl refl (tt, tt)
       (inr (nothing_none (held before (operand f 0)) none), tt) holds.operands where
         monitor_still : IsNone before (operand f 0) → changed w.s before (enter_monitor (operand f 0)) ≡ []
         monitor_still plain = rw (held_plain before (operand f 0) plain) refl
-  instr_kept Leave none asks meant found holds =
+  instr_kept Leave none asks meant found stands holds =
       gives_none w reached f before rest g st known sc refl (row_at w.s at f (Of class Leave)) (of_kind kinds.Ref ∷ []) 1 refl
       (monitor_still (nothing_none (held before (operand f 0)) none)) refl refl (tt, tt)
       (inr (nothing_none (held before (operand f 0)) none), tt) holds.operands where

@@ -47,3 +47,4 @@ mod PointFrames
 mod ItemRows
 mod WrittenPool
 mod ReadyPoints
+mod NewItems
