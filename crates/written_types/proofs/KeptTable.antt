@@ -155,6 +155,7 @@ Meant old pool new (GetField index) = SameNamed old index pool new
 Meant old pool new (PutField index) = SameNamed old index pool new
 Meant old pool new (Invoke opcode index count) = SameNamed old index pool new
 Meant old pool new (Dynamic index) = SameDynamic old index pool new
+Meant old pool new (New index) = SameNamed old index pool new
 Meant old pool new (NewRefArray index) = SameNamed old index pool new
 Meant old pool new (NewMulti index dimensions) = SameNamed old index pool new
 Meant old pool new (Cast index) = SameNamed old index pool new

@@ -48,3 +48,5 @@ mod ItemRows
 mod WrittenPool
 mod ReadyPoints
 mod NewItems
+mod IndexedPoints
+mod NewsApart

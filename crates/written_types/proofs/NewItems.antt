@@ -124,7 +124,7 @@ own_block w given at point route there is_route = record {
 -- ---- blocks with items begin apart
 
 -- a later block begins behind the items of an earlier one
-below : (form : Form) (blocks : List Finished) (number later : ℕ) (one : Finished) → slice_get blocks number ≡ Some one → number < later
+pub below : (form : Form) (blocks : List Finished) (number later : ℕ) (one : Finished) → slice_get blocks number ≡ Some one → number < later
     → first_item form blocks number + length (block_items form one) ≤ first_item form blocks later
 below form [] number later one is less = absurd (none-some one is)
 below form (first ∷ blocks) zero zero one is less = absurd (omega (arith, less))
@@ -139,7 +139,7 @@ below form (first ∷ blocks) (suc number) (suc later) one is less =
     let rest = below form blocks number later one is (omega (arith, less)) in
     omega (arith, head, also, rest)
 
-compare : (one other : ℕ) → (one ≡ other) ⊎ ((one < other) ⊎ (other < one))
+pub compare : (one other : ℕ) → (one ≡ other) ⊎ ((one < other) ⊎ (other < one))
 compare zero zero = inl refl
 compare zero (suc other) = inr (inl (omega arith))
 compare (suc one) zero = inr (inr (omega arith))
@@ -160,10 +160,11 @@ no_site flat at none = by (site_at flat at) refl where
 -- The block of a new begins with it.
 pub record NewBlock (w : Writing) (at : ℕ) (point : Point) (route : Route) (class index : ℕ) : Type 0 where
   pub own : OwnBlock w at point route
+  pub short_items : own.one.block.items ≡ record { instr = carried class (New index); targets = []; catches = catches_at at point route } ∷ []
   pub more : List WItem
   pub items : block_items w.form own.one ≡ record { instr = carried class (New index); targets = []; catches = catches_at at point route } ∷ more
 
-abbrev new_of : ℕ → Point → Route → ℕ → ℕ → WItem
+abbrev pub new_of : ℕ → Point → Route → ℕ → ℕ → WItem
 new_of at point route class index = record { instr = carried class (New index); targets = []; catches = catches_at at point route }
 
 in_forms : (form : Form) (one : WItem) (class index : ℕ) (behind : List WItem) → one.instr ≡ carried class (New index)
@@ -177,7 +178,7 @@ pub new_block : (w : Writing) (given : Given w) (at : ℕ) (point : Point) (rout
     → class_of_site w.s.flat.sites at ≡ None
     → NewBlock w at point route class index
 new_block w given at point route class index there is_route is_new none =
-    record { own = own; more = forms.0; items = ap (λ (items : List WItem). in_form w.form (items ++ end_items own.one.end)) items_are ∙ forms.1 } where
+    record { own = own; short_items = items_are; more = forms.0; items = ap (λ (items : List WItem). in_form w.form (items ++ end_items own.one.end)) items_are ∙ forms.1 } where
       own : OwnBlock w at point route
       own = own_block w given at point route there is_route
 
