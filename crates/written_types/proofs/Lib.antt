@@ -50,3 +50,12 @@ mod ReadyPoints
 mod NewItems
 mod IndexedPoints
 mod NewsApart
+mod NewSources
+mod EdgeTargets
+mod NoThis
+mod Entry
+mod StoredLocals
+mod UnitTypes
+mod MakingSteps
+mod MakingCalls
+mod MakingLocals

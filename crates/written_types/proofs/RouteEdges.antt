@@ -129,6 +129,8 @@ pub record EdgeComes (w : Writing) (at : ℕ) (point : Point) (route : Route) (e
   pub row : RowEdge
   pub number : ℕ
   pub there : slice_get (edges_of at point (row_of_point w.s at point)) number ≡ Some row
+  pub place : ℕ
+  pub open_there : slice_get (open_edges w.s at point (state_written route)) place ≡ Some row
   pub is : IsOfRow w.s point at (state_written route) row edge
   pub comes : ComesAlong w.s w.host at point (state_written route) row.by row.to
 
@@ -167,6 +169,8 @@ module _ (w : Writing) (given : Given w) where
         row = row.row;
         number = own.0;
         there = own.1;
+        place = row.number;
+        open_there = subst (λ (before : State). slice_get (open_edges w.s at point before) row.number ≡ Some row.row) same row.there;
         is = subst (λ (before : State). IsOfRow w.s point at before row.row edge) same row.is;
         comes =
             all_at (λ (e : RowEdge). ComesAlong w.s w.host at point (state_written route) e.by e.to)
