@@ -30,13 +30,8 @@ use Rattle.written_types.proofs.NamedConstants.{IsReadable, begins_dynamic, begi
 use Rattle.written_types.proofs.ReadyPoints.{class_text, string_text}
 use Rattle.written_types.proofs.RowTable.{same_pool}
 use Rattle.written_types.proofs.WrittenPool.{PoolLaws, meant_item, own_begins}
+use Rattle.written_types.specs.Setting.{IsCarriable}
 use Rattle.written_types.specs.Writing.{Writing}
-
--- what may stand in the code of another class
-abbrev pub IsCarriable : Constants → Instr → Type 0
-IsCarriable pool (Dynamic index) = ⊥
-IsCarriable pool (Ldc index) = IsNoHandle (constant_at pool index)
-IsCarriable pool instr = Unit {0}
 
 -- ---- in the host's own class
 

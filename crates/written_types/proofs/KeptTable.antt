@@ -70,17 +70,17 @@ get_none : (s : PlanScope) (before : State) (slot : Slot) (field : Reference) �
     → ⊥
 get_none s before slot field is site same = none-some _ (sym is ∙ ap (λ (x : Slot). get_template s before x (Some field)) same)
 
-null_none : (s : PlanScope) (route : Route) (slot : Slot) → null_template s route slot ≡ None → (site : ℕ) → slot ≡ Virt site → ⊥
+pub null_none : (s : PlanScope) (route : Route) (slot : Slot) → null_template s route slot ≡ None → (site : ℕ) → slot ≡ Virt site → ⊥
 null_none s route slot is site same = none-some _ (sym is ∙ ap (null_template s route) same)
 
 instance_none : (s : PlanScope) (slot : Slot) (name : Name) → instance_template s slot (Some name) ≡ None → (site : ℕ) → slot ≡ Virt site → ⊥
 instance_none s slot name is site same = none-some _ (sym is ∙ ap (λ (x : Slot). instance_template s x (Some name)) same)
 
 -- a virtual object on either side has one
-same_first : (s : PlanScope) (route : Route) (one other : Slot) → same_template s route one other ≡ None → (site : ℕ) → one ≡ Virt site → ⊥
+pub same_first : (s : PlanScope) (route : Route) (one other : Slot) → same_template s route one other ≡ None → (site : ℕ) → one ≡ Virt site → ⊥
 same_first s route one other is site same = none-some _ (sym is ∙ ap (λ (x : Slot). same_template s route x other) same)
 
-same_second : (s : PlanScope) (route : Route) (one other : Slot) → same_template s route one other ≡ None → (site : ℕ) → other ≡ Virt site → ⊥
+pub same_second : (s : PlanScope) (route : Route) (one other : Slot) → same_template s route one other ≡ None → (site : ℕ) → other ≡ Virt site → ⊥
 same_second s route Plain other is site same = none-some _ (sym is ∙ ap (same_template s route Plain) same)
 same_second s route (Virt of) other is site same = none-some _ (sym is)
 same_second s route Unusable other is site same = none-some _ (sym is ∙ ap (same_template s route Unusable) same)

@@ -59,3 +59,6 @@ mod UnitTypes
 mod MakingSteps
 mod MakingCalls
 mod MakingLocals
+mod CarriedWays
+mod CarriedGuards
+mod CaughtNames

@@ -31,22 +31,13 @@ use Rattle.same_runs.specs.Flats.{class_of_flat_new, pool_of as flat_pool}
 use Rattle.same_runs.specs.ReadyCode.{IsReadyInstr, IsReadyItem}
 use Rattle.written_types.proofs.ChangedTypes.{IsOwnNew, NewsStand, new_item}
 use Rattle.written_types.proofs.Given.{Given}
-use Rattle.written_types.proofs.IndexedPoints.{Indexed, IsCarriable, indexed}
+use Rattle.written_types.proofs.IndexedPoints.{Indexed, indexed}
 use Rattle.written_types.proofs.ItemPlaces.{numbered_behind, written_apart}
 use Rattle.written_types.proofs.NewItems.{NewBlock, OwnBlock, below, compare, new_block, new_of}
 use Rattle.written_types.proofs.Standing.{all_at}
 use Rattle.written_types.proofs.WrittenPool.{PoolLaws}
 use Rattle.written_types.specs.FitsTypes.{is_reached}
 use Rattle.written_types.specs.Writing.{Writing, items_in, scope_in}
-
--- what stands in the flat code of another class may be carried
-abbrev pub MayCarry : Writing → Type 0
-MayCarry w =
-    (at : ℕ) (point : Point) (class : ℕ) (instr : Instr)
-    → point_at w.s.flat at ≡ Some point
-    → point.instr ≡ Of class instr
-    → class ≢ w.s.flat.host.class
-    → IsCarriable (pool_of w.s class) instr
 
 -- ---- where an item stands
 
@@ -71,7 +62,7 @@ first_of_block w form number block one more is items = record {
   number_is = refl;
 }
 
-module _ (w : Writing) (given : Given w) (laws : PoolLaws) (may : MayCarry w) where
+module _ (w : Writing) (given : Given w) (laws : PoolLaws) where
   abbrev routes : Routes
   routes = given.setting.routes
 
@@ -92,7 +83,7 @@ module _ (w : Writing) (given : Given w) (laws : PoolLaws) (may : MayCarry w) wh
       → Indexed w class instr
   indexed_at at point route class instr own one there is items of_item =
       indexed w given laws stands.left stands.right one class instr stands.is of_item (ready_at at point class instr there is)
-      (λ other. may at point class instr there is (λ same. true≢false (sym (eq-eqb class w.s.flat.host.class same) ∙ other))) where
+      (λ other. given.setting.carried at point class instr there is (λ same. true≢false (sym (eq-eqb class w.s.flat.host.class same) ∙ other))) where
         stands : ItemIn w short one (first_item short w.blocks own.number)
         stands =
             first_of_block w short own.number own.one one (end_items own.one.end) own.is

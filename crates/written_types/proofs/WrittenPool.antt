@@ -180,6 +180,15 @@ module _ (w : Writing) (given : Given w) (laws : PoolLaws) where
 
   -- ---- the host's own constants
 
+  pub host_file : (file : ClassFile) × (slice_get w.s.classes.folder w.s.flat.host.class ≡ Some file) × (pool_of w.s w.s.flat.host.class ≡ file.pool)
+  host_file =
+      let of = of_file w.s.classes w.s.flat.host w.host (slice_get w.s.classes.folder w.s.flat.host.class) given.setting.ready.host in
+      (of.0, of.1, of_folder (slice_get w.s.classes.folder w.s.flat.host.class) refl of.0 of.1) where
+        of_folder : (found : Option ClassFile) → slice_get w.s.classes.folder w.s.flat.host.class ≡ found → (file : ClassFile) → found ≡ Some file
+            → pool_of w.s w.s.flat.host.class ≡ file.pool
+        of_folder None at file is = absurd (none-some file is)
+        of_folder (Some one) at file is = rw at (ap (λ (c : ClassFile). c.pool) (same_Some one file is))
+
   pub own_pool : pool_of w.s w.s.flat.host.class ≡ w.host.class.pool
   own_pool =
       let of = of_file w.s.classes w.s.flat.host w.host (slice_get w.s.classes.folder w.s.flat.host.class) given.setting.ready.host in
