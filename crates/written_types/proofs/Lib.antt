@@ -62,3 +62,4 @@ mod MakingLocals
 mod CarriedWays
 mod CarriedGuards
 mod CaughtNames
+mod CarriedHolds
