@@ -133,7 +133,7 @@ module _ (w : Writing) (given : Given w) (laws : PoolLaws) (one : FindsOne) (at 
   pub own : OwnBlock w at point route
   own = own_block w given at point route there is_route
 
-  own_items : own.one.block.items ≡ own_item ∷ []
+  pub own_items : own.one.block.items ≡ own_item ∷ []
   own_items = ap (λ (block : Block). block.items) own.is_block ∙ rw none refl
 
   pub index : Indexed w class instr

@@ -63,3 +63,5 @@ mod CarriedWays
 mod CarriedGuards
 mod CaughtNames
 mod CarriedHolds
+mod CarriedItems
+mod CarriedLeads
