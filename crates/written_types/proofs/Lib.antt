@@ -65,3 +65,4 @@ mod CaughtNames
 mod CarriedHolds
 mod CarriedItems
 mod CarriedLeads
+mod OppositeRows
