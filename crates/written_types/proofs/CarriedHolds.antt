@@ -166,7 +166,7 @@ module _ (w : Writing) (given : Given w) (laws : PoolLaws) (one : FindsOne) (at 
   abbrev numbers : List ℕ
   numbers = map (target_number w.form w.blocks number) own_item.targets
 
-  row_is : point_row (point_in w number own_item) frame ≡ access_aside written_own
+  pub row_is : point_row (point_in w number own_item) frame ≡ access_aside written_own
   row_is =
       ap access_aside (jumping_row (scope_in w) frame number numbers (carried_instr w.s w.pool class instr)
       ∙ ap (row_of (scope_in w) frame number) index.is)

@@ -66,3 +66,4 @@ mod CarriedHolds
 mod CarriedItems
 mod CarriedLeads
 mod OppositeRows
+mod CarriedForms
