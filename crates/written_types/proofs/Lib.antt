@@ -67,3 +67,9 @@ mod CarriedItems
 mod CarriedLeads
 mod OppositeRows
 mod CarriedForms
+mod MakingPlaces
+mod MakingObjects
+mod MakingStack
+mod MakingReload
+mod MakingCopies
+mod NewStarts

@@ -100,7 +100,7 @@ module _ (w : Writing) (at : ℕ) (point : Point) (state : State) (sites : List 
   in_region unit type is = let within = slice_get_within region unit type is in let long = ut.long in omega (arith, within, long)
 
   -- the unit before those of objects is no first one of two
-  last_narrow : (from unit : ℕ) (type : VType) → objects ≤ from → suc unit ≡ from → slice_get region unit ≡ Some type → is_wide type ≡ false
+  pub last_narrow : (from unit : ℕ) (type : VType) → objects ≤ from → suc unit ≡ from → slice_get region unit ≡ Some type → is_wide type ≡ false
   last_narrow from unit type high next is = by (is_wide type) refl where
     by : (b : Bool) → is_wide type ≡ b → is_wide type ≡ false
     by false e = e

@@ -79,7 +79,7 @@ sites_paired state number (site ∷ sites) =
     both_paired (unit_types (is_present state.objects number) site.fields) (site_types_from state (suc number) sites)
     (units_paired (is_present state.objects number) site.fields) (sites_paired state (suc number) sites)
 
-item_wide : (form : Form) (blocks : List Finished) (type : VType) → is_wide (type_by_item form blocks type) ≡ is_wide type
+pub item_wide : (form : Form) (blocks : List Finished) (type : VType) → is_wide (type_by_item form blocks type) ≡ is_wide type
 item_wide form blocks (types.Uninit at) = refl
 item_wide form blocks (types.Object name) = refl
 item_wide form blocks types.Top = refl
