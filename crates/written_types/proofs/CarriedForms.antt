@@ -81,7 +81,7 @@ module _ (w : Writing) (given : Given w) (laws : PoolLaws) (one : FindsOne) (fit
   abbrev item : WItem
   item = carried_item at point route class instr
 
-  abbrev next : Frame
+  abbrev pub next : Frame
   next = next_frame w given laws one at base route class instr there is_route none number frame agree here fresh
 
   holds : ItemHolds w number item frame

@@ -73,3 +73,4 @@ mod MakingStack
 mod MakingReload
 mod MakingCopies
 mod NewStarts
+mod CarriedPoints

@@ -121,6 +121,13 @@ own_block w given at point route there is_route = record {
       (finished_all (λ of. is_of_point at of ≡ false) w.s.flat (blocks_of w.s given.setting.routes) k
       (none_before w.s given.setting.routes at point route there is_route))
 
+-- by which number it stands
+pub own_place : (w : Writing) (given : Given w) (at : ℕ) (point : Point) (route : Route) (there : point_at w.s.flat at ≡ Some point)
+    (is_route : slice_get given.setting.routes at ≡ Some (Some route))
+    → (own_block w given at point route there is_route).number ≡ own_number w.s given.setting.routes at route
+unfolding own_block
+own_place w given at point route there is_route = refl
+
 -- ---- blocks with items begin apart
 
 -- a later block begins behind the items of an earlier one

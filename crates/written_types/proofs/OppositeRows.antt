@@ -1,5 +1,5 @@
 -- The opposite of a conditional jump: it takes the same operands, and leads where its target says.
-use Rattle.std.proofs.Common.{◌≡◌, ℕ, Bool, true, false, List, [], ◌∷◌, map, Option, Some, None, if◌then◌else◌, refl, sym, ap, subst, ◌∙◌}
+use Rattle.std.proofs.Common.{◌≡◌, ℕ, Bool, true, false, List, [], ◌∷◌, length, map, Option, Some, None, if◌then◌else◌, refl, sym, ap, subst, ◌∙◌}
 use Rattle.std.specs.Prelude.{◌==◌, ◌&&◌, nat_le}
 use Rattle.std.specs.List.{AllByRecursion}
 use Rattle.std.proofs.lemmas.Bool.{eqb-true, false≢true}
@@ -159,19 +159,6 @@ jump_opposite s f known takes opcode keeps fits = by (known opcode) refl fits.op
 pub same_row : (s : RowScope) (f : Frame) (at new : ℕ) (instr other : Instr) → opposite_instr instr ≡ Some other
     → RowFits s f (access_aside (row_of s f at (with_index new instr)))
     → row_of s f at other ≡ row_of s f at (with_index new instr)
-same_row s f at new Nop other is fits = absurd (none-some other is)
-same_row s f at new (Const imm) other is fits = absurd (none-some other is)
-same_row s f at new (Ldc index) other is fits = absurd (none-some other is)
-same_row s f at new (Ldc2 index) other is fits = absurd (none-some other is)
-same_row s f at new (Load kind local) other is fits = absurd (none-some other is)
-same_row s f at new (Store kind local) other is fits = absurd (none-some other is)
-same_row s f at new (Iinc local by) other is fits = absurd (none-some other is)
-same_row s f at new (ArrayLoad opcode) other is fits = absurd (none-some other is)
-same_row s f at new (ArrayStore opcode) other is fits = absurd (none-some other is)
-same_row s f at new (Shuffle opcode) other is fits = absurd (none-some other is)
-same_row s f at new (Pure opcode) other is fits = absurd (none-some other is)
-same_row s f at new (Divide opcode) other is fits = absurd (none-some other is)
-same_row s f at new (FloatAsk opcode) other is fits = absurd (none-some other is)
 same_row s f at new (If opcode to) other is fits =
     let rows = jump_opposite s f (λ opcode. nat_le IFEQ opcode && nat_le opcode IFLE) (of_kind kinds.Int ∷ []) opcode of_if fits in
     ap (row_of s f at) (sym (same_Some _ other is)) ∙ rows.0 ∙ sym rows.1
@@ -184,26 +171,7 @@ same_row s f at new (IfSame opcode to) other is fits =
 same_row s f at new (IfNull opcode to) other is fits =
     let rows = jump_opposite s f (λ opcode. nat_le IFNULL opcode && nat_le opcode IFNONNULL) (of_kind kinds.Ref ∷ []) opcode of_nulls fits in
     ap (row_of s f at) (sym (same_Some _ other is)) ∙ rows.0 ∙ sym rows.1
-same_row s f at new (Goto to) other is fits = absurd (none-some other is)
-same_row s f at new (Table low default to) other is fits = absurd (none-some other is)
-same_row s f at new (Lookup default pairs) other is fits = absurd (none-some other is)
-same_row s f at new (Return kind) other is fits = absurd (none-some other is)
-same_row s f at new (GetStatic index) other is fits = absurd (none-some other is)
-same_row s f at new (PutStatic index) other is fits = absurd (none-some other is)
-same_row s f at new (GetField index) other is fits = absurd (none-some other is)
-same_row s f at new (PutField index) other is fits = absurd (none-some other is)
-same_row s f at new (Invoke opcode index count) other is fits = absurd (none-some other is)
-same_row s f at new (Dynamic index) other is fits = absurd (none-some other is)
-same_row s f at new (New index) other is fits = absurd (none-some other is)
-same_row s f at new (NewArray code) other is fits = absurd (none-some other is)
-same_row s f at new (NewRefArray index) other is fits = absurd (none-some other is)
-same_row s f at new (NewMulti index dimensions) other is fits = absurd (none-some other is)
-same_row s f at new Length other is fits = absurd (none-some other is)
-same_row s f at new Throw other is fits = absurd (none-some other is)
-same_row s f at new (Cast index) other is fits = absurd (none-some other is)
-same_row s f at new (InstanceOf index) other is fits = absurd (none-some other is)
-same_row s f at new Enter other is fits = absurd (none-some other is)
-same_row s f at new Leave other is fits = absurd (none-some other is)
+same_row s f at new instr other is fits = absurd (none-some other is)
 
 -- ---- opposites
 
@@ -217,60 +185,15 @@ unnamed s pool class instr same = by (class == s.flat.host.class) refl where
 -- it names no constant
 pub opposite_carried : (s : PlanScope) (pool : Constants) (class : ℕ) (instr other : Instr) → opposite_instr instr ≡ Some other
     → carried_instr s pool class other ≡ other
-opposite_carried s pool class Nop other is = absurd (none-some other is)
-opposite_carried s pool class (Const imm) other is = absurd (none-some other is)
-opposite_carried s pool class (Ldc index) other is = absurd (none-some other is)
-opposite_carried s pool class (Ldc2 index) other is = absurd (none-some other is)
-opposite_carried s pool class (Load kind local) other is = absurd (none-some other is)
-opposite_carried s pool class (Store kind local) other is = absurd (none-some other is)
-opposite_carried s pool class (Iinc local by) other is = absurd (none-some other is)
-opposite_carried s pool class (ArrayLoad opcode) other is = absurd (none-some other is)
-opposite_carried s pool class (ArrayStore opcode) other is = absurd (none-some other is)
-opposite_carried s pool class (Shuffle opcode) other is = absurd (none-some other is)
-opposite_carried s pool class (Pure opcode) other is = absurd (none-some other is)
-opposite_carried s pool class (Divide opcode) other is = absurd (none-some other is)
-opposite_carried s pool class (FloatAsk opcode) other is = absurd (none-some other is)
 opposite_carried s pool class (If opcode to) other is = subst (λ (x : Instr). carried_instr s pool class x ≡ x) (same_Some _ other is) (unnamed s pool class (If (opposite opcode) to) (λ index. refl))
 opposite_carried s pool class (If2 opcode to) other is = subst (λ (x : Instr). carried_instr s pool class x ≡ x) (same_Some _ other is) (unnamed s pool class (If2 (opposite opcode) to) (λ index. refl))
 opposite_carried s pool class (IfSame opcode to) other is = subst (λ (x : Instr). carried_instr s pool class x ≡ x) (same_Some _ other is) (unnamed s pool class (IfSame (opposite opcode) to) (λ index. refl))
 opposite_carried s pool class (IfNull opcode to) other is = subst (λ (x : Instr). carried_instr s pool class x ≡ x) (same_Some _ other is) (unnamed s pool class (IfNull (opposite opcode) to) (λ index. refl))
-opposite_carried s pool class (Goto to) other is = absurd (none-some other is)
-opposite_carried s pool class (Table low default to) other is = absurd (none-some other is)
-opposite_carried s pool class (Lookup default pairs) other is = absurd (none-some other is)
-opposite_carried s pool class (Return kind) other is = absurd (none-some other is)
-opposite_carried s pool class (GetStatic index) other is = absurd (none-some other is)
-opposite_carried s pool class (PutStatic index) other is = absurd (none-some other is)
-opposite_carried s pool class (GetField index) other is = absurd (none-some other is)
-opposite_carried s pool class (PutField index) other is = absurd (none-some other is)
-opposite_carried s pool class (Invoke opcode index count) other is = absurd (none-some other is)
-opposite_carried s pool class (Dynamic index) other is = absurd (none-some other is)
-opposite_carried s pool class (New index) other is = absurd (none-some other is)
-opposite_carried s pool class (NewArray code) other is = absurd (none-some other is)
-opposite_carried s pool class (NewRefArray index) other is = absurd (none-some other is)
-opposite_carried s pool class (NewMulti index dimensions) other is = absurd (none-some other is)
-opposite_carried s pool class Length other is = absurd (none-some other is)
-opposite_carried s pool class Throw other is = absurd (none-some other is)
-opposite_carried s pool class (Cast index) other is = absurd (none-some other is)
-opposite_carried s pool class (InstanceOf index) other is = absurd (none-some other is)
-opposite_carried s pool class Enter other is = absurd (none-some other is)
-opposite_carried s pool class Leave other is = absurd (none-some other is)
+opposite_carried s pool class instr other is = absurd (none-some other is)
 
 -- it falls through, and jumps to one target
 pub opposite_jumps : (number : ℕ) (instr other : Instr) → opposite_instr instr ≡ Some other
     → (targets (jumping_to (number ∷ []) other) ≡ number ∷ []) × (falls_through (jumping_to (number ∷ []) other) ≡ true)
-opposite_jumps number Nop other is = absurd (none-some other is)
-opposite_jumps number (Const imm) other is = absurd (none-some other is)
-opposite_jumps number (Ldc index) other is = absurd (none-some other is)
-opposite_jumps number (Ldc2 index) other is = absurd (none-some other is)
-opposite_jumps number (Load kind local) other is = absurd (none-some other is)
-opposite_jumps number (Store kind local) other is = absurd (none-some other is)
-opposite_jumps number (Iinc local by) other is = absurd (none-some other is)
-opposite_jumps number (ArrayLoad opcode) other is = absurd (none-some other is)
-opposite_jumps number (ArrayStore opcode) other is = absurd (none-some other is)
-opposite_jumps number (Shuffle opcode) other is = absurd (none-some other is)
-opposite_jumps number (Pure opcode) other is = absurd (none-some other is)
-opposite_jumps number (Divide opcode) other is = absurd (none-some other is)
-opposite_jumps number (FloatAsk opcode) other is = absurd (none-some other is)
 opposite_jumps number (If opcode to) other is =
     subst (λ (x : Instr). (targets (jumping_to (number ∷ []) x) ≡ number ∷ []) × (falls_through (jumping_to (number ∷ []) x) ≡ true)) (same_Some _ other is) (refl, refl)
 opposite_jumps number (If2 opcode to) other is =
@@ -279,62 +202,18 @@ opposite_jumps number (IfSame opcode to) other is =
     subst (λ (x : Instr). (targets (jumping_to (number ∷ []) x) ≡ number ∷ []) × (falls_through (jumping_to (number ∷ []) x) ≡ true)) (same_Some _ other is) (refl, refl)
 opposite_jumps number (IfNull opcode to) other is =
     subst (λ (x : Instr). (targets (jumping_to (number ∷ []) x) ≡ number ∷ []) × (falls_through (jumping_to (number ∷ []) x) ≡ true)) (same_Some _ other is) (refl, refl)
-opposite_jumps number (Goto to) other is = absurd (none-some other is)
-opposite_jumps number (Table low default to) other is = absurd (none-some other is)
-opposite_jumps number (Lookup default pairs) other is = absurd (none-some other is)
-opposite_jumps number (Return kind) other is = absurd (none-some other is)
-opposite_jumps number (GetStatic index) other is = absurd (none-some other is)
-opposite_jumps number (PutStatic index) other is = absurd (none-some other is)
-opposite_jumps number (GetField index) other is = absurd (none-some other is)
-opposite_jumps number (PutField index) other is = absurd (none-some other is)
-opposite_jumps number (Invoke opcode index count) other is = absurd (none-some other is)
-opposite_jumps number (Dynamic index) other is = absurd (none-some other is)
-opposite_jumps number (New index) other is = absurd (none-some other is)
-opposite_jumps number (NewArray code) other is = absurd (none-some other is)
-opposite_jumps number (NewRefArray index) other is = absurd (none-some other is)
-opposite_jumps number (NewMulti index dimensions) other is = absurd (none-some other is)
-opposite_jumps number Length other is = absurd (none-some other is)
-opposite_jumps number Throw other is = absurd (none-some other is)
-opposite_jumps number (Cast index) other is = absurd (none-some other is)
-opposite_jumps number (InstanceOf index) other is = absurd (none-some other is)
-opposite_jumps number Enter other is = absurd (none-some other is)
-opposite_jumps number Leave other is = absurd (none-some other is)
+opposite_jumps number instr other is = absurd (none-some other is)
 
 pub opposite_falls : (instr other : Instr) → opposite_instr instr ≡ Some other → falls_through instr ≡ true
-opposite_falls Nop other is = absurd (none-some other is)
-opposite_falls (Const imm) other is = absurd (none-some other is)
-opposite_falls (Ldc index) other is = absurd (none-some other is)
-opposite_falls (Ldc2 index) other is = absurd (none-some other is)
-opposite_falls (Load kind local) other is = absurd (none-some other is)
-opposite_falls (Store kind local) other is = absurd (none-some other is)
-opposite_falls (Iinc local by) other is = absurd (none-some other is)
-opposite_falls (ArrayLoad opcode) other is = absurd (none-some other is)
-opposite_falls (ArrayStore opcode) other is = absurd (none-some other is)
-opposite_falls (Shuffle opcode) other is = absurd (none-some other is)
-opposite_falls (Pure opcode) other is = absurd (none-some other is)
-opposite_falls (Divide opcode) other is = absurd (none-some other is)
-opposite_falls (FloatAsk opcode) other is = absurd (none-some other is)
 opposite_falls (If opcode to) other is = refl
 opposite_falls (If2 opcode to) other is = refl
 opposite_falls (IfSame opcode to) other is = refl
 opposite_falls (IfNull opcode to) other is = refl
-opposite_falls (Goto to) other is = absurd (none-some other is)
-opposite_falls (Table low default to) other is = absurd (none-some other is)
-opposite_falls (Lookup default pairs) other is = absurd (none-some other is)
-opposite_falls (Return kind) other is = absurd (none-some other is)
-opposite_falls (GetStatic index) other is = absurd (none-some other is)
-opposite_falls (PutStatic index) other is = absurd (none-some other is)
-opposite_falls (GetField index) other is = absurd (none-some other is)
-opposite_falls (PutField index) other is = absurd (none-some other is)
-opposite_falls (Invoke opcode index count) other is = absurd (none-some other is)
-opposite_falls (Dynamic index) other is = absurd (none-some other is)
-opposite_falls (New index) other is = absurd (none-some other is)
-opposite_falls (NewArray code) other is = absurd (none-some other is)
-opposite_falls (NewRefArray index) other is = absurd (none-some other is)
-opposite_falls (NewMulti index dimensions) other is = absurd (none-some other is)
-opposite_falls Length other is = absurd (none-some other is)
-opposite_falls Throw other is = absurd (none-some other is)
-opposite_falls (Cast index) other is = absurd (none-some other is)
-opposite_falls (InstanceOf index) other is = absurd (none-some other is)
-opposite_falls Enter other is = absurd (none-some other is)
-opposite_falls Leave other is = absurd (none-some other is)
+opposite_falls instr other is = absurd (none-some other is)
+
+pub opposite_one : (instr other : Instr) → opposite_instr instr ≡ Some other → length (targets instr) ≡ 1
+opposite_one (If opcode to) other is = refl
+opposite_one (If2 opcode to) other is = refl
+opposite_one (IfSame opcode to) other is = refl
+opposite_one (IfNull opcode to) other is = refl
+opposite_one instr other is = absurd (none-some other is)
