@@ -46,7 +46,7 @@ use Rattle.written_types.specs.Writing.{Agrees, Writing}
 
 -- ---- types that are assignable
 
-by_item_assignable : (form : Form) (blocks : List Finished) {headers : Headers} {low high : VType}
+pub by_item_assignable : (form : Form) (blocks : List Finished) {headers : Headers} {low high : VType}
     → IsAssignable headers low high
     → IsAssignable headers (type_by_item form blocks low) (type_by_item form blocks high)
 by_item_assignable form blocks (to_same type) = to_same (type_by_item form blocks type)

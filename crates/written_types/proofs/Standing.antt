@@ -137,7 +137,7 @@ module _ (s : PlanScope) (reached : ℕ → Bool) (f : Frame) (before : State) (
       (places_have s before does (rf.locals ++ rf.stack) whole rf.locals 0
       (λ n type is. subst (λ (m : ℕ). slice_get (rf.locals ++ rf.stack) m ≡ Some type) (omega arith) (item_before rf.locals rf.stack n type is)))
 
-  under_have : (does : Change) (count : ℕ)
+  pub under_have : (does : Change) (count : ℕ)
       → HaveTypes s (under count rf.stack) (slots_from s before does (held_from (length f.locals) (length f.stack - count)))
   under_have does count =
       subst (λ (n : ℕ). HaveTypes s (under count rf.stack) (slots_from s before does (held_from (length f.locals) n))) many
