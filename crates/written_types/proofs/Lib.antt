@@ -74,3 +74,5 @@ mod MakingReload
 mod MakingCopies
 mod NewStarts
 mod CarriedPoints
+mod CaughtTypes
+mod DeepStacks
