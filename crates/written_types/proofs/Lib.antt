@@ -106,3 +106,5 @@ mod MadeStates
 mod MakeCodes
 mod MakeWhole
 mod CarriedPoints
+mod CaughtTypes
+mod DeepStacks
