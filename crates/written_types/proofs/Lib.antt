@@ -105,6 +105,7 @@ mod NewStarts
 mod MadeStates
 mod MakeCodes
 mod MakeWhole
+mod MadeBlocks
 mod CarriedPoints
 mod CaughtTypes
 mod DeepStacks
