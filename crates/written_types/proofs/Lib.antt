@@ -76,3 +76,4 @@ mod NewStarts
 mod CarriedPoints
 mod CaughtTypes
 mod DeepStacks
+mod EndingRows
