@@ -109,3 +109,4 @@ mod MadeBlocks
 mod CarriedPoints
 mod CaughtTypes
 mod DeepStacks
+mod EndingRows
