@@ -5,6 +5,8 @@ mod Standing
 mod OperandRows
 mod StackRows
 mod SiteFields
+mod SiteSlots
+mod FieldNumbers
 mod MemberRows
 mod CallRows
 mod RowTable
