@@ -30,7 +30,7 @@ use Rattle.written_types.proofs.NamedConstants.{IsReadable, begins_dynamic, begi
 use Rattle.written_types.proofs.ReadyPoints.{class_text, string_text}
 use Rattle.written_types.proofs.RowTable.{same_pool}
 use Rattle.written_types.proofs.WrittenPool.{PoolLaws, meant_item, own_begins}
-use Rattle.written_types.specs.Setting.{IsCarriable}
+use Rattle.expanded_runs.specs.CarriedConstants.{IsCarriable}
 use Rattle.written_types.specs.Writing.{Writing}
 
 -- ---- in the host's own class

@@ -1,13 +1,12 @@
 -- What is asked of a writing so that frames type what is written: a flat code that is ready, a valid plan of it with its routes, the blocks that
 -- these give, and a pool that has their constants. It is this project's profile.
 use Rattle.std.specs.Prelude.{◌≡◌, ◌≢◌, ℕ, Some}
-use Rattle.class_model.specs.Pool.{Constants, constant_at}
+use Rattle.class_model.specs.Pool.{Constants}
 use Rattle.class_model.specs.declared.instr.Instr.{Instr}
-use Rattle.class_model.specs.declared.instr.Instr.TheVariants.{Dynamic, Ldc}
 use Rattle.class_tree.specs.Headers.{headers_of}
 use Rattle.class_tree.specs.Trees.{IsTree}
-use Rattle.expanded_code.specs.Callees.{IsNoHandle}
 use Rattle.expanded_code.specs.CandidateSites.{HasCandidateSites}
+use Rattle.expanded_runs.specs.CarriedConstants.{IsCarriable}
 use Rattle.flow_code.specs.FlatCode.{point_at}
 use Rattle.flow_code.specs.declared.point.FlatInstr.TheVariants.{Of}
 use Rattle.flow_code.specs.declared.point.Point.{Point}
@@ -24,12 +23,6 @@ use Rattle.plan_flow.specs.Written.WrittenConstants.{code_pool}
 use Rattle.plan_flow.specs.Written.WrittenPrograms.{GivesConstructors}
 use Rattle.same_runs.specs.ReadyCode.{IsReadyCode}
 use Rattle.written_types.specs.Writing.{Writing}
-
--- An instruction of another class than the host's names a constant that written code can have: no call site, no method handle and no method type.
-abbrev pub IsCarriable : Constants → Instr → Type 0
-IsCarriable pool (Dynamic index) = ⊥
-IsCarriable pool (Ldc index) = IsNoHandle (constant_at pool index)
-IsCarriable pool other = Unit {0}
 
 -- The constants are those of the short form: the wide one has no more. The pool before may have constants of other methods, and the last one
 -- those of frames.
