@@ -85,8 +85,8 @@ each_file (first ∷ folder) (suc class) file all is = each_file folder class fi
 module _ (laws : HaveLaws) (r : Rewriting) (files : List ClassFile) (w : IsFolderWritten r files) (tree : IsTree r.classes) (one : HaveOne r)
     (ready : (at : MethodAt) (written : WrittenMethod) → w.written at ≡ Some written → IsReadyHost r at written)
     (free : (class : ℕ) (file : ClassFile) (method : RunMethod) → slice_get r.classes.folder class ≡ Some file
-        → w.s.added class ≡ method ∷ []
-        → declared init (r.constructor (header_of file).name) (header_of file).methods ≡ None) where
+    → w.s.added class ≡ method ∷ []
+    → declared init (r.constructor (header_of file).name) (header_of file).methods ≡ None) where
   -- ---- initialisers that are added
 
   fresh_one : (class : ℕ) (file also : ClassFile) (method : Method) (pool : Constants) (grown : Constants)
