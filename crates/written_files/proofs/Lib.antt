@@ -1,2 +1,4 @@
 pub mod FieldConstructors
 pub mod GrownPools
+pub mod SoundConstructors
+pub mod SoundNeeds

@@ -2,3 +2,4 @@ pub mod CheckedConstructors
 pub mod FieldConstructors
 pub mod GrownPools
 pub mod LinkedConstructors
+pub mod SoundConstructors

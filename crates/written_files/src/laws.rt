@@ -7,13 +7,13 @@ ghost use Rattle.class_model.specs.Header.{header_of, method_member};
 ghost use Rattle.class_model.specs.Members.{Signature};
 ghost use Rattle.class_model.specs.Methods.{home_of, method_checks};
 ghost use Rattle.class_model.specs.Pool.{Constants};
-ghost use Rattle.class_model.specs.PoolChecks.{IsFieldDescriptor};
+ghost use Rattle.class_model.specs.PoolChecks.{IsFieldDescriptor, entries_checks};
 ghost use Rattle.class_model.specs.declared.class_file.ClassFile.{ClassFile};
 ghost use Rattle.class_model.specs.declared.class_file.Method.{Method};
 ghost use Rattle.class_model.specs.declared.frame.Frame.{Frame};
 ghost use Rattle.class_tree.specs.Headers.{Classes, Headers, IsThere, Name, headers_of};
 ghost use Rattle.class_tree.specs.Layouts.{instance_fields};
-ghost use Rattle.making_code.specs.Constants.{Need, grow};
+ghost use Rattle.making_code.specs.Constants.{Need, grow, needs_at};
 ghost use Rattle.making_code.specs.ConstructorCode.{IsConstructorMethod};
 ghost use Rattle.making_code.specs.FieldConstructor.{constructor_method_needs};
 ghost use Rattle.member_link.specs.Machine.Classes.{run_method_of};
@@ -27,6 +27,7 @@ ghost use Rattle.written_files.specs.CheckedConstructors.{IsNewMethod};
 ghost use Rattle.written_files.specs.FieldConstructors.{IsConstructorIn, IsDescribed, constructor_member};
 ghost use Rattle.written_files.specs.GrownPools.{AddsChecked, AreSound};
 ghost use Rattle.written_files.specs.LinkedConstructors.{HasLinkedMembers, IsLinkedMethod};
+ghost use Rattle.written_files.specs.SoundConstructors.{HasSoundTexts};
 
 use code_bytes::the_chosen_spelling_is_of_the_table;
 use member_link::{a_look_up_finds_one_field, a_look_up_finds_one_method};
@@ -124,4 +125,20 @@ pub fn a_field_constructor_passes_its_checks()
     a_grown_class_has_a_grown_header();
     class_model::constants_compare_by_value();
     class_model::parameters_are_spelled();
+}
+
+/// What is needed of a constant of a pool that was checked is well formed.
+pub fn what_a_checked_pool_needs_is_sound()
+    ensures { (major : ℕ) (pool : Constants) (index : ℕ)
+        → AllHold (entries_checks major pool 10 pool)
+        → AreSound (needs_at pool index) }
+{
+}
+
+/// What is needed for the field constructor of a class is well formed, by the texts of its class file.
+pub fn what_a_field_constructor_needs_is_sound()
+    ensures { (headers : Headers) (constructor : Name → List ℕ) (file : ClassFile)
+        → HasSoundTexts headers constructor file
+        → AreSound (constructor_method_needs headers constructor (header_of file).name) }
+{
 }
