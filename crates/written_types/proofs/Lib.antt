@@ -108,7 +108,9 @@ mod MadeStates
 mod MakeCodes
 mod MakeWhole
 mod MadeBlocks
+mod Joined
 mod CarriedPoints
 mod CaughtTypes
 mod DeepStacks
 mod EndingRows
+mod MakingConstants

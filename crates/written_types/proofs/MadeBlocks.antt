@@ -25,6 +25,7 @@ use Rattle.virtual_state.specs.declared.slot.Slot.TheVariants.{Plain, Virt, Unus
 use Rattle.virtual_state.specs.declared.slot.VObject.{VObject}
 use Rattle.written_types.proofs.AgreeingFrames.{agreeing_assignable, assignable_to_itself, keeps_no_this}
 use Rattle.written_types.proofs.BlockKinds.{BlockKind, IsPad, made_before, makes_before_point, makes_on_next, of_instruction, of_pad}
+use Rattle.written_types.proofs.CarriedPoints.{Behind}
 use Rattle.written_types.proofs.EdgeTargets.{before_can_make, target_of}
 use Rattle.written_types.proofs.Given.{AtInstruction, CanMake, ComesNext, EndCarries, EndsCarry, FitsState, Given, IsOfNoNew, MakeCarries, MakesCarry, frame_at_state}
 use Rattle.written_types.proofs.Placing.{IsMade, block_carries, goes_behind, items_and_end, same_form}
@@ -184,9 +185,10 @@ module _ (w : Writing) (given : Given w) (ends : EndsCarry w given) (makes : Mak
       → IsFresh w (length (written_items w.form front)) one frame
       → ((at : ℕ) (point : Point) (route : Route)
       → AtInstruction w given at point route one behind
+      → Behind w given at route behind
       → BlockCarries w (length (written_items w.form front)) one behind frame)
       → BlockCarries w (length (written_items w.form front)) one behind frame
-  kind_carries front behind one frame is (of_instruction at point route here behind_is) agrees fresh instruction = instruction at point route here
+  kind_carries front behind one frame is (of_instruction at point route here behind_is) agrees fresh instruction = instruction at point route here behind_is
   kind_carries front behind one frame is (makes_before_point at point route there is_route block next) agrees fresh instruction =
       made_block_carries front behind one (before_point at) at route.state route.made route.order None frame is block (λ number e. absurd cc)
       (before_can_make w given at route is_route) agrees fresh
