@@ -6,6 +6,7 @@ mod OperandRows
 mod StackRows
 mod SiteFields
 mod SiteSlots
+mod NullPoints
 mod FieldNumbers
 mod MemberRows
 mod CallRows
