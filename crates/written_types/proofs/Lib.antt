@@ -6,6 +6,9 @@ mod OperandRows
 mod StackRows
 mod SiteFields
 mod SiteSlots
+mod EdgesWritten
+mod FreshItems
+mod BlockOrder
 mod NullPoints
 mod FieldNumbers
 mod MemberRows
