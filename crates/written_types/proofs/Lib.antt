@@ -6,6 +6,10 @@ mod OperandRows
 mod StackRows
 mod SiteFields
 mod SiteSlots
+mod EdgesWritten
+mod FreshItems
+mod BlockOrder
+mod NullPoints
 mod FieldNumbers
 mod MemberRows
 mod CallRows
