@@ -229,9 +229,9 @@ module _ (constructor : Name → List ℕ) where
     by false e =
         let apart : above ≢ object = λ same. absurd (false≢true (sym e ∙ (bytes_eq-Decides above object).1 same)) in
         rw (e) (
-          all_both ((simple (Load kinds.Ref 0) ∷ []) ++ loads_from 1 (instance_fields headers above)) (simple (Const imms.Null) ∷ calls_constructor above ∷ [])
-          (sound_none, loads_sound 1 (instance_fields headers above))
-          (sound_none, (one_member of_method above init (constructor above) (constructor_text above (constructor above) is text (void apart)), tt))
+        all_both ((simple (Load kinds.Ref 0) ∷ []) ++ loads_from 1 (instance_fields headers above)) (simple (Const imms.Null) ∷ calls_constructor above ∷ [])
+        (sound_none, loads_sound 1 (instance_fields headers above))
+        (sound_none, (one_member of_method above init (constructor above) (constructor_text above (constructor above) is text (void apart)), tt))
         )
 
 all_kept : (P : Member → Type 0) (test : Member → Bool) (fields : List Member) → AllByRecursion P fields → AllByRecursion P (filter test fields)
