@@ -113,13 +113,11 @@ pub fn what_a_checked_pool_needs_is_sound()
     ensures { (major : ℕ) (pool : Constants) (index : ℕ)
         → AllHold (entries_checks major pool 10 pool)
         → AreSound (needs_at pool index) }
-{
-}
+{}
 
 /// What is needed for the field constructor of a class is well formed, by the texts of its class file.
 pub fn what_a_field_constructor_needs_is_sound()
     ensures { (headers : Headers) (constructor : Name → List ℕ) (file : ClassFile)
         → HasSoundTexts headers constructor file
         → AreSound (constructor_method_needs headers constructor (header_of file).name) }
-{
-}
+{}
