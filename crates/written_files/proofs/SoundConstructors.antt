@@ -1,14 +1,14 @@
 -- What is needed for the field constructor of a class is well formed, by the texts of its class file.
-use Rattle.std.proofs.Common.{◌≡◌, ◌≢◌, ◌==◌, ◌⊎◌, ◌++◌, ◌+◌, ◌≤◌, ◌∙◌, not, bytes_eq, ℕ, Bool, true, false, codes, filter, List, [], ◌∷◌, length, map, Option, Some, None, IsSome, IfSome, if◌then◌else◌, inl, inr, refl, sym, ap, subst, arith, eq-eqb}
+use Rattle.std.proofs.Common.{◌≡◌, ◌≢◌, ◌==◌, ◌++◌, ◌+◌, ◌∙◌, not, bytes_eq, ℕ, Bool, true, false, codes, filter, List, [], ◌∷◌, length, map, Option, Some, None, IsSome, IfSome, inl, inr, refl, sym, ap, subst, arith, eq-eqb}
 use Rattle.std.proofs.lemmas.Bool.{false≢true}
 use Rattle.std.proofs.lemmas.Slice.Eq.{bytes_eq-Decides}
 use Rattle.std.specs.List.{AllByRecursion, flat_map}
 use Rattle.class_model.specs.Checks.{AllHold}
-use Rattle.class_model.specs.ClassOf.{class_file_checks, entered, fields_checks}
-use Rattle.class_model.specs.Descriptors.{IsReferenceName, descriptor_text, field_type_text, units_of, kind_of, type_of}
+use Rattle.class_model.specs.ClassOf.{class_file_checks, fields_checks}
+use Rattle.class_model.specs.Descriptors.{field_type_text, units_of, kind_of, type_of}
 use Rattle.class_model.specs.Header.{field_member, header_of}
 use Rattle.class_model.specs.Laws.Checks.{first_holds, others_hold}
-use Rattle.class_model.specs.Laws.ClassFiles.{fields_place, flags_place, parts_hold}
+use Rattle.class_model.specs.Laws.ClassFiles.{fields_place, parts_hold}
 use Rattle.class_model.specs.Laws.Descriptors.{array_head, array_text, class_text}
 use Rattle.class_model.specs.Laws.Texts.{plain_text}
 use Rattle.class_model.specs.Members.{STATIC, Signature, field_checks, field_signature, has as has_flag}
@@ -28,8 +28,8 @@ use Rattle.class_model.specs.declared.instr.Instr.TheVariants.{Const, Load, Retu
 use Rattle.class_tree.specs.Headers.{Headers, IsClassFile, Name}
 use Rattle.class_tree.specs.Layouts.{instance_fields, own_fields}
 use Rattle.class_tree.specs.Names.{object}
-use Rattle.making_code.specs.Constants.{MemberKind, Need, needs_text, of_field, of_method}
-use Rattle.making_code.specs.FieldConstructor.{CInstr, call_above, calls_constructor, calls_object, constructor_items, constructor_method_needs, fields_above, item_needs, loads_from, puts_field, puts_from, simple, super_call, units_of_fields}
+use Rattle.making_code.specs.Constants.{needs_text, of_field, of_method}
+use Rattle.making_code.specs.FieldConstructor.{CInstr, call_above, calls_constructor, constructor_items, constructor_method_needs, fields_above, item_needs, loads_from, puts_from, simple, super_call, units_of_fields}
 use Rattle.written_files.proofs.SoundNeeds.{ClassSound, both_sound, class_sound, one_member, one_text, text_sound}
 use Rattle.written_files.specs.GrownPools.{AreSound, IsMemberText, sound_none}
 use Rattle.written_files.specs.SoundConstructors.{HasSoundTexts}

@@ -1,35 +1,19 @@
 -- What is needed of the constants of a class file is well formed: that of a constant of its pool, and that of its field constructor.
-use Rattle.std.proofs.Common.{◌≡◌, ◌≢◌, ◌⊎◌, ◌++◌, ◌+◌, ◌∙◌, not, bytes_eq, ℕ, zero, suc, Bool, true, false, codes, filter, List, [], ◌∷◌, length, map, Option, Some, None, IsSome, IfSome, if◌then◌else◌, option_and_then, inl, inr, refl, sym, ap, subst, append-nil, append_assoc}
+use Rattle.std.proofs.Common.{◌≡◌, ◌⊎◌, ◌++◌, ◌+◌, ◌∙◌, ℕ, zero, suc, List, [], ◌∷◌, length, Option, Some, None, IfSome, option_and_then, refl, sym, ap, subst, append-nil, append_assoc}
 use Rattle.std.proofs.lemmas.Option.{none-some, same_Some}
-use Rattle.std.specs.List.{AllByRecursion, flat_map}
 use Rattle.class_model.specs.Checks.{AllHold}
-use Rattle.class_model.specs.ClassOf.{class_file_checks, fields_checks}
-use Rattle.class_model.specs.Descriptors.{IsReferenceName, descriptor_text, field_type_text}
-use Rattle.class_model.specs.Header.{field_member, header_of}
+use Rattle.class_model.specs.Descriptors.{IsReferenceName}
 use Rattle.class_model.specs.Laws.Checks.{first_holds, others_hold}
-use Rattle.class_model.specs.Laws.ClassFiles.{parts_hold}
-use Rattle.class_model.specs.Laws.Descriptors.{array_head, array_text, class_text}
-use Rattle.class_model.specs.Laws.Texts.{plain_text}
-use Rattle.class_model.specs.Members.{STATIC, Signature, field_checks, field_signature, has}
-use Rattle.class_model.specs.ModifiedUtf8.{IsModifiedUtf8, is_plain_text}
-use Rattle.class_model.specs.Names.{IsFieldName, IsNameByte, IsUnqualifiedName, clinit, init}
+use Rattle.class_model.specs.ModifiedUtf8.{IsModifiedUtf8}
+use Rattle.class_model.specs.Names.{IsFieldName}
 use Rattle.class_model.specs.Pool.{Constants, constant_at}
-use Rattle.class_model.specs.PoolChecks.{FitsDescriptor, IsCalledName, IsFieldDescriptor, IsMethodDescriptor, IsTypeName, ReturnsVoid, class_at, class_name_of, constant_checks, descriptor_at, entries_checks, name_and_type_of, name_at, text_of, text_or_empty, utf8_at}
-use Rattle.class_model.specs.Spelling.{constant_bytes, field_bytes}
-use Rattle.class_model.specs.declared.class_file.ClassFile.{ClassFile}
-use Rattle.class_model.specs.declared.class_file.Field.{Field}
-use Rattle.class_model.specs.declared.descriptor.FieldType.{FieldType}
-use Rattle.class_model.specs.declared.descriptor.FieldType.TheVariants.{Byte, Char, Short, Bool as BoolType, Int, Long as LongType, Float as FloatType, Double as DoubleType, Named}
-use Rattle.class_model.specs.declared.header.Member.{Member}
+use Rattle.class_model.specs.PoolChecks.{FitsDescriptor, IsCalledName, IsFieldDescriptor, IsMethodDescriptor, class_at, class_name_of, constant_checks, descriptor_at, entries_checks, name_and_type_of, name_at, text_of, utf8_at}
+use Rattle.class_model.specs.Spelling.{constant_bytes}
 use Rattle.class_model.specs.declared.pool.Const.{Const}
 use Rattle.class_model.specs.declared.pool.Const.TheVariants.{Utf8, Integer, Float, Long, Double, Class, String, Fieldref, Methodref, InterfaceMethodref, NameAndType}
-use Rattle.class_tree.specs.Headers.{Headers, Name}
-use Rattle.class_tree.specs.Layouts.{instance_fields, own_fields}
-use Rattle.class_tree.specs.Names.{object}
-use Rattle.making_code.specs.Constants.{MemberKind, Need, class_needs, constructor_needs, member_needs, needs_at, needs_itself, needs_of_class, needs_of_constant, needs_of_reference, needs_of_string, needs_text, of_field, of_interface_method, of_method, string_needs}
-use Rattle.making_code.specs.FieldConstructor.{CInstr, call_above, calls_constructor, calls_object, constructor_items, constructor_method_needs, fields_above, item_needs, loads_from, puts_field, puts_from, simple, super_call, units_of_fields}
+use Rattle.class_tree.specs.Headers.{Name}
+use Rattle.making_code.specs.Constants.{MemberKind, Need, class_needs, member_needs, needs_at, needs_of_class, needs_of_constant, needs_of_reference, needs_of_string, needs_text, of_field, of_interface_method, of_method, string_needs}
 use Rattle.written_files.specs.GrownPools.{AreSound, IsMemberText, IsReferredTo, sound_class, sound_member, sound_none, sound_number, sound_string, sound_text}
-use Rattle.written_files.specs.SoundConstructors.{HasSoundTexts}
 
 -- ---- needs, one part after the other
 
