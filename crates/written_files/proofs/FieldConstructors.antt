@@ -4,6 +4,7 @@ pub mod Calls
 pub mod Constants
 pub mod Linking
 pub mod Member
+pub mod Running
 pub mod Sequences
 pub mod Steps
 pub mod Typing

@@ -5,5 +5,5 @@ mod laws;
 
 pub use laws::{
     a_field_constructor_is_a_member, a_field_constructor_is_linked, a_field_constructor_is_typed,
-    a_field_constructor_names_classes_that_are_there,
+    a_field_constructor_names_classes_that_are_there, a_field_constructor_runs_its_instructions,
 };

@@ -195,7 +195,7 @@ module _ (laws : Laws) (headers : Headers) (constructor : Name → List ℕ) (fi
   stack_is : s.part.max_stack ≡ constructor_depth headers name
   stack_is = ap (λ (part : CodePart). part.max_stack) part_same ∙ c.method.is_part.max_stack
 
-  locals_are : s.part.max_locals ≡ 1 + units_of_fields fields + 1
+  pub locals_are : s.part.max_locals ≡ 1 + units_of_fields fields + 1
   locals_are = ap (λ (part : CodePart). part.max_locals) part_same ∙ c.method.is_part.max_locals
 
   -- ---- its constants
@@ -206,7 +206,7 @@ module _ (laws : Laws) (headers : Headers) (constructor : Name → List ℕ) (fi
   text_there : (index : ℕ) (text : List ℕ) → utf8_at c.pool index ≡ Some text → utf8_at s.class.pool index ≡ Some text
   text_there index text is = ap (λ (all : Constants). utf8_at all index) c.has ∙ text_more c.pool c.more index text is
 
-  name_text : utf8_at s.class.pool s.method.name ≡ Some init
+  pub name_text : utf8_at s.class.pool s.method.name ≡ Some init
   name_text =
       ap (utf8_at s.class.pool) c.method.name
       ∙ text_there (text_index c.pool init) init texts.name
@@ -221,13 +221,13 @@ module _ (laws : Laws) (headers : Headers) (constructor : Name → List ℕ) (fi
   grown : IsGrownHeader (header_of file) (header_of s.class)
   grown = laws.header file s.class c.is_class_file c.class
 
-  own_name : scope.own.name ≡ name
+  pub own_name : scope.own.name ≡ name
   own_name = grown.alike.same_name
 
   own_super : scope.own.super_name ≡ Some c.above
   own_super = grown.alike.same_super ∙ c.superclass
 
-  no_result : scope.result ≡ None
+  pub no_result : scope.result ≡ None
   no_result = ap (λ (text : Option (List ℕ)). result_of (text_or_empty text)) desc_text ∙ c.described.no_result
 
   -- ---- its items
@@ -241,13 +241,13 @@ module _ (laws : Laws) (headers : Headers) (constructor : Name → List ℕ) (fi
   abbrev pub front : List CInstr
   front = super_call headers c.above ++ puts_from name first_put own
 
-  items_are : constructor_items headers name ≡ front ++ simple (Return None) ∷ []
+  pub items_are : constructor_items headers name ≡ front ++ simple (Return None) ∷ []
   items_are = ap (λ (super : Option Name). by_above super ++ simple (Return None) ∷ []) c.is_above
 
-  abbrev indexed : List CInstr → List Instr
+  abbrev pub indexed : List CInstr → List Instr
   indexed items = map (indexed_instr c.pool constructor) items
 
-  instrs_are : constructor_instrs headers c.pool constructor name ≡ indexed front ++ Return None ∷ []
+  pub instrs_are : constructor_instrs headers c.pool constructor name ≡ indexed front ++ Return None ∷ []
   instrs_are =
       ap (map (indexed_instr c.pool constructor)) items_are
       ∙ map-append (indexed_instr c.pool constructor) front (simple (Return None) ∷ [])
@@ -311,7 +311,7 @@ module _ (laws : Laws) (headers : Headers) (constructor : Name → List ℕ) (fi
       ∙ decoded_back laws.spells (indexed (front ++ simple (Return None) ∷ [])) small many
       ∙ ap (λ (all : List Instr). Ok (placed 0 all)) (map-append (indexed_instr c.pool constructor) front (simple (Return None) ∷ []))
 
-  instructions_are : instructions s ≡ placed 0 instrs
+  pub instructions_are : instructions s ≡ placed 0 instrs
   instructions_are = rw (decodes) refl
 
   -- ---- the frame that it begins with
