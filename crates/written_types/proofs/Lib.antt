@@ -112,3 +112,4 @@ mod CaughtTypes
 mod DeepStacks
 mod EndingRows
 mod MakingConstants
+mod AvoidingWays
