@@ -5,6 +5,12 @@ mod Standing
 mod OperandRows
 mod StackRows
 mod SiteFields
+mod SiteSlots
+mod EdgesWritten
+mod FreshItems
+mod BlockOrder
+mod NullPoints
+mod FieldNumbers
 mod MemberRows
 mod CallRows
 mod RowTable
