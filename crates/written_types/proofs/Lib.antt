@@ -118,3 +118,4 @@ mod CaughtTypes
 mod DeepStacks
 mod EndingRows
 mod MakingConstants
+mod AvoidingWays

@@ -1,3 +1,4 @@
+use Rattle.written_types.proofs.AvoidingWays.{avoiding_fits}
 use Rattle.written_types.proofs.Joined.{all_carry}
 use Rattle.written_types.proofs.MadeBlocks.{kind_carries}
 use Rattle.written_types.proofs.MakeWhole.{makes_carry}
