@@ -34,6 +34,8 @@ use Rattle.code_layout.specs.Emitting.{IsEmitted}
 use Rattle.code_layout.specs.Layout.{IsLaid, Spelled}
 use Rattle.code_layout.specs.declared.emitted.EmitItem.{EmitItem}
 use Rattle.code_layout.specs.declared.laid.Laid.{Laid}
+use Rattle.expanded_code.specs.ExpandAnswers.{IsExpanded}
+use Rattle.expanded_runs.specs.CarriedConstants.{CarriesConstants}
 use Rattle.flow_code.specs.FlatCode.{FlatCode}
 use Rattle.making_code.specs.Constants.{grow, needs_text}
 use Rattle.making_code.specs.ConstructorCode.{IsConstructorMethod}
@@ -85,6 +87,7 @@ module _ (laws : HaveLaws) (r : Rewriting) (files : List ClassFile) (w : IsFolde
     (free : (class : ℕ) (file : ClassFile) (method : RunMethod) → slice_get r.classes.folder class ≡ Some file
         → w.s.added class ≡ method ∷ []
         → declared init (r.constructor (header_of file).name) (header_of file).methods ≡ None)
+    (carries : (at : MethodAt) (flat : FlatCode) → IsExpanded r.classes r.typed at flat → CarriesConstants r.classes flat)
     (well : IsWellWritten r files w) where
   -- ---- initialisers that are added
 
@@ -192,7 +195,7 @@ module _ (laws : HaveLaws) (r : Rewriting) (files : List ClassFile) (w : IsFolde
     means = λ at v is. laws.means (spelled_in v.one.form) v.items v.laid (well.emitted at v is) is.is.framed.laid;
     sorts = λ at v is.
         let known = ready at v.one (w.rewritten.all at v is) in
-        sorts_are (plan_scope r.classes r.links v.one) known.scope known.code (well.carries at v is) v.one.form v.one.routes;
+        sorts_are (plan_scope r.classes r.links v.one) known.scope known.code (carries at v.one.flat (hosted at v is).expanded) v.one.form v.one.routes;
     constructor = well.constructors;
   } where
     hosted : (at : MethodAt) (v : Rewritten) → IsRewrittenAt r at v → IsRewrittenHost r at v.one

@@ -7,7 +7,7 @@ use Rattle.class_model.specs.declared.instr.Instr.{Instr}
 use Rattle.class_model.specs.declared.instr.Instr.TheVariants.{Nop, Const, Ldc, Ldc2, Load, Store, Iinc, ArrayLoad, ArrayStore, Shuffle, Pure, Divide, FloatAsk, If, If2, IfSame, IfNull, Goto, Table, Lookup, Return, GetStatic, PutStatic, GetField, PutField, Invoke, Dynamic, New, NewArray, NewRefArray, NewMulti, Length, Throw, Cast, InstanceOf, Enter, Leave}
 use Rattle.making_code.specs.Laws.MeantConstants.{Means}
 use Rattle.class_rewrite.proofs.MeantOps.{class_meant, field_meant, loaded2_meant, loaded_meant, method_meant}
-use Rattle.class_rewrite.specs.Rewriting.WellWritten.{IsCarriable}
+use Rattle.expanded_runs.specs.CarriedConstants.{IsCarriable}
 use Rattle.class_tree.specs.Headers.{Name}
 use Rattle.making_code.specs.Constants.{needs_at}
 use Rattle.making_code.specs.IndexedMaking.{index_of_last}

@@ -16,7 +16,7 @@ use Rattle.class_model.specs.declared.instr.Pair.{Pair}
 use Rattle.class_model.specs.declared.opcodes.TheConstants.{INVOKESPECIAL}
 use Rattle.class_rewrite.proofs.MeantOps.{referred}
 use Rattle.class_rewrite.proofs.NeededConstants.{CatchMeant, InstrMeant, ItemMeant}
-use Rattle.class_rewrite.specs.Rewriting.WellWritten.{IsCarriable}
+use Rattle.expanded_runs.specs.CarriedConstants.{IsCarriable}
 use Rattle.class_rewrite.proofs.WrittenOps.{IsWrittenScope, NamesNone, carried_meant, jumps_fit, jumps_nowhere, jumps_name_none, none_named}
 use Rattle.class_tree.specs.Headers.{Name}
 use Rattle.code_layout.specs.EmittedCode.{catch_of, item_point, item_points}

@@ -9,7 +9,7 @@ use Rattle.class_model.specs.declared.instr.Instr.{Instr}
 use Rattle.class_model.specs.declared.instr.Instr.TheVariants.{Nop, Const, Ldc, Ldc2, Load, Store, Iinc, ArrayLoad, ArrayStore, Shuffle, Pure, Divide, FloatAsk, If, If2, IfSame, IfNull, Goto, Table, Lookup, Return, GetStatic, PutStatic, GetField, PutField, Invoke, Dynamic, New, NewArray, NewRefArray, NewMulti, Length, Throw, Cast, InstanceOf, Enter, Leave}
 use Rattle.class_rewrite.proofs.WrittenInstrs.{HoldsOfWritten, each_written}
 use Rattle.class_rewrite.proofs.WrittenPoints.{IsCarriedWell, Sort}
-use Rattle.class_rewrite.specs.Rewriting.WellWritten.{CarriesConstants, IsCarriable}
+use Rattle.expanded_runs.specs.CarriedConstants.{CarriesConstants, IsCarriable}
 use Rattle.flow_code.specs.declared.point.FlatInstr.TheVariants.{Of}
 use Rattle.flow_code.specs.declared.point.Point.{Point}
 use Rattle.making_code.specs.Items.{WItem, carried}

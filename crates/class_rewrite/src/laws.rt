@@ -33,7 +33,7 @@ ghost use Rattle.type_rules.specs.Verified.{TypesFolder};
 
 use class_tree::classes_of_a_tree_are_a_hierarchy;
 use expanded_runs::{
-    an_expanded_flat_code_is_ready, an_expanded_flat_code_is_typed,
+    an_expanded_flat_code_carries_constants, an_expanded_flat_code_is_ready, an_expanded_flat_code_is_typed,
     expanded_flat_codes_have_a_replacement, expanded_flat_codes_run_equally,
 };
 use inline_expand::a_method_has_one_expanded_flat_code;
@@ -133,6 +133,7 @@ pub fn a_written_folder_runs_as_its_folder()
     a_verified_folder_is_a_typed_program();
     linked_instructions_have_linked_operations();
     an_expanded_flat_code_is_ready();
+    an_expanded_flat_code_carries_constants();
     expanded_flat_codes_have_a_replacement();
     expanded_flat_codes_run_equally();
     running_equally_is_running_the_same();

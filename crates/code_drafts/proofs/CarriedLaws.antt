@@ -9,7 +9,7 @@ use Rattle.class_model.specs.Pool.{Constants, entries_of}
 use Rattle.class_model.specs.declared.class_file.ClassFile.{ClassFile}
 use Rattle.class_model.specs.declared.instr.Instr.{Instr}
 use Rattle.class_tree.specs.Headers.{Name}
-use Rattle.code_drafts.specs.Laws.EmittedParts.{continues_both, full_first, full_then, grown_more, grows_both, grows_none}
+use Rattle.materialise.specs.Laws.GrownEdits.{continues_both, full_first, full_then, grown_more, grows_both, grows_none}
 use Rattle.code_drafts.proofs.SameEnds.{IsEnd}
 use Rattle.code_drafts.proofs.FieldLaws.{drop_past}
 use Rattle.code_drafts.specs.Inner.CarriedWords.{Catches, IsCarried, IsCatchIndex, IsDraft, all_catch_needs, carried_item, catch_on}

@@ -9,7 +9,8 @@ use Rattle.code_layout.specs.PlainItems.{plain_items}
 use Rattle.code_layout.specs.WideForm.{width}
 use Rattle.code_layout.specs.declared.emitted.EmitItem.{EmitItem}
 use Rattle.code_drafts.specs.FlatForms.{AreFormed}
-use Rattle.code_drafts.specs.ItemPlaces.{NameNews, enters_in, enters_of, item_places, objects_of, site_news, site_places_of}
+use Rattle.code_drafts.specs.ItemPlaces.{NameNews, enters_of, item_places, objects_of, site_places_of}
+use Rattle.making_code.specs.CountedItems.{enters_in, site_news}
 use Rattle.making_code.specs.Constants.{Need, grow}
 use Rattle.making_code.specs.IndexedItems.{IndexedItem}
 use Rattle.making_code.specs.Items.{WInstr, WItem, carried, plain}

@@ -9,7 +9,7 @@ use Rattle.class_tree.specs.Headers.{Name}
 use Rattle.flow_code.specs.declared.point.FlatInstr.{FlatInstr}
 use Rattle.flow_code.specs.declared.point.FlatInstr.TheVariants.{Of}
 use Rattle.making_code.specs.IndexedItems.{IndexedItem}
-use Rattle.making_code.specs.Items.{WInstr, WItem, carried, constructs, load, makes, plain, store}
+use Rattle.making_code.specs.Items.{makes}
 use Rattle.plan_flow.specs.PlanScope.{PlanScope, pool_of, site_at}
 use Rattle.plan_flow.specs.PlanSlots.{held}
 use Rattle.plan_flow.specs.PlanTable.{operand}
@@ -78,10 +78,6 @@ NameNews s = AllByRecursion (λ point. NamesNew s point.instr) s.flat.points
 
 -- ---- how many
 
-abbrev pub is_enter : Instr → Bool
-is_enter Enter = true
-is_enter instr = false
-
 abbrev pub enters : Place → Bool
 enters enters_monitor = true
 enters (makes_object class) = false
@@ -90,25 +86,10 @@ abbrev pub makes_one : Place → Bool
 makes_one enters_monitor = false
 makes_one (makes_object class) = true
 
--- an object of a site is made: a new of the flat code is none
-abbrev pub makes_site : WInstr → Bool
-makes_site (makes class) = true
-makes_site (constructs class) = false
-makes_site (carried class instr) = false
-makes_site (plain instr) = false
-makes_site (load kind unit) = false
-makes_site (store kind unit) = false
-
--- the objects of sites that written items make, and those of places
-abbrev pub site_news : List WItem → ℕ
-site_news items = count_by (λ one. makes_site one.instr) items
-
+-- the objects of places that are made
 abbrev pub objects_of : List Place → ℕ
 objects_of places = count_by makes_one places
 
--- the monitorenters of items, and of places
-abbrev pub enters_in : List IndexedItem → ℕ
-enters_in items = count_by (λ one. is_enter one.instr) items
-
+-- the monitorenters of places
 abbrev pub enters_of : List Place → ℕ
 enters_of places = count_by enters places

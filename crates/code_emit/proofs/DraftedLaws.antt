@@ -6,7 +6,8 @@ use Rattle.class_tree.specs.Headers.{Name}
 use Rattle.code_drafts.specs.Counts.{AreTooMany}
 use Rattle.code_drafts.specs.Drafts.{AreDrafted, IsDrafted, Keeps, KeepsIn, all_items, keeps_all, keeps_none}
 use Rattle.code_drafts.specs.Emits.{Emits}
-use Rattle.code_drafts.specs.Laws.EmittedParts.{full_first, full_then, grows_both, grows_none, needs_both}
+use Rattle.code_drafts.specs.Laws.EmittedParts.{needs_both}
+use Rattle.materialise.specs.Laws.GrownEdits.{full_first, full_then, grows_both, grows_none}
 use Rattle.code_drafts.specs.Laws.KeptCounts.{as_long, too_many_stay}
 use Rattle.code_drafts.specs.declared.draft.DraftBlock.{DraftBlock}
 use Rattle.code_drafts.specs.declared.draft.DraftItem.{DraftItem}

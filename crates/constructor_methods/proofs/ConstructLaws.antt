@@ -28,7 +28,7 @@ use Rattle.flow_code.specs.declared.reason.Reason.{Reason}
 use Rattle.making_code.specs.ConstructorCode.{indexed_instr}
 use Rattle.making_code.specs.Constants.{Need, constant_of, constructor_needs, grow, index_of, member_needs, needs_member, of_method, with_constant}
 use Rattle.making_code.specs.FieldConstructor.{CInstr, call_above, calls_constructor, calls_object, constructor_items, fields_above, item_needs, loads_from, puts_from, simple, super_call, units_of_fields}
-use Rattle.constructor_methods.proofs.Adding.{continues_both, full_first, full_then, grown_more, grows_both, grows_none}
+use Rattle.materialise.specs.Laws.GrownEdits.{continues_both, full_first, full_then, grown_more, grows_both, grows_none}
 use Rattle.materialise.specs.Growing.{Grows, IsFull}
 use Rattle.materialise.specs.Indices.{IsIndex}
 use Rattle.constructor_methods.specs.Inner.ConstructorWords.{Constructs, IsHeaderOf, descs_above, loads_of, put_items, units_of_desc, units_of_descs}

@@ -19,7 +19,7 @@ use Rattle.flow_code.specs.declared.reason.Reason.{Reason}
 use Rattle.making_code.specs.Constants.{text_index}
 use Rattle.making_code.specs.ConstructorCode.{IsConstructorMethod, SYNTHETIC, bytes_from, depth_of_call, depth_of_stores, indexed_instr}
 use Rattle.making_code.specs.FieldConstructor.{CInstr, constructor_items, constructor_method_needs, fields_above, item_needs, superclass_of, units_of_fields}
-use Rattle.constructor_methods.proofs.Adding.{full_first, full_then, grows_both, index_later}
+use Rattle.materialise.specs.Laws.GrownEdits.{full_first, full_then, grows_both, index_later}
 use Rattle.constructor_methods.proofs.ConstructLaws.{units_by_descs}
 use Rattle.constructor_methods.proofs.ConstructorFields.{units_both}
 use Rattle.constructor_methods.proofs.FewNeeds.{items_few, no_more_fields}

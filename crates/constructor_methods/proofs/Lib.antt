@@ -1,4 +1,3 @@
-mod Adding
 mod ConstructLaws
 mod ConstructorFields
 mod ConstructorMethodLaws

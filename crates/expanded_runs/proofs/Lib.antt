@@ -1,3 +1,4 @@
+pub mod ByteCodes
 mod AloneCode
 mod AloneProgram
 mod FlatPlaces

@@ -16,4 +16,5 @@ mod Uninits
 mod DecodedForms
 mod LinkedUses
 mod ReadyPoints
+pub mod CarriedPoints
 pub mod Whole

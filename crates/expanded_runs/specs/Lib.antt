@@ -1,3 +1,4 @@
 pub mod AlonePrograms
 pub mod ByteCodes
+pub mod CarriedConstants
 pub mod ExpandedPrograms

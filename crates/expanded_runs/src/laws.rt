@@ -10,6 +10,7 @@ ghost use Rattle.expanded_code.specs.CandidateSites.{HasCandidateSites};
 ghost use Rattle.expanded_code.specs.ExpandAnswers.{IsExpanded, IsNoHost, IsWide};
 ghost use Rattle.expanded_runs.specs.AlonePrograms.{AreAlone};
 ghost use Rattle.expanded_runs.specs.ByteCodes.{HaveByteCodes};
+ghost use Rattle.expanded_runs.specs.CarriedConstants.{CarriesConstants};
 ghost use Rattle.expanded_runs.specs.ExpandedPrograms.{AreExpanded};
 ghost use Rattle.flow_code.specs.FlatCode.{FlatCode, point_at};
 ghost use Rattle.flow_code.specs.TypedFrames.{FolderFrames};
@@ -164,6 +165,20 @@ pub fn an_expanded_flat_code_can_be_planned()
         → IsNarrow flat }
 {
     code_bytes::a_class_file_has_read_methods();
+    type_rules::a_typed_folder_types_each_method();
+    type_rules::a_typed_method_types_each_instruction();
+    type_rules::a_method_stands_in_order();
+    type_rules::frames_type_a_body_by_its_places();
+    type_rules::a_typed_body_goes_to_stated_frames();
+}
+
+/// What it has of other classes than the host's may stand in the host's code: a call site, a method handle and a method type stay in their class.
+pub fn an_expanded_flat_code_carries_constants()
+    ensures { (classes : Classes) (typed : FolderFrames) (at : MethodAt) (flat : FlatCode)
+        → TypesFolder classes typed
+        → IsExpanded classes typed at flat
+        → CarriesConstants classes flat }
+{
     type_rules::a_typed_folder_types_each_method();
     type_rules::a_typed_method_types_each_instruction();
     type_rules::a_method_stands_in_order();

@@ -2,10 +2,13 @@
 //! Functions that do nothing, whose contracts say what always holds.
 #![tactic(auto)]
 
+mod byte_codes;
 mod laws;
 
+pub use byte_codes::codes_of_a_tree_are_bytes;
 pub use laws::{
-    a_flat_code_alone_is_typed, an_expanded_flat_code_is_ready, an_expanded_flat_code_is_typed,
+    a_flat_code_alone_is_typed, an_expanded_flat_code_carries_constants,
+    an_expanded_flat_code_is_ready, an_expanded_flat_code_is_typed,
     expanded_flat_codes_have_a_replacement, expanded_flat_codes_run_equally,
     flat_codes_alone_run_equally,
 };

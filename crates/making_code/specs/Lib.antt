@@ -1,6 +1,7 @@
 pub mod Units
 pub mod Items
 pub mod IndexedItems
+pub mod CountedItems
 pub mod MakeOrder
 pub mod MakeCode
 pub mod Constants

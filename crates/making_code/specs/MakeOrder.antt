@@ -12,6 +12,10 @@ names_one objects sites site = of_object (object_of objects site) where
   of_object None = Bool.false
   of_object (Some object) = list_any (names object.fields) sites
 
+-- those of these sites that are not made
+abbrev pub left_of : List ℕ → List ℕ → List ℕ
+left_of sites made = filter (λ site. not (has made site)) sites
+
 -- Of the sites that are left this one comes next: no field of its object names one that is left, and of those it is the least number.
 pub record ComesNext (objects : List VObject) (left : List ℕ) (site : ℕ) : Type 0 where
   pub left_over : IsTrue (has left site)

@@ -1,5 +1,5 @@
 -- Constants that are added to a pool one after the other, and the indices that they have from then on.
-use Rattle.std.proofs.Common.{◌≡◌, ◌≢◌, ◌↔◌, ◌+◌, ◌<◌, ◌≤◌, ℕ, zero, suc, Bool, false, cond, List, [], ◌∷◌, ◌++◌, length, slice_get, Option, Some, None, Result, Ok, Err, IfOk, OnOk, IsTrue, refl, sym, ap, subst, ◌∙◌, inl, inr, append_assoc, append-nil, nat_le, option_and_then, arith}
+use Rattle.std.proofs.Common.{◌≡◌, ◌≢◌, ◌↔◌, ◌+◌, ◌<◌, ◌≤◌, ℕ, zero, suc, Bool, false, cond, List, [], ◌∷◌, ◌++◌, length, slice_get, Option, Some, None, Result, Ok, Err, IfOk, IsTrue, refl, sym, ap, subst, ◌∙◌, inl, inr, append_assoc, append-nil, nat_le, option_and_then, arith}
 use Rattle.std.specs.List.{flat_map}
 use Rattle.std.proofs.lemmas.Bool.{false_from_ne_true, le-leb, leb-true}
 use Rattle.std.proofs.lemmas.Grind.{flat_map-append}
@@ -11,11 +11,11 @@ use Rattle.class_model.specs.declared.pool.Const.TheVariants.{Class, NameAndType
 use Rattle.class_tree.specs.Headers.{Name}
 use Rattle.flow_code.specs.declared.reason.Reason.{Reason}
 use Rattle.flow_code.specs.declared.reason.Reason.TheVariants.{PoolFull}
-use Rattle.making_code.specs.Constants.{MemberKind, Need, constant_of, grow, index_from, index_in, index_of, index_or_zero, name_and_type_index, needs_class, needs_itself, needs_member, needs_name_and_type, needs_of_class, needs_of_reference, needs_of_string, needs_string, reference_of_kind, text_index, with_constant}
-use Rattle.making_code.specs.Laws.GrownPools.{grow_both}
+use Rattle.making_code.specs.Constants.{MemberKind, Need, constant_of, grow, index_from, index_of, index_or_zero, name_and_type_index, needs_class, needs_itself, needs_member, needs_name_and_type, needs_of_class, needs_of_reference, needs_of_string, needs_string, reference_of_kind, text_index, with_constant}
 use Rattle.materialise.specs.Growing.{Grows, IsFull}
 use Rattle.materialise.specs.Indices.{IsIndex, IsIndexOfLast}
 use Rattle.materialise.specs.Inner.ConstantWords.{Means}
+use Rattle.materialise.specs.Laws.GrownEdits.{grown_more}
 use Rattle.pool_edit.specs.Edits.{Adds, Appends, Continues, Edit, IsAbsent, IsFirstIndex, IsPast, grown}
 
 -- the comparison of constants tells whether they are the same
@@ -148,31 +148,6 @@ past_is_full same old need constant reason means past is =
           ∙ ap (option_and_then (λ (more : Constants). Some more)) (with_past same old.limit (grown old) constant past.absent past.past);
     }
 
--- ---- edits that go on
-
-pub grown_more : (old new : Edit) (so_far : Continues old new) → grown new ≡ grown old ++ flat_map entries_of so_far.more
-grown_more old new so_far =
-    ap (λ (base : Constants). base ++ flat_map entries_of new.added) so_far.base
-    ∙ ap (λ (constants : List Const). old.base ++ flat_map entries_of constants) so_far.added
-    ∙ ap (λ (entries : Constants). old.base ++ entries) (flat_map-append entries_of old.added so_far.more)
-    ∙ sym (append_assoc old.base (flat_map entries_of old.added) (flat_map entries_of so_far.more))
-
-pub continues_both : (first middle last : Edit) → Continues first middle → Continues middle last → Continues first last
-continues_both first middle last one other = record {
-  base = other.base ∙ one.base;
-  limit = other.limit ∙ one.limit;
-  more = one.more ++ other.more;
-  added = other.added ∙ ap (λ (constants : List Const). constants ++ other.more) one.added ∙ append_assoc first.added one.more other.more;
-}
-
-pub index_later : (old new : Edit) (need : Need) (index : ℕ) → IsIndex old need index → Continues old new → IsIndex new need index
-index_later old new need index known so_far = record {
-  is = λ more.
-      ap (λ (pool : Constants). index_in (pool ++ more) need) (grown_more old new so_far)
-      ∙ ap (λ (pool : Constants). index_in pool need) (append_assoc (grown old) (flat_map entries_of so_far.more) more)
-      ∙ known.is (flat_map entries_of so_far.more ++ more);
-}
-
 pub added_index : Compares → (old new : Edit) (need : Need) (constant : Const) (index : ℕ)
     → Means old need constant
     → Continues old new
@@ -185,43 +160,6 @@ added_index same old new need constant index means so_far first = record {
       ∙ ap (λ (pool : Constants). constant_of pool need) (append_assoc (grown old) (flat_map entries_of so_far.more) more)
       ∙ means.is (flat_map entries_of so_far.more ++ more) in
       ap (index_or_zero (grown new ++ more)) here ∙ first_or_zero same (grown new) more index constant first;
-}
-
--- ---- growth, part by part
-
-pub grows_none : (edit : Edit) → Grows edit [] edit
-grows_none edit = record { base = refl; limit = refl; grown_by = refl }
-
-pub grows_both : (first middle last : Edit) (front back : List Need) → Grows first front middle → Grows middle back last → Grows first (front ++ back) last
-grows_both first middle last front back one other = record {
-  base = other.base ∙ one.base;
-  limit = other.limit ∙ one.limit;
-  grown_by =
-      grow_both first.limit (grown first) front back
-      ∙ ap (option_and_then (λ (more : Constants). grow first.limit more back)) one.grown_by
-      ∙ ap (λ (limit : ℕ). grow limit (grown middle) back) (sym one.limit)
-      ∙ other.grown_by;
-}
-
-pub full_first : (edit : Edit) (front back : List Need) (reason : Reason) → IsFull edit front reason → IsFull edit (front ++ back) reason
-full_first edit front back reason full = record {
-  is = full.is;
-  past =
-      grow_both edit.limit (grown edit) front back
-      ∙ ap (option_and_then (λ (more : Constants). grow edit.limit more back)) full.past;
-}
-
-pub full_then : (first middle : Edit) (front back : List Need) (reason : Reason)
-    → Grows first front middle
-    → IsFull middle back reason
-    → IsFull first (front ++ back) reason
-full_then first middle front back reason one full = record {
-  is = full.is;
-  past =
-      grow_both first.limit (grown first) front back
-      ∙ ap (option_and_then (λ (more : Constants). grow first.limit more back)) one.grown_by
-      ∙ ap (λ (limit : ℕ). grow limit (grown middle) back) (sym one.limit)
-      ∙ full.past;
 }
 
 -- ---- constants by the indices of what they name
@@ -292,10 +230,6 @@ last_of_member edit kind class_found name_found desc_found class name desc index
     (record { is = known.is })))
 
 -- ---- answers
-
-pub on_ok : {A E P Q : Type 0} (result : Result A E) → (P → Q) → OnOk result P → OnOk result Q
-on_ok (Ok value) more holds = more holds
-on_ok (Err fault) more holds = tt
 
 pub if_ok : {A E : Type 0} {P Q : A → Type 0} (result : Result A E) → ((value : A) → P value → Q value) → IfOk result P → IfOk result Q
 if_ok (Ok value) more holds = more value holds

@@ -4,9 +4,10 @@ use Rattle.std.specs.List.{AllByRecursion}
 use Rattle.std.proofs.lemmas.Bool.{or_cases, or_left, or_right, eq-eqb, eqb-true, false≢true, true≢false}
 use Rattle.std.proofs.lemmas.List.Folds.{list_any-append}
 use Rattle.std.proofs.lemmas.Option.{none-some, same_Some}
-use Rattle.making_code.specs.MakeOrder.{ComesNext, names_one}
-use Rattle.materialise.proofs.OrderLaws.{left_is, left_parts}
-use Rattle.materialise.specs.Inner.OrderWords.{IsNext, left_of}
+use Rattle.making_code.specs.MakeOrder.{ComesNext, left_of, names_one}
+use Rattle.making_code.specs.Laws.MakeOrders.{left_is}
+use Rattle.materialise.proofs.OrderLaws.{left_parts}
+use Rattle.materialise.specs.Inner.OrderWords.{IsNext}
 use Rattle.virtual_state.specs.Sites.{has}
 use Rattle.virtual_state.specs.States.{IsIncreasing}
 use Rattle.virtual_state.specs.declared.slot.VObject.{VObject}

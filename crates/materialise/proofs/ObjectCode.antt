@@ -20,7 +20,7 @@ use Rattle.making_code.specs.Items.{WInstr, constructs, makes, plain, store}
 use Rattle.making_code.specs.MakeCode.{enters, load_fields_from, make_object, make_one}
 use Rattle.making_code.specs.Units.{object_unit}
 use Rattle.materialise.proofs.BareLaws.{object_needs}
-use Rattle.materialise.proofs.ConstantLaws.{full_first, full_then, grown_more, grows_both, grows_none}
+use Rattle.materialise.specs.Laws.GrownEdits.{full_first, full_then, grown_more, grows_both, grows_none}
 use Rattle.materialise.specs.Growing.{Grows, IsFull}
 use Rattle.materialise.specs.Inner.CodeWords.{Makes, Writes, WritesObject, coded, kept_instr}
 use Rattle.materialise.specs.Inner.ConstantWords.{AreIndices, made_needs}

@@ -1,8 +1,8 @@
 //! The order in which objects are made.
 ghost use Rattle.std.specs.Prelude.{◌≡◌, ◌&&◌, not, IfOk};
 ghost use Rattle.std.specs.List.{list_any};
-ghost use Rattle.making_code.specs.MakeOrder.{IsMakeOrder, names_one};
-ghost use Rattle.materialise.specs.Inner.OrderWords.{IsNext, is_pending, left_of};
+ghost use Rattle.making_code.specs.MakeOrder.{IsMakeOrder, left_of, names_one};
+ghost use Rattle.materialise.specs.Inner.OrderWords.{IsNext, is_pending};
 ghost use Rattle.virtual_state.specs.Sites.{has};
 
 use class_model::{ListOf, NoMemory};

@@ -1,5 +1,5 @@
 -- The constants of classes, added to a pool one after the other.
-use Rattle.std.proofs.Common.{◌≡◌, ◌+◌, ◌-◌, ℕ, zero, suc, List, [], ◌∷◌, ◌++◌, length, drop, replicate, slice_get, Some, option_and_then, inl, inr, refl, sym, ap, subst, ◌∙◌, append_assoc, append-nil}
+use Rattle.std.proofs.Common.{◌≡◌, ◌+◌, ◌-◌, ℕ, zero, suc, List, [], ◌∷◌, ◌++◌, length, drop, replicate, slice_get, Some, inl, inr, refl, sym, ap, subst, ◌∙◌, append_assoc, append-nil}
 use Rattle.std.specs.List.{AllByRecursion, flat_map}
 use Rattle.std.proofs.lemmas.Grind.{flat_map-append}
 use Rattle.class_model.specs.Laws.Lists.{AllByRecursion-weaker, drop_item}
@@ -7,14 +7,14 @@ use Rattle.class_model.specs.Pool.{Constants}
 use Rattle.class_model.specs.declared.frame.Frame.{Frame}
 use Rattle.class_model.specs.declared.frame.VType.{VType}
 use Rattle.class_model.specs.declared.frame.VType.TheVariants.{Top}
-use Rattle.class_model.specs.declared.pool.Const.{Const}
 use Rattle.class_tree.specs.Headers.{Name}
 use Rattle.flow_code.specs.declared.reason.Reason.{Reason}
-use Rattle.making_code.specs.Constants.{Need, class_needs, grow, index_in, needs_class, needs_itself, needs_member, needs_name_and_type, needs_string}
-use Rattle.making_code.specs.Laws.GrownPools.{grow_begins, grow_both}
+use Rattle.making_code.specs.Constants.{Need, class_needs, index_in, needs_class, needs_itself, needs_member, needs_name_and_type, needs_string}
+use Rattle.making_code.specs.Laws.GrownPools.{grow_begins}
 use Rattle.map_frames.specs.declared.writing.NamedIndex.{NamedIndex}
 use Rattle.materialise.specs.Growing.{Grows, IsFull}
 use Rattle.materialise.specs.Indices.{IsIndex}
+use Rattle.materialise.specs.Laws.GrownEdits.{continues_both, full_first, full_then, grows_both}
 use Rattle.pool_edit.specs.Edits.{Continues, Edit, grown}
 use Rattle.stackmap_emit.specs.FrameConstants.{frame_needs, type_needs}
 use Rattle.stackmap_emit.specs.FramesAttribute.{IsNamed}
@@ -35,43 +35,6 @@ still_there (first ∷ xs) ys (suc n) x is = still_there xs ys n x is
 last_there : {X : Type 0} (xs : List X) (x : X) → slice_get (xs ++ x ∷ []) (length xs) ≡ Some x
 last_there [] x = refl
 last_there (first ∷ xs) x = last_there xs x
-
--- ---- growth, part by part
-
-pub grows_both : (first middle last : Edit) (front back : List Need) → Grows first front middle → Grows middle back last → Grows first (front ++ back) last
-grows_both first middle last front back one other = record {
-  base = other.base ∙ one.base;
-  limit = other.limit ∙ one.limit;
-  grown_by =
-      grow_both first.limit (grown first) front back
-      ∙ ap (option_and_then (λ (more : Constants). grow first.limit more back)) one.grown_by
-      ∙ ap (λ (limit : ℕ). grow limit (grown middle) back) (sym one.limit)
-      ∙ other.grown_by;
-}
-
-pub full_first : (edit : Edit) (front back : List Need) (reason : Reason) → IsFull edit front reason → IsFull edit (front ++ back) reason
-full_first edit front back reason full = record {
-  is = full.is;
-  past = grow_both edit.limit (grown edit) front back ∙ ap (option_and_then (λ (more : Constants). grow edit.limit more back)) full.past;
-}
-
-pub full_behind : (first middle : Edit) (front back : List Need) (reason : Reason) → Grows first front middle → IsFull middle back reason → IsFull first (front ++ back) reason
-full_behind first middle front back reason grows full = record {
-  is = full.is;
-  past =
-      grow_both first.limit (grown first) front back
-      ∙ ap (option_and_then (λ (more : Constants). grow first.limit more back)) grows.grown_by
-      ∙ ap (λ (limit : ℕ). grow limit (grown middle) back) (sym grows.limit)
-      ∙ full.past;
-}
-
-pub continues_both : (first middle last : Edit) → Continues first middle → Continues middle last → Continues first last
-continues_both first middle last one other = record {
-  base = other.base ∙ one.base;
-  limit = other.limit ∙ one.limit;
-  more = one.more ++ other.more;
-  added = other.added ∙ ap (λ (constants : List Const). constants ++ other.more) one.added ∙ append_assoc first.added one.more other.more;
-}
 
 -- ---- indices
 
@@ -162,7 +125,7 @@ pub adds_full : (old middle : Edit) (names some : List NamedIndex) (needs left o
     → IsFull old needs reason
 adds_full old middle names some needs left own rest reason cut before full =
     subst (λ (list : List Need). IsFull old list reason) (sym (before.is ∙ ap (λ (list : List Need). before.done ++ list) cut))
-    (full_behind old middle before.done (own ++ rest) reason before.adds.grows (full_first middle own rest reason full))
+    (full_then old middle before.done (own ++ rest) reason before.adds.grows (full_first middle own rest reason full))
 
 -- ---- of items
 

@@ -13,7 +13,8 @@ use Rattle.map_frames.specs.declared.writing.NamedIndex.{NamedIndex}
 use Rattle.materialise.specs.Growing.{Grows}
 use Rattle.materialise.specs.Indices.{IsIndex, need_of_text}
 use Rattle.pool_edit.specs.Edits.{Edit, grown}
-use Rattle.stackmap_emit.proofs.Adding.{grows_both, index_stays}
+use Rattle.stackmap_emit.proofs.Adding.{index_stays}
+use Rattle.materialise.specs.Laws.GrownEdits.{grows_both}
 use Rattle.stackmap_emit.specs.FrameConstants.{frame_needs, table_needs}
 use Rattle.stackmap_emit.specs.FramesAttribute.{AreRead, IsFramesAttribute, all_stated, one_attribute, placed_needs}
 use Rattle.stackmap_emit.specs.Inner.ClassIndices.{Adds, AreIndices}

@@ -11,13 +11,17 @@ ghost use Rattle.class_model.specs.PoolChecks.{IsFieldDescriptor, entries_checks
 ghost use Rattle.class_model.specs.declared.class_file.ClassFile.{ClassFile};
 ghost use Rattle.class_model.specs.declared.class_file.Method.{Method};
 ghost use Rattle.class_model.specs.declared.frame.Frame.{Frame};
-ghost use Rattle.class_tree.specs.Headers.{IsThere, Headers, Name};
+ghost use Rattle.class_tree.specs.Headers.{Classes, Headers, IsThere, Name, headers_of};
 ghost use Rattle.class_tree.specs.Layouts.{instance_fields};
 ghost use Rattle.making_code.specs.Constants.{Need, grow, needs_at};
 ghost use Rattle.making_code.specs.ConstructorCode.{IsConstructorMethod};
 ghost use Rattle.making_code.specs.FieldConstructor.{constructor_method_needs};
+ghost use Rattle.member_link.specs.Machine.Classes.{run_method_of};
+ghost use Rattle.member_link.specs.Machine.Programs.{Links};
 ghost use Rattle.member_link.specs.References.{DescriptorNames, FieldTypeNames};
 ghost use Rattle.member_link.specs.Scope.{Scope};
+ghost use Rattle.plan_flow.specs.Written.WrittenPrograms.{constructor_method};
+ghost use Rattle.type_rules.specs.Grown.{AreGrownHeaders};
 ghost use Rattle.type_rules.specs.Typed.{Typed};
 ghost use Rattle.written_files.specs.CheckedConstructors.{IsNewMethod};
 ghost use Rattle.written_files.specs.FieldConstructors.{IsConstructorIn, IsDescribed, constructor_member};
@@ -27,7 +31,7 @@ ghost use Rattle.written_files.specs.SoundConstructors.{HasSoundTexts};
 
 use code_bytes::the_chosen_spelling_is_of_the_table;
 use member_link::{a_look_up_finds_one_field, a_look_up_finds_one_method};
-use type_rules::a_grown_class_has_a_grown_header;
+use type_rules::{a_grown_class_has_a_grown_header, a_grown_class_keeps_its_instructions};
 
 /// Frames type the field constructor of a class where it stands in the written class (JVM Specification SE 8, 4.10.1.6), access to protected
 /// members with it (4.10.1.8): it calls the constructor of the superclass on its uninitialised `this`, and stores into fields of its own class.
@@ -52,6 +56,21 @@ pub fn a_field_constructor_is_linked()
     a_grown_class_has_a_grown_header();
     a_look_up_finds_one_field();
     a_look_up_finds_one_method();
+    class_model::constants_compare_by_value();
+}
+
+/// To the machine it is the code of the definition, whatever the headers of the written folder.
+pub fn a_field_constructor_runs_its_instructions()
+    ensures { (classes : Classes) (links : Links) (constructor : Name → List ℕ) (file : ClassFile)
+        (s : Scope)
+        → IsConstructorIn (headers_of classes) constructor file s
+        → AreGrownHeaders (headers_of classes) s.headers
+        → run_method_of links s.headers s.class s.method
+        ≡ constructor_method classes links constructor file }
+{
+    the_chosen_spelling_is_of_the_table();
+    a_grown_class_has_a_grown_header();
+    a_grown_class_keeps_its_instructions();
     class_model::constants_compare_by_value();
 }
 

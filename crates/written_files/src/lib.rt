@@ -6,6 +6,6 @@ mod laws;
 pub use laws::{
     a_field_constructor_is_a_member, a_field_constructor_is_linked, a_field_constructor_is_typed,
     a_field_constructor_names_classes_that_are_there, a_field_constructor_passes_its_checks,
-    a_grown_pool_passes, what_a_checked_pool_needs_is_sound,
-    what_a_field_constructor_needs_is_sound,
+    a_field_constructor_runs_its_instructions, a_grown_pool_passes,
+    what_a_checked_pool_needs_is_sound, what_a_field_constructor_needs_is_sound,
 };

@@ -1,36 +1,20 @@
 -- The lines of a report by what becomes of methods. It is this project's profile.
-use Rattle.std.specs.Prelude.{◌≡◌, ◌≢◌, Bool, true, false, count_by, length}
+use Rattle.std.specs.Prelude.{◌≡◌, ◌≢◌, length}
 use Rattle.class_model.specs.declared.class_file.MethodAt.{MethodAt}
-use Rattle.class_model.specs.declared.instr.Instr.{Instr}
-use Rattle.class_model.specs.declared.instr.Instr.TheVariants.{Enter}
 use Rattle.class_rewrite.specs.Reports.{HasNoNumbers}
 use Rattle.class_rewrite.specs.Rewriting.Folders.{HasReasonAt, IsRewrittenAt}
 use Rattle.class_rewrite.specs.Rewriting.Methods.{Rewriting, Rewritten}
 use Rattle.class_rewrite.specs.declared.report.Line.{Line}
 use Rattle.flow_code.specs.declared.reason.Reason.TheVariants as reasons
-use Rattle.making_code.specs.Items.{WInstr, carried, constructs, load, makes, plain, store}
+use Rattle.making_code.specs.CountedItems.{enters_in, site_news}
 use Rattle.plan_flow.specs.Written.WrittenPrograms.{items_of}
-
--- an object of a candidate site is made: a new of the method's own is none
-abbrev pub makes_site : WInstr → Bool
-makes_site (makes class) = true
-makes_site (constructs class) = false
-makes_site (carried class instr) = false
-makes_site (plain instr) = false
-makes_site (load kind unit) = false
-makes_site (store kind unit) = false
-
--- a monitor is entered
-abbrev pub is_enter : Instr → Bool
-is_enter Enter = true
-is_enter other = false
 
 -- The numbers of a method that is rewritten: the sites of its flat code, the objects of sites that written code makes, the monitors that it enters,
 -- each by its instructions, and the bytes of its code.
 pub record HasNumbers (r : Rewriting) (w : Rewritten) (line : Line) : Type 0 where
   pub sites : line.sites ≡ length w.one.flat.sites
-  pub news : line.news ≡ count_by (λ item. makes_site item.instr) (items_of r.classes r.links w.one)
-  pub enters : line.enters ≡ count_by (λ item. is_enter item.instr) w.items
+  pub news : line.news ≡ site_news (items_of r.classes r.links w.one)
+  pub enters : line.enters ≡ enters_in w.items
   pub bytes : line.bytes ≡ length w.part.code
 
 pub record IsLineOf (r : Rewriting) (at : MethodAt) (line : Line) : Type 0 where

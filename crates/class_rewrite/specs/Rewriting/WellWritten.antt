@@ -1,49 +1,22 @@
 -- What is asked of a written folder, beside what it is by its definition, so that it runs as the folder. It is this project's profile.
-use Rattle.std.specs.Prelude.{◌≡◌, ◌≢◌, ℕ, List, slice_get, Some}
+use Rattle.std.specs.Prelude.{◌≡◌, ℕ, List, slice_get, Some}
 use Rattle.class_model.specs.Header.{header_of}
-use Rattle.class_model.specs.Pool.{Constants, constant_at}
 use Rattle.class_model.specs.declared.class_file.ClassFile.{ClassFile}
 use Rattle.class_model.specs.declared.class_file.Method.{Method}
 use Rattle.class_model.specs.declared.class_file.MethodAt.{MethodAt}
-use Rattle.class_model.specs.declared.instr.Instr.{Instr}
-use Rattle.class_model.specs.declared.instr.Instr.TheVariants.{Dynamic, Ldc}
 use Rattle.class_rewrite.specs.Optimised.{with_folder}
 use Rattle.class_rewrite.specs.Rewriting.Folders.{IsClassWritten, IsFolderWritten, IsRewrittenAt}
 use Rattle.class_rewrite.specs.Rewriting.Methods.{Rewriting, Rewritten}
-use Rattle.class_tree.specs.Headers.{Classes, headers_of}
+use Rattle.class_tree.specs.Headers.{headers_of}
 use Rattle.code_layout.specs.Emitting.{IsEmitted}
-use Rattle.expanded_code.specs.Callees.{IsNoHandle}
-use Rattle.flow_code.specs.FlatCode.{FlatCode}
-use Rattle.flow_code.specs.declared.point.FlatInstr.TheVariants.{Of}
-use Rattle.flow_code.specs.declared.point.Point.{Point}
 use Rattle.making_code.specs.ConstructorCode.{IsConstructorMethod}
 use Rattle.member_link.specs.Machine.Classes.{run_method_of}
 use Rattle.plan_flow.specs.Written.WrittenPrograms.{constructor_method}
 
--- an instruction of another class may stand in the host's code: a call site, a method handle and a method type stay in their class
-abbrev pub IsCarriable : Constants → Instr → Type 0
-IsCarriable pool (Dynamic index) = ⊥
-IsCarriable pool (Ldc index) = IsNoHandle (constant_at pool index)
-IsCarriable pool instr = Unit {0}
-
--- the instructions of other classes in a flat code may
-abbrev pub CarriesConstants : Classes → FlatCode → Type 0
-CarriesConstants classes flat =
-    (at : ℕ) (point : Point) (class : ℕ) (instr : Instr) (file : ClassFile)
-    → slice_get flat.points at ≡ Some point
-    → point.instr ≡ Of class instr
-    → slice_get classes.folder class ≡ Some file
-    → class ≢ flat.host.class
-    → IsCarriable file.pool instr
-
--- The items of rewritten methods are emitted code, their flat codes carry what may be carried, and the code of field constructors is that of their
--- instructions.
+-- The items of rewritten methods are emitted code, and the code of field constructors is that of their instructions.
 pub record IsWellWritten (r : Rewriting) (files : List ClassFile) (w : IsFolderWritten r files)
     : Type 0 where
   pub emitted : (at : MethodAt) (v : Rewritten) → IsRewrittenAt r at v → IsEmitted v.items
-  pub carries : (at : MethodAt) (v : Rewritten)
-      → IsRewrittenAt r at v
-      → CarriesConstants r.classes v.one.flat
   pub constructors : (class : ℕ) (file also : ClassFile) (method : Method)
       → slice_get r.classes.folder class ≡ Some file
       → IsClassWritten r w.written w.s class file also

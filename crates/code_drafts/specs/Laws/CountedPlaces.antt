@@ -6,7 +6,8 @@ use Rattle.class_model.specs.PoolChecks.{class_at}
 use Rattle.class_model.specs.declared.instr.Instr.{Instr}
 use Rattle.class_model.specs.declared.instr.Instr.TheVariants.{Nop, Const, Ldc, Ldc2, Load, Store, Iinc, ArrayLoad, ArrayStore, Shuffle, Pure, Divide, FloatAsk, If, If2, IfSame, IfNull, Goto, Table, Lookup, Return, GetStatic, PutStatic, GetField, PutField, Invoke, Dynamic, New, NewArray, NewRefArray, NewMulti, Length, Throw, Cast, InstanceOf, Enter, Leave}
 use Rattle.class_tree.specs.Headers.{Name}
-use Rattle.code_drafts.specs.ItemPlaces.{Naming, enters, enters_in, enters_of, is_enter, item_places, makes_one, makes_site, new_of, objects_of, places_in, site_news, site_places_of}
+use Rattle.code_drafts.specs.ItemPlaces.{Naming, enters, enters_of, item_places, makes_one, new_of, objects_of, places_in, site_places_of}
+use Rattle.making_code.specs.CountedItems.{enters_in, is_enter, makes_site, site_news}
 use Rattle.code_drafts.specs.Laws.PlacedBlocks.{placed_by}
 use Rattle.code_drafts.specs.Laws.ReachedStarts.{finished}
 use Rattle.code_drafts.specs.Laws.WrittenPlaces.{carried_places, plain_places, winstr_places, witem_places}

@@ -1,5 +1,5 @@
 -- Items that are written, part by part, with the constants that they need.
-use Rattle.std.proofs.Common.{◌≡◌, ◌++◌, ℕ, List, [], ◌∷◌, Bool, Result, Ok, Err, OnOk, IfOk, option_and_then, refl, sym, ap, subst, ◌∙◌, append_assoc, append-nil}
+use Rattle.std.proofs.Common.{◌≡◌, ◌++◌, ℕ, List, [], ◌∷◌, Bool, Result, Ok, Err, IfOk, sym, ap, subst, ◌∙◌, append_assoc, append-nil}
 use Rattle.std.specs.List.{flat_map}
 use Rattle.std.proofs.lemmas.Grind.{flat_map-append}
 use Rattle.class_model.specs.Pool.{Constants, entries_of}
@@ -13,68 +13,14 @@ use Rattle.flow_code.specs.FlatCode.{FlatCode}
 use Rattle.flow_code.specs.declared.reason.Reason.{Reason}
 use Rattle.making_code.specs.Constants.{Need, grow}
 use Rattle.making_code.specs.Items.{WItem}
-use Rattle.making_code.specs.Laws.GrownPools.{grow_both}
 use Rattle.materialise.specs.Growing.{Grows, IsFull}
+use Rattle.materialise.specs.Laws.GrownEdits.{full_first, full_then, grown_more, grows_both, grows_none}
 use Rattle.member_link.specs.Machine.Programs.{Links}
 use Rattle.plan_flow.specs.PlanScope.{PlanScope, scope_of}
 use Rattle.plan_flow.specs.Written.WrittenConstants.{code_needs, item_needs}
 use Rattle.pool_edit.specs.Edits.{Continues, Edit, grown}
 
 -- ---- pools that grow
-
-pub grown_more : (old new : Edit) (so_far : Continues old new) → grown new ≡ grown old ++ flat_map entries_of so_far.more
-grown_more old new so_far =
-    ap (λ (base : Constants). base ++ flat_map entries_of new.added) so_far.base
-    ∙ ap (λ (constants : List Const). old.base ++ flat_map entries_of constants) so_far.added
-    ∙ ap (λ (entries : Constants). old.base ++ entries) (flat_map-append entries_of old.added so_far.more)
-    ∙ sym (append_assoc old.base (flat_map entries_of old.added) (flat_map entries_of so_far.more))
-
-pub continues_itself : (edit : Edit) → Continues edit edit
-continues_itself edit = record { base = refl; limit = refl; more = []; added = sym (append-nil edit.added) }
-
-pub continues_both : (first middle last : Edit) → Continues first middle → Continues middle last → Continues first last
-continues_both first middle last one other = record {
-  base = other.base ∙ one.base;
-  limit = other.limit ∙ one.limit;
-  more = one.more ++ other.more;
-  added = other.added ∙ ap (λ (constants : List Const). constants ++ other.more) one.added ∙ append_assoc first.added one.more other.more;
-}
-
-pub grows_none : (edit : Edit) → Grows edit [] edit
-grows_none edit = record { base = refl; limit = refl; grown_by = refl }
-
-pub grows_both : (first middle last : Edit) (front back : List Need) → Grows first front middle → Grows middle back last
-    → Grows first (front ++ back) last
-grows_both first middle last front back one other = record {
-  base = other.base ∙ one.base;
-  limit = other.limit ∙ one.limit;
-  grown_by =
-      grow_both first.limit (grown first) front back
-      ∙ ap (option_and_then (λ (more : Constants). grow first.limit more back)) one.grown_by
-      ∙ ap (λ (limit : ℕ). grow limit (grown middle) back) (sym one.limit)
-      ∙ other.grown_by;
-}
-
-pub full_first : (edit : Edit) (front back : List Need) (reason : Reason) → IsFull edit front reason → IsFull edit (front ++ back) reason
-full_first edit front back reason full = record {
-  is = full.is;
-  past =
-      grow_both edit.limit (grown edit) front back
-      ∙ ap (option_and_then (λ (more : Constants). grow edit.limit more back)) full.past;
-}
-
-pub full_then : (first middle : Edit) (front back : List Need) (reason : Reason)
-    → Grows first front middle
-    → IsFull middle back reason
-    → IsFull first (front ++ back) reason
-full_then first middle front back reason one full = record {
-  is = full.is;
-  past =
-      grow_both first.limit (grown first) front back
-      ∙ ap (option_and_then (λ (more : Constants). grow first.limit more back)) one.grown_by
-      ∙ ap (λ (limit : ℕ). grow limit (grown middle) back) (sym one.limit)
-      ∙ full.past;
-}
 
 -- what items are kept as stays what it is while the pool grows
 pub kept_later : (s : PlanScope) (constructor : Name → List ℕ) (old new : Edit) (items : List WItem) (is_long : Bool) (drafts : List DraftItem)
@@ -176,10 +122,6 @@ module _ (classes : Classes) (links : Links) (flat : FlatCode) (constructor : Na
       (puts_emit classes links flat constructor old front before middle puts) full
 
 -- ---- answers
-
-pub on_ok : {A E P Q : Type 0} (result : Result A E) → (P → Q) → OnOk result P → OnOk result Q
-on_ok (Ok value) more holds = more holds
-on_ok (Err fault) more holds = tt
 
 pub if_ok : {A E : Type 0} {P Q : A → Type 0} (result : Result A E) → ((value : A) → P value → Q value) → IfOk result P → IfOk result Q
 if_ok (Ok value) more holds = more value holds

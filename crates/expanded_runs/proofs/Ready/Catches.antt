@@ -20,21 +20,20 @@ use Rattle.expanded_runs.proofs.Runs.Standings.{IsStanding, Stands, callee_stand
 use Rattle.expanded_runs.proofs.TypedAloneNumbers.{frame_found}
 use Rattle.expanded_runs.proofs.Types.Edges.{set_unit}
 use Rattle.expanded_runs.proofs.Types.FrameFacts.{FrameFacts, frame_fits, has_room, own_long}
-use Rattle.expanded_runs.proofs.Types.Handlers.{all_caught, callee_before}
-use Rattle.expanded_runs.proofs.Types.OwnPoints.{TypingLaws, edges_at, instr_there, one_frame, own_headers}
+use Rattle.expanded_runs.proofs.Types.Handlers.{callee_before, host_caught}
+use Rattle.expanded_runs.proofs.Types.OwnPoints.{TypingLaws, instr_there, own_headers}
 use Rattle.expanded_runs.proofs.Types.Starts.{start_typed}
 use Rattle.expanded_runs.proofs.Types.Units.{get_inside, inside, outside, where_is}
 use Rattle.flow_code.specs.ReadTypes.{is_site_object}
 use Rattle.flow_code.specs.TypedFrames.{FolderFrames}
 use Rattle.flow_code.specs.declared.handlers.FlatHandler.{FlatHandler}
-use Rattle.member_link.specs.Bodies.{BodyCatch, catch_frame, caught_type}
-use Rattle.member_link.specs.BodyTyping.{GoesInto, GoesToStated}
+use Rattle.member_link.specs.Bodies.{catch_frame, caught_type}
+use Rattle.member_link.specs.BodyTyping.{GoesInto}
 use Rattle.member_link.specs.Rows.FrameAssignability.{IsFrameAssignable}
 use Rattle.member_link.specs.Rows.Operands.{IsUninitialised}
 use Rattle.member_link.specs.Scope.{Scope, instructions}
 use Rattle.same_runs.specs.FlatBodies.{caught_class}
-use Rattle.type_rules.specs.Handlers.{catches_at}
-use Rattle.type_rules.specs.MethodBodies.{body_of, point_of}
+use Rattle.type_rules.specs.MethodBodies.{body_of}
 use Rattle.type_rules.specs.Verified.{TypesFolder}
 
 caught_known : (class : Option Name) (n : ℕ) (type : VType) → slice_get (caught_type class ∷ []) n ≡ Some type → IsUninitialised type → ⊥
@@ -119,17 +118,8 @@ module _ (laws : TypingLaws) {classes : Classes} {typed : FolderFrames} (folder 
 
     host_catches : AllByRecursion (λ (handler : FlatHandler). Catches (set_frame t frame).locals handler.to) (t.handlers placed.at)
     host_catches =
-        all_caught host.scope t.number placed.at
-        (λ class to. GoesInto (body_of host.scope) host.frames (Some (catch_frame frame class)) to)
-        (λ (handler : FlatHandler). Catches (set_frame t frame).locals handler.to) one_catches host.scope.part.handlers
-        (subst (λ (f : Frame). AllByRecursion (λ (catch : BodyCatch). GoesInto (body_of host.scope) host.frames (Some (catch_frame f catch.class)) catch.to)
-        (catches_at host.scope placed.at host.scope.part.handlers)) frame_same edges.handlers)
-      where
-        edges : GoesToStated (body_of host.scope) host.frames (point_of host.scope placed)
-        edges = edges_at laws folder facts host e stands s headers host_stands k placed frame is has
-
-        frame_same : edges.frame ≡ frame
-        frame_same = one_frame laws folder facts host e stands s headers host_stands k placed frame is has edges.frame edges.is_at
+        host_caught laws folder facts host e stands s headers k placed frame is has
+        (λ (handler : FlatHandler). Catches (set_frame t frame).locals handler.to) one_catches
 
   -- ---- of each
 

@@ -10,7 +10,7 @@ use Rattle.expanded_code.specs.Expansions.{Coded, Expansion, no_more, replaced, 
 use Rattle.expanded_runs.proofs.Runs.PositionLaws.{Fits, fits_none, fits_replaced, fits_site, fits_stays}
 use Rattle.expanded_runs.proofs.Runs.Positions.{IsReplacedAt, Standing, becomes, host_standing, inner_standing, instrs_of, makes_site, start_of}
 use Rattle.expanded_runs.proofs.Runs.Standings.{IsStanding, callee_stands, host_stands}
-use Rattle.expanded_runs.proofs.Types.FlatParts.{IsTail, first_becomes, first_has, first_is, next_number, next_tail, slice_either}
+use Rattle.expanded_runs.proofs.Types.FlatParts.{IsTail, first_becomes, first_is, next_number, next_tail, replaced_there, slice_either, whole_tail}
 use Rattle.expanded_runs.proofs.Types.InstrStarts.{own_least}
 use Rattle.flow_code.specs.declared.point.Site.{Site}
 use Rattle.member_link.specs.FieldConstructors.{field_types}
@@ -140,22 +140,14 @@ module _ (host : Coded) (e : Expansion) where
       one is
       =
       let step : (k : ℕ) → becomes (replaced g inner more) (suc k) ≡ becomes more k = λ k. refl in
-      let here : IsReplacedAt p done placed frame g inner = record {
-        is = first_is p done placed frame instrs frames (replaced g inner more) more tail step;
-        has_frame = first_has p done placed frame instrs frames (replaced g inner more) more tail step;
-        becomes = first_becomes p done placed frame instrs frames (replaced g inner more) more tail step;
-      } in
+      let here : IsReplacedAt p done placed frame g inner = replaced_there p done placed frame instrs frames g inner more tail in
       let first = start_of p done + points_before g.scope in
       let own = sites_from headers (Some g.scope) first (instructions g.scope) inner in
       let rest = sites_from headers (callee_of p.setting) (start_of p done + points_of_callee g inner) instrs more in
       elim (slice_either own rest n one is) [
         | inl front ↦
             made_from (g.at ∷ chain) (inner_standing p done placed frame g inner) (callee_stands done placed frame g inner standing here) 0 within
-            (record {
-              is = λ k. ap (slice_get (instructions g.scope)) (omega arith);
-              has = λ k. ap (slice_get g.frames) (omega arith);
-              becomes_is = λ k. ap (becomes inner) (omega arith);
-            }) n one front
+            (whole_tail (inner_standing p done placed frame g inner)) n one front
         | inr back ↦
             made_from chain p standing (suc done) fits
             (next_tail p done placed frame instrs frames (replaced g inner more) more tail step) back.behind one
@@ -167,8 +159,4 @@ module _ (host : Coded) (e : Expansion) where
       → slice_get (expanded host e).sites n ≡ Some one
       → SiteMade host e one
   site_made fits n one is =
-      made_from [] (host_standing host e) host_stands 0 fits (record {
-        is = λ k. ap (slice_get (instructions host.scope)) (omega arith);
-        has = λ k. ap (slice_get host.frames) (omega arith);
-        becomes_is = λ k. ap (becomes e) (omega arith);
-      }) n one is
+      made_from [] (host_standing host e) host_stands 0 fits (whole_tail (host_standing host e)) n one is

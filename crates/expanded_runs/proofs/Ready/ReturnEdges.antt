@@ -28,18 +28,17 @@ use Rattle.expanded_runs.proofs.Ready.Catches.{frame_there, handlers_kept}
 use Rattle.expanded_runs.proofs.Ready.Comes.{CatchKept, FrameThere, GoesKept, KeepsTo, SameSites, edges_kept, moving_to, set_site, top_no_site}
 use Rattle.expanded_runs.proofs.Ready.PlainRows.{HoldsRow, call_holds, results_known}
 use Rattle.expanded_runs.proofs.Ready.RowKeeps.{NotNew, local_outside, local_set, new_before, stack_back, went}
-use Rattle.expanded_runs.proofs.Runs.PositionLaws.{block_least, length_arguments, part_stands, points_at, slice_left, slice_right}
-use Rattle.expanded_runs.proofs.Runs.Positions.{Becomes, IsReplacedAt, Standing, becomes, block_of, frames_of, inner_setting, inner_standing, instrs_of, scope_of, start_of}
+use Rattle.expanded_runs.proofs.Runs.PositionLaws.{block_least, length_arguments, part_stands, slice_left, slice_right}
+use Rattle.expanded_runs.proofs.Runs.Positions.{IsReplacedAt, Standing, becomes, block_of, frames_of, inner_setting, inner_standing, instrs_of, scope_of, start_of}
 use Rattle.expanded_runs.proofs.Runs.Standings.{IsStanding, Stands, callee_stands, host_stands}
 use Rattle.expanded_runs.proofs.Types.CallFacts.{CallFacts, Returned, returned}
 use Rattle.expanded_runs.proofs.Types.Edges.{set_unit}
-use Rattle.expanded_runs.proofs.Types.FlatParts.{IsOwn, own_remains, own_site, slice_either}
-use Rattle.expanded_runs.proofs.Types.FlatTyped.{returns_some}
+use Rattle.expanded_runs.proofs.Types.FlatParts.{IsOwn, slice_either}
 use Rattle.expanded_runs.proofs.Types.FrameFacts.{FrameFacts, frame_fits, own_long, tops_behind}
 use Rattle.expanded_runs.proofs.Types.OwnPoints.{TypingLaws, row_at}
 use Rattle.expanded_runs.proofs.Types.ReturnFrames.{BehindCall, behind_call, under_set}
 use Rattle.expanded_runs.proofs.Types.ReturnPoints.{return_points_hold}
-use Rattle.expanded_runs.proofs.Types.Returns.{behind_is, callee_there}
+use Rattle.expanded_runs.proofs.Types.Returns.{behind_is, callee_there, return_there}
 use Rattle.expanded_runs.proofs.Types.ThroughClass.{ArrayInterfaces}
 use Rattle.expanded_runs.proofs.Types.Units.{get_front, get_inside, get_take, inside, le_cases, outside, where_is}
 use Rattle.flow_code.specs.FlatCode.{FlatCode, point_at}
@@ -361,15 +360,7 @@ module _ (laws : TypingLaws) {classes : Classes} {typed : FolderFrames} (folder 
       (λ m less. refl) in
       let part = part_stands (expanded host e).points q.setting q.first q.block st.fits k placed frame is has st.points in
       return_points_hold (expanded host e) q.setting placed.at frame behind (start_of q k)
-      (λ m one one_is. part m one (by (becomes q.expansion k) own q b m one one_is)) Along
+      (λ m one one_is. part m one (return_there q k placed frame behind kind b i (becomes q.expansion k) own m one one_is)) Along
       (λ m at_m. goto_along q.setting placed.at frame behind goes handlers m)
       (int_along q.setting placed.at frame behind goes handlers) (one_along q.setting placed.at frame behind goes handlers)
       (and_along q.setting placed.at frame behind goes handlers) gives n point there
-    where
-      by : (x : Becomes) → IsOwn x → (q : Standing) → q.setting.behind ≡ Some behind → (m : ℕ) (one : Point)
-          → slice_get (return_points q.setting placed.at (set_frame q.setting frame) behind) m ≡ Some one
-          → slice_get (points_at q.setting (start_of q k) (block_of q k) placed frame x) m ≡ Some one
-      by _ own_remains q is_behind m one one_is =
-          subst (λ (points : List Point). slice_get points m ≡ Some one) (sym (returns_some q.setting placed frame behind kind is_behind i)) one_is
-      by _ own_site q is_behind m one one_is =
-          subst (λ (points : List Point). slice_get points m ≡ Some one) (sym (returns_some q.setting placed frame behind kind is_behind i)) one_is

@@ -131,6 +131,25 @@ module _ (p : Standing) (done : ℕ) (placed : Placed) (frame : Frame) (instrs :
         subst (λ (points : List Point). slice_get points there.behind ≡ Some point) same there.there,
       )
 
+-- all of a method
+pub whole_tail : (p : Standing) → IsTail p 0 (instrs_of p) (frames_of p) p.expansion
+whole_tail p = record {
+  is = λ k. ap (slice_get (instrs_of p)) (omega arith);
+  has = λ k. ap (slice_get (frames_of p)) (omega arith);
+  becomes_is = λ k. ap (becomes p.expansion) (omega arith);
+}
+
+-- a callee that stands in the place of the first
+pub replaced_there : (p : Standing) (done : ℕ) (placed : Placed) (frame : Frame) (instrs : List Placed) (frames : List Frame) (g : Coded)
+    (inner more : Expansion)
+    → IsTail p done (placed ∷ instrs) (frame ∷ frames) (replaced g inner more)
+    → IsReplacedAt p done placed frame g inner
+replaced_there p done placed frame instrs frames g inner more tail = record {
+  is = first_is p done placed frame instrs frames (replaced g inner more) more tail (λ k. refl);
+  has_frame = first_has p done placed frame instrs frames (replaced g inner more) more tail (λ k. refl);
+  becomes = first_becomes p done placed frame instrs frames (replaced g inner more) more tail (λ k. refl);
+}
+
 module _ (host : Coded) (e : Expansion) where
   own_there : {chain : List MethodAt} (p : Standing) → IsStanding host e chain p → (k : ℕ) (placed : Placed) (frame : Frame)
       → slice_get (instrs_of p) k ≡ Some placed
@@ -206,11 +225,7 @@ module _ (host : Coded) (e : Expansion) where
       =
       let t = p.setting in
       let step : (k : ℕ) → becomes (replaced g inner more) (suc k) ≡ becomes more k = λ k. refl in
-      let here : IsReplacedAt p done placed frame g inner = record {
-        is = first_is p done placed frame instrs frames (replaced g inner more) more tail step;
-        has_frame = first_has p done placed frame instrs frames (replaced g inner more) more tail step;
-        becomes = first_becomes p done placed frame instrs frames (replaced g inner more) more tail step;
-      } in
+      let here : IsReplacedAt p done placed frame g inner = replaced_there p done placed frame instrs frames g inner more tail in
       let own = inner_setting p done placed frame g inner in
       let entry = points_of_entry t placed.at (set_frame t frame) g.scope (block_of p done) in
       let first = start_of p done + points_before g.scope in
@@ -239,11 +254,7 @@ module _ (host : Coded) (e : Expansion) where
               omega (arith, inside.number_is, before) in
               subst (λ (m : ℕ). Part host e m point) (sym same)
               (parts_from (g.at ∷ chain) (inner_standing p done placed frame g inner) (callee_stands done placed frame g inner standing here) 0
-              within (record {
-                is = λ k. ap (slice_get (instructions g.scope)) (omega arith);
-                has = λ k. ap (slice_get g.frames) (omega arith);
-                becomes_is = λ k. ap (becomes inner) (omega arith);
-              }) inside.behind point
+              within (whole_tail (inner_standing p done placed frame g inner)) inside.behind point
               inside.there)
         ]
         | inr back ↦
@@ -270,8 +281,4 @@ module _ (host : Coded) (e : Expansion) where
   part_of fits number point is =
       let here : 0 + number ≡ number = omega arith in
       subst (λ (m : ℕ). Part host e m point) here
-      (parts_from [] (host_standing host e) host_stands 0 fits (record {
-        is = λ k. ap (slice_get (instructions host.scope)) (omega arith);
-        has = λ k. ap (slice_get host.frames) (omega arith);
-        becomes_is = λ k. ap (becomes e) (omega arith);
-      }) number point is)
+      (parts_from [] (host_standing host e) host_stands 0 fits (whole_tail (host_standing host e)) number point is)

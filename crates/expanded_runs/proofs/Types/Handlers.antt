@@ -153,6 +153,26 @@ module _ (laws : TypingLaws) {classes : Classes} {typed : FolderFrames} (folder 
 
   -- ---- of the host
 
+  -- what holds of the place of each handler that catches holds of each handler around an instruction
+  pub host_caught : (k : ℕ) (placed : Placed) (frame : Frame) → slice_get (instrs_of (host_standing host e)) k ≡ Some placed
+      → slice_get (frames_of (host_standing host e)) k ≡ Some frame
+      → (May : FlatHandler → Type 0)
+      → ((class : Option Name) (to : ℕ)
+      → GoesInto (body_of host.scope) host.frames (Some (catch_frame frame (caught_class class))) to
+      → May (record { to = (host_standing host e).setting.number to; catch_class = class }))
+      → AllByRecursion May ((host_standing host e).setting.handlers placed.at)
+  host_caught k placed frame is has May may =
+      all_caught host.scope (host_standing host e).setting.number placed.at
+      (λ class to. GoesInto (body_of host.scope) host.frames (Some (catch_frame frame class)) to) May may host.scope.part.handlers
+      (subst (λ (f : Frame). AllByRecursion (λ (catch : BodyCatch). GoesInto (body_of host.scope) host.frames (Some (catch_frame f catch.class)) catch.to)
+      (catches_at host.scope placed.at host.scope.part.handlers)) frame_same edges.handlers)
+    where
+      edges : GoesToStated (body_of host.scope) host.frames (point_of host.scope placed)
+      edges = edges_at laws folder facts host e stands s headers host_stands k placed frame is has
+
+      frame_same : edges.frame ≡ frame
+      frame_same = one_frame laws folder facts host e stands s headers host_stands k placed frame is has edges.frame edges.is_at
+
   module _ (k : ℕ) (placed : Placed) (frame : Frame) (is : slice_get (instrs_of (host_standing host e)) k ≡ Some placed)
       (has : slice_get (frames_of (host_standing host e)) k ≡ Some frame) where
     abbrev t : Setting
@@ -196,18 +216,7 @@ module _ (laws : TypingLaws) {classes : Classes} {typed : FolderFrames} (folder 
           (tops_behind facts host e stands host_stands n to at)
 
     host_catches : AllByRecursion (Catches (set_frame t frame).locals) (t.handlers placed.at)
-    host_catches =
-        all_caught host.scope t.number placed.at
-        (λ class to. GoesInto (body_of host.scope) host.frames (Some (catch_frame frame class)) to)
-        (Catches (set_frame t frame).locals) one_goes host.scope.part.handlers
-        (subst (λ (f : Frame). AllByRecursion (λ (catch : BodyCatch). GoesInto (body_of host.scope) host.frames (Some (catch_frame f catch.class)) catch.to)
-        (catches_at host.scope placed.at host.scope.part.handlers)) frame_same edges.handlers)
-      where
-        edges : GoesToStated (body_of host.scope) host.frames (point_of host.scope placed)
-        edges = edges_at laws folder facts host e stands s headers host_stands k placed frame is has
-
-        frame_same : edges.frame ≡ frame
-        frame_same = one_frame laws folder facts host e stands s headers host_stands k placed frame is has edges.frame edges.is_at
+    host_catches = host_caught k placed frame is has (Catches (set_frame t frame).locals) one_goes
 
   -- ---- of each
 

@@ -38,6 +38,18 @@ use Rattle.member_link.specs.Scope.{Scope, own_descriptor, row_scope}
 use Rattle.member_link.specs.Signatures.{result_of}
 use Rattle.type_rules.specs.Verified.{TypesFolder}
 
+-- a point of a return of a callee is one of its instruction
+pub return_there : (q : Standing) (k : ℕ) (placed : Placed) (frame : Frame) (behind : ℕ) (kind : Option Kind)
+    → q.setting.behind ≡ Some behind
+    → placed.instr ≡ Return kind
+    → (x : Becomes) → IsOwn x
+    → (m : ℕ) (one : Point) → slice_get (return_points q.setting placed.at (set_frame q.setting frame) behind) m ≡ Some one
+    → slice_get (points_at q.setting (start_of q k) (block_of q k) placed frame x) m ≡ Some one
+return_there q k placed frame behind kind is_behind i _ own_remains m one one_is =
+    subst (λ (points : List Point). slice_get points m ≡ Some one) (sym (returns_some q.setting placed frame behind kind is_behind i)) one_is
+return_there q k placed frame behind kind is_behind i _ own_site m one one_is =
+    subst (λ (points : List Point). slice_get points m ≡ Some one) (sym (returns_some q.setting placed frame behind kind is_behind i)) one_is
+
 module _ (laws : TypingLaws) {classes : Classes} {typed : FolderFrames} (folder : TypesFolder classes typed) (facts : FrameFacts classes typed)
     (host : Coded) (e : Expansion) (stands : (chain : List MethodAt) (p : Standing) → IsStanding host e chain p → Stands classes typed host e chain p)
     (s : Scope) (headers : s.headers ≡ headers_of classes)
@@ -101,12 +113,4 @@ module _ (laws : TypingLaws) {classes : Classes} {typed : FolderFrames} (folder 
       let handlers = handlers_typed laws folder facts host e stands s headers this_known inside k placed frame is has (set_frame q.setting frame).locals
       (same_itself laws folder facts host e stands s headers this_known inside k frame has) in
       return_points_typed classes s (expanded host e) q.setting placed.at frame behind (start_of q k)
-      (λ m one one_is. part m one (by (becomes q.expansion k) own q b m one one_is)) goes handlers gives n point there
-    where
-      by : (x : Becomes) → IsOwn x → (q : Standing) → q.setting.behind ≡ Some behind → (m : ℕ) (one : Point)
-          → slice_get (return_points q.setting placed.at (set_frame q.setting frame) behind) m ≡ Some one
-          → slice_get (points_at q.setting (start_of q k) (block_of q k) placed frame x) m ≡ Some one
-      by _ own_remains q is_behind m one one_is =
-          subst (λ (points : List Point). slice_get points m ≡ Some one) (sym (returns_some q.setting placed frame behind kind is_behind i)) one_is
-      by _ own_site q is_behind m one one_is =
-          subst (λ (points : List Point). slice_get points m ≡ Some one) (sym (returns_some q.setting placed frame behind kind is_behind i)) one_is
+      (λ m one one_is. part m one (return_there q k placed frame behind kind b i (becomes q.expansion k) own m one one_is)) goes handlers gives n point there

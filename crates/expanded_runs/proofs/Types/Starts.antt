@@ -14,12 +14,12 @@ use Rattle.class_model.specs.declared.instr.Instr.TheVariants.{Goto, Return}
 use Rattle.class_model.specs.declared.instr.Placed.{Placed}
 use Rattle.class_tree.specs.Headers.{Classes}
 use Rattle.expanded_code.specs.Expanded.{Argument, Narrowing, Setting, arguments, arguments_from, expanded, frame_behind_stores, instr_points, narrowing, own_narrowing, point_in, points_from, points_of_entry, return_points, set_frame, set_instr, set_type, store_points, test_points, tests_receiver}
-use Rattle.expanded_code.specs.Expansions.{Coded, Expansion, replaced}
+use Rattle.expanded_code.specs.Expansions.{Coded, Expansion}
 use Rattle.expanded_runs.proofs.Runs.PositionLaws.{Fits, fits_none, fits_replaced, fits_site, fits_stays, length_fits, part_stands, points_at, slice_left}
 use Rattle.expanded_runs.proofs.Runs.Positions.{Becomes, IsReplacedAt, Standing, becomes, block_of, frames_of, inner_setting, inner_standing, instrs_of, is_replaced, start_of}
 use Rattle.expanded_runs.proofs.Runs.StandingLaws.{BecomesAs, becomes_as, it_is_replaced, it_makes_site, it_remains}
 use Rattle.expanded_runs.proofs.Runs.Standings.{IsStanding, Stands, callee_stands}
-use Rattle.expanded_runs.proofs.Types.FlatParts.{IsTail, first_becomes, first_has, first_is}
+use Rattle.expanded_runs.proofs.Types.FlatParts.{IsTail, replaced_there, whole_tail}
 use Rattle.expanded_runs.proofs.Types.FrameFacts.{FrameFacts, frame_fits, has_room, nothing_entered, tops_reached}
 use Rattle.expanded_runs.proofs.Types.Units.{TopsFrom, item_there, tops_over}
 use Rattle.flow_code.specs.TypedFrames.{FolderFrames}
@@ -208,20 +208,11 @@ module _ {classes : Classes} {typed : FolderFrames} (facts : FrameFacts classes 
   first_typed chain p standing (fits_replaced {instrs = instrs} {frames = frames} {inner = inner} {more = more} placed frame g start starts within fits) tail first
       is
       =
-      let step : (k : ℕ) → becomes (replaced g inner more) (suc k) ≡ becomes more k = λ k. refl in
-      let here : IsReplacedAt p 0 placed frame g inner = record {
-        is = first_is p 0 placed frame instrs frames (replaced g inner more) more tail step;
-        has_frame = first_has p 0 placed frame instrs frames (replaced g inner more) more tail step;
-        becomes = first_becomes p 0 placed frame instrs frames (replaced g inner more) more tail step;
-      } in
+      let here : IsReplacedAt p 0 placed frame g inner = replaced_there p 0 placed frame instrs frames g inner more tail in
       let inside = callee_stands 0 placed frame g inner standing here in
       let entry = points_of_entry p.setting placed.at (set_frame p.setting frame) g.scope (block_of p 0) in
       let own = first_of_callee (g.at ∷ chain) (inner_standing p 0 placed frame g inner) within starts
-      (first_typed (g.at ∷ chain) (inner_standing p 0 placed frame g inner) inside within (record {
-        is = λ k. ap (slice_get (instructions g.scope)) (omega arith);
-        has = λ k. ap (slice_get g.frames) (omega arith);
-        becomes_is = λ k. ap (becomes inner) (omega arith);
-      })) in
+      (first_typed (g.at ∷ chain) (inner_standing p 0 placed frame g inner) inside within (whole_tail (inner_standing p 0 placed frame g inner))) in
       as_typed (first_left _ _ (joined entry _ (entry_of p.setting placed.at (set_frame p.setting frame) g.scope (block_of p 0))
       (λ none. as_typed own.2 (bare_begins p 0 placed frame g inner inside none own.0 own.1))))
       (ap (set_frame p.setting) (same_Some frame first is))
@@ -258,11 +249,7 @@ module _ {classes : Classes} {typed : FolderFrames} (facts : FrameFacts classes 
       joined _ _ (entry_of p.setting placed.at (set_frame p.setting frame) g.scope (block_of p k)) (λ none.
       let start = callee_starts (stands _ p standing).fits k there in
       let found = first_there g inner fits start.0 start.1 in
-      as_typed (first_typed _ (inner_standing p k placed frame g inner) inside fits (record {
-        is = λ n. ap (slice_get (instructions g.scope)) (omega arith);
-        has = λ n. ap (slice_get g.frames) (omega arith);
-        becomes_is = λ n. ap (becomes inner) (omega arith);
-      }) found.0 found.1) (bare_begins p k placed frame g inner inside none found.0 found.1))
+      as_typed (first_typed _ (inner_standing p k placed frame g inner) inside fits (whole_tail (inner_standing p k placed frame g inner)) found.0 found.1) (bare_begins p k placed frame g inner inside none found.0 found.1))
 
   -- The typed frame there.
   pub start_typed : {chain : List MethodAt} {p : Standing} → IsStanding host e chain p → (k : ℕ) (placed : Placed) (frame : Frame)

@@ -4,16 +4,13 @@ use Rattle.std.specs.List.{filter, list_any}
 use Rattle.std.proofs.lemmas.Bool.{cases_Bool, or_cases, or_left, or_right, and_from, eq-eqb, eqb-true, not_from_false, false≢true, leb-false, leb-true}
 use Rattle.std.proofs.lemmas.List.Elements.{filter_agree}
 use Rattle.std.proofs.lemmas.Map.Views.{any-filter_same}
-use Rattle.making_code.specs.MakeOrder.{IsMakeOrder, all_made, names_one, one_next}
+use Rattle.making_code.specs.MakeOrder.{IsMakeOrder, all_made, left_of, names_one, one_next}
 use Rattle.virtual_state.specs.Sites.{has}
 use Rattle.virtual_state.specs.States.{IsEdge, IsPath, edge_and_path, names, object_of, one_edge}
 use Rattle.virtual_state.specs.declared.slot.Slot.{Slot}
 use Rattle.virtual_state.specs.declared.slot.VObject.{VObject}
 
 -- ---- sites that are left
-
-abbrev pub left_of : List ℕ → List ℕ → List ℕ
-left_of sites made = filter (λ site. not (has made site)) sites
 
 pub has_left : (sites made : List ℕ) (site : ℕ)
     → has (left_of sites made) site ≡ (not (has made site) && has sites site)
@@ -25,7 +22,7 @@ pub left_is : (sites made : List ℕ) (site : ℕ) → IsTrue (has sites site) �
 left_is sites made site there unmade = has_left sites made site
     ∙ and_from (not (has made site)) (has sites site) (not_from_false (has made site) unmade) there
 
-abbrev other_than : ℕ → ℕ → Bool
+abbrev pub other_than : ℕ → ℕ → Bool
 other_than site other = not (other == site)
 
 filtered_twice : (p q : ℕ → Bool) (sites : List ℕ) → filter p (filter q sites) ≡ filter (λ site. q site && p site) sites
@@ -41,7 +38,7 @@ negated : (a b : Bool) → not (a || b) ≡ (not a && not b)
 negated true b = refl
 negated false b = refl
 
-same_back : (one other : ℕ) → (one == other) ≡ (other == one)
+pub same_back : (one other : ℕ) → (one == other) ≡ (other == one)
 same_back one other = by (one == other) refl (other == one) refl where
   by : (a : Bool) → (one == other) ≡ a → (b : Bool) → (other == one) ≡ b → a ≡ b
   by true is true also = refl

@@ -1,15 +1,10 @@
 -- What is left of sites whose objects are made in order.
 use Rattle.std.specs.Prelude.{◌&&◌, ℕ, Bool, not, List, Option, Some, None, IsTrue}
-use Rattle.std.specs.List.{filter}
 use Rattle.making_code.specs.MakeOrder.{ComesNext, names_one}
 use Rattle.virtual_state.specs.Sites.{has}
 use Rattle.virtual_state.specs.declared.slot.Slot.{Slot}
 use Rattle.virtual_state.specs.declared.slot.Slot.TheVariants.{Plain, Virt, Unusable}
 use Rattle.virtual_state.specs.declared.slot.VObject.{VObject}
-
--- those of these sites that are not made
-abbrev pub left_of : List ℕ → List ℕ → List ℕ
-left_of sites made = filter (λ site. not (has made site)) sites
 
 -- a slot names one of these sites that is not made
 abbrev pub is_pending : List ℕ → List ℕ → Slot → Bool

@@ -221,7 +221,7 @@ module _ (laws : Laws) (headers : Headers) (constructor : Name → List ℕ) (fi
   grown : IsGrownHeader (header_of file) (header_of s.class)
   grown = laws.header file s.class c.is_class_file c.class
 
-  own_name : scope.own.name ≡ name
+  pub own_name : scope.own.name ≡ name
   own_name = grown.alike.same_name
 
   own_super : scope.own.super_name ≡ Some c.above
@@ -241,13 +241,13 @@ module _ (laws : Laws) (headers : Headers) (constructor : Name → List ℕ) (fi
   abbrev pub front : List CInstr
   front = super_call headers c.above ++ puts_from name first_put own
 
-  items_are : constructor_items headers name ≡ front ++ simple (Return None) ∷ []
+  pub items_are : constructor_items headers name ≡ front ++ simple (Return None) ∷ []
   items_are = ap (λ (super : Option Name). by_above super ++ simple (Return None) ∷ []) c.is_above
 
-  abbrev indexed : List CInstr → List Instr
+  abbrev pub indexed : List CInstr → List Instr
   indexed items = map (indexed_instr c.pool constructor) items
 
-  instrs_are : constructor_instrs headers c.pool constructor name ≡ indexed front ++ Return None ∷ []
+  pub instrs_are : constructor_instrs headers c.pool constructor name ≡ indexed front ++ Return None ∷ []
   instrs_are =
       ap (map (indexed_instr c.pool constructor)) items_are
       ∙ map-append (indexed_instr c.pool constructor) front (simple (Return None) ∷ [])
@@ -317,7 +317,7 @@ module _ (laws : Laws) (headers : Headers) (constructor : Name → List ℕ) (fi
       ∙ decoded_back laws.spells (indexed (front ++ simple (Return None) ∷ [])) small many
       ∙ ap (λ (all : List Instr). Ok (placed 0 all)) (map-append (indexed_instr c.pool constructor) front (simple (Return None) ∷ []))
 
-  instructions_are : instructions s ≡ placed 0 instrs
+  pub instructions_are : instructions s ≡ placed 0 instrs
   instructions_are = rw (decodes) refl
 
   -- ---- the frame that it begins with

@@ -16,7 +16,9 @@ use Rattle.class_rewrite.specs.Rewriting.Methods.{Rewriting}
 use Rattle.class_tree.specs.Headers.{headers_of}
 use Rattle.class_tree.specs.Hierarchy.{IsHierarchy}
 use Rattle.class_tree.specs.Trees.{IsTree}
+use Rattle.expanded_code.specs.ExpandAnswers.{IsExpanded}
 use Rattle.expanded_runs.specs.ByteCodes.{HaveByteCodes}
+use Rattle.expanded_runs.specs.CarriedConstants.{CarriesConstants}
 use Rattle.flow_code.specs.FlatCode.{FlatCode}
 use Rattle.member_link.specs.DeclaredMembers.{declared}
 use Rattle.member_link.specs.Linked.{IsLinked}
@@ -141,6 +143,9 @@ module _ (c : goal.After-programs_that_are_equal_run_equally) (r : Rewriting) (f
       let made = added_is_made r files w ready class file method there added in
       (has_free u setup hierarchy adds file (added_to u setup hierarchy adds class file there (made_is_added r files w tree.in_order class file there made))).undeclared
 
+  carries : (at : MethodAt) (flat : FlatCode) → IsExpanded r.classes r.typed at flat → CarriesConstants r.classes flat
+  carries at flat is = c.an_expanded_flat_code_carries_constants.ensures r.classes r.typed at flat types is
+
 pub returns-clause-codes : goal.returns-clause-codes
 returns-clause-codes c = λ r files w tree bytes linked types are_links.
     elim (none_or_some r.classes r.links w.s) [
@@ -151,9 +156,11 @@ returns-clause-codes c = λ r files w tree bytes linked types are_links.
 pub returns-clause-folder : goal.returns-clause-folder
 returns-clause-folder c = λ r files w tree bytes linked types are_links some well.
     let known = folder_known (laws c r files w tree bytes linked types are_links some) r files w tree (one c r files w tree bytes linked types are_links some)
-    (ready c r files w tree bytes linked types are_links some) (free c r files w tree bytes linked types are_links some) well in
+    (ready c r files w tree bytes linked types are_links some) (free c r files w tree bytes linked types are_links some)
+    (carries c r files w tree bytes linked types are_links some) well in
     let grown = headers_grown (laws c r files w tree bytes linked types are_links some) r files w tree (one c r files w tree bytes linked types are_links some)
-    (ready c r files w tree bytes linked types are_links some) (free c r files w tree bytes linked types are_links some) well in
+    (ready c r files w tree bytes linked types are_links some) (free c r files w tree bytes linked types are_links some)
+    (carries c r files w tree bytes linked types are_links some) well in
     let after : AreLinksOf (headers_of (with_folder r.classes files)) r.links =
     (c.grown_classes_have_the_same_links.ensures (headers_of r.classes) (headers_of (with_folder r.classes files)) r.links grown).0 are_links in
     record {

@@ -3,7 +3,7 @@ use Rattle.std.specs.Result.{IsErrOf}
 use Rattle.std.specs.Option.{option_copied}
 use Rattle.std.proofs.lemmas.Option.{slice_get_within}
 use Rattle.code_drafts.proofs.CarriedLaws.{left_end, left_full, left_next}
-use Rattle.code_drafts.specs.Laws.EmittedParts.{continues_both, continues_itself}
+use Rattle.materialise.specs.Laws.GrownEdits.{continues_both, continues_itself}
 use Rattle.code_drafts.proofs.carried.catches_of.Goals as goal
 use Rattle.flow_code.specs.declared.reason.KeptFault.TheVariants.{Kept}
 use Rattle.plan_flow.specs.Written.Templates.{catches_from}

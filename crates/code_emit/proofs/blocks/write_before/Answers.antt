@@ -1,6 +1,6 @@
 use Rattle.std.proofs.Common.{option_map, sym, ap, subst, ◌∙◌}
 use Rattle.class_tree.specs.Headers.{Classes, headers_of}
-use Rattle.code_drafts.specs.Laws.EmittedParts.{on_ok}
+use Rattle.std.proofs.lemmas.Result.{on_ok_weaker}
 use Rattle.code_drafts.specs.Laws.LedRoutes.{planned_can_make}
 use Rattle.code_emit.proofs.EdgeLaws.{before_full, before_written}
 use Rattle.code_emit.proofs.blocks.write_before.Goals as goal
@@ -21,7 +21,7 @@ returns-clause-ok c =
     let w = c.args.setting.now in
     let is_state = sym (c.in-Some-state.ensures ∙ ap (λ (plan : Plan). option_map (λ (point : PlannedPoint). point.state) (planned plan c.args.at)) c.plan-2.ensures) in
     let is_made = sym (c.in-Some.ensures ∙ ap (λ (plan : Plan). option_map (λ (point : PlannedPoint). point.made) (planned plan c.args.at)) c.plan.ensures) in
-    on_ok c.write_make_block.result
+    on_ok_weaker c.write_make_block.result
     (λ writes.
     before_written w c.args.at c.in-Some-state.state.now c.in-Some.made.now c.args.pool.now c.write_make_block.new.pool c.args.drafts.now c.write_make_block.new.drafts
     is_state is_made writes)

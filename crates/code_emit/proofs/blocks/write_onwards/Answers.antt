@@ -1,5 +1,5 @@
 use Rattle.std.proofs.Common.{sym, subst, ◌∙◌}
-use Rattle.code_drafts.specs.Laws.EmittedParts.{on_ok}
+use Rattle.std.proofs.lemmas.Result.{on_ok_weaker}
 use Rattle.code_drafts.specs.LedEdges.{IsStateOn}
 use Rattle.code_drafts.specs.Writable.{scope}
 use Rattle.code_emit.proofs.EdgeLaws.{edge_nowhere, edge_there, no_next, no_sites, no_state, none_next, onwards_full, onwards_written, planned_by}
@@ -45,7 +45,7 @@ returns-clause-ok c =
     let at = c.args.at in
     let given = planned_by c.plan.result.now w.plan at Next c.edge_by.result c.edge_by.ensures c.plan.ensures in
     let state = subst (IsStateOn w at Next) c.in-Some-2.is c.in_ok-behind.ensures in
-    on_ok c.write_make_block-written.result
+    on_ok_weaker c.write_make_block-written.result
     (λ writes.
     onwards_written w c.requires.can at c.edge_by.result c.in-Some.edge c.in-Some-2.behind c.args.pool.now c.write_make_block-written.new.pool c.args.drafts.now
     c.write_make_block-written.new.drafts given c.in-Some.is state writes)

@@ -1,6 +1,6 @@
 use Rattle.std.proofs.Common.{rules}
 use Rattle.std.specs.Result.{IsErrOf}
-use Rattle.code_drafts.specs.Laws.EmittedParts.{on_ok}
+use Rattle.std.proofs.lemmas.Result.{on_ok_weaker}
 use Rattle.code_emit.proofs.PointLaws.{both_blocks, both_written, first_too_full, then_too_full}
 use Rattle.code_emit.proofs.blocks.write_point.Goals as goal
 use Rattle.code_emit.specs.Inner.PointBlocks.{before_blocks, onward_blocks, own_blocks}
@@ -30,7 +30,7 @@ returns-clause-ok c =
     let both =
     both_written w at before_blocks own_blocks c.args.pool.now c.write_before.new.pool c.write_own.new.pool c.args.drafts.now c.write_before.new.drafts c.write_own.new.drafts
     c.in_ok-write_before.ensures.ok c.in_ok-write_own.ensures.ok in
-    on_ok c.write_onwards.result
+    on_ok_weaker c.write_onwards.result
     (λ writes.
     both_written w at (both_blocks w at before_blocks own_blocks) onward_blocks c.args.pool.now c.write_own.new.pool c.write_onwards.new.pool c.args.drafts.now
     c.write_own.new.drafts c.write_onwards.new.drafts both writes)

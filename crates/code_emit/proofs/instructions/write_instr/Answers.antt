@@ -1,12 +1,12 @@
 use Rattle.std.proofs.Common.{ap, ◌∙◌}
-use Rattle.code_drafts.specs.Laws.EmittedParts.{on_ok}
+use Rattle.std.proofs.lemmas.Result.{on_ok_weaker}
 use Rattle.code_emit.proofs.InstructionLaws.{all_full, all_written}
 use Rattle.code_emit.proofs.instructions.write_instr.Goals as goal
 
 pub returns-clause-ok : goal.returns-clause-ok
 returns-clause-ok c =
     let w = c.args.setting.now in
-    on_ok c.write_rest.result
+    on_ok_weaker c.write_rest.result
     (λ emits.
     all_written w c.args.at c.args.state.now c.args.class c.args.instr.now c.in-Some.types.now c.flat.result.now c.units.result.now c.in_ok-template.template
     c.requires.left c.requires.instr c.in-Some.ensures c.flat.ensures c.units.ensures

@@ -1,5 +1,5 @@
 use Rattle.std.proofs.Common.{sym, subst}
-use Rattle.code_drafts.specs.Laws.EmittedParts.{on_ok}
+use Rattle.std.proofs.lemmas.Result.{on_ok_weaker}
 use Rattle.code_drafts.specs.declared.template.Template.{Template}
 use Rattle.code_emit.proofs.InstructionLaws.{as_it_is_full, as_it_is_written, jump_emits, jump_full}
 use Rattle.code_emit.proofs.instructions.write_rest.Goals as goal
@@ -8,7 +8,7 @@ use Rattle.code_emit.specs.Inner.ReachedPoints.{AreFullAt, EmitsAt, rest_of}
 pub returns-in-AsItIs-clause-ok : goal.returns-in-AsItIs-clause-ok
 returns-in-AsItIs-clause-ok c =
     let w = c.args.setting.now in
-    on_ok c.write_as_it_is.result
+    on_ok_weaker c.write_as_it_is.result
     (λ emits.
     subst (λ (chosen : Template). EmitsAt w c.args.at (λ s at point route. rest_of s at point route c.args.class c.args.instr.now chosen) c.args.pool.now c.write_as_it_is.new.pool
     c.args.kept.now c.write_as_it_is.new.kept) (sym c.in-AsItIs.is)
@@ -25,7 +25,7 @@ returns-in-AsItIs-clause-full c = λ reason is.
 pub returns-in-Jump-clause-ok : goal.returns-in-Jump-clause-ok
 returns-in-Jump-clause-ok c =
     let w = c.args.setting.now in
-    on_ok c.write_made_on.result
+    on_ok_weaker c.write_made_on.result
     (λ emits.
     subst (λ (chosen : Template). EmitsAt w c.args.at (λ s at point route. rest_of s at point route c.args.class c.args.instr.now chosen) c.args.pool.now c.write_made_on.new.pool
     c.args.kept.now c.write_made_on.new.kept) (sym c.in-Jump.is)

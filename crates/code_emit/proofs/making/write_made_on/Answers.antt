@@ -1,5 +1,5 @@
 use Rattle.std.proofs.Common.{sym, subst, ◌∙◌}
-use Rattle.code_drafts.specs.Laws.EmittedParts.{on_ok}
+use Rattle.std.proofs.lemmas.Result.{on_ok_weaker}
 use Rattle.code_drafts.specs.LedEdges.{IsStateOn}
 use Rattle.code_drafts.specs.Writable.{making_on, scope}
 use Rattle.code_emit.proofs.EdgeLaws.{edge_emits, edge_full, edge_nowhere, edge_there, no_sites, no_state, none_made_on, none_on, planned_by}
@@ -47,7 +47,7 @@ returns-clause-ok c =
     let by = c.args.by in
     let given = planned_by c.plan.result.now w.plan at by c.edge_by.result c.edge_by.ensures c.plan.ensures in
     let state = subst (IsStateOn w at by) c.in-Some-2.is c.in_ok-behind.ensures in
-    on_ok c.write_made-written.result
+    on_ok_weaker c.write_made-written.result
     (λ emits.
     edge_emits w c.requires.can at by c.edge_by.result c.in-Some.edge c.in-Some-2.behind c.args.pool.now c.write_made-written.new.pool c.args.kept.now
     c.write_made-written.new.kept given c.in-Some.is state emits)

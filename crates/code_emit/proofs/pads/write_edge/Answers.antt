@@ -1,5 +1,5 @@
 use Rattle.std.proofs.Common.{sym}
-use Rattle.code_drafts.specs.Laws.EmittedParts.{on_ok}
+use Rattle.std.proofs.lemmas.Result.{on_ok_weaker}
 use Rattle.code_emit.proofs.PadLaws.{edge_can_make, given_edge, no_edge_written, no_pad_written, no_plan_written, pad_full, pad_written}
 use Rattle.code_emit.proofs.pads.write_edge.Goals as goal
 
@@ -27,7 +27,7 @@ write_make_block-requires-clause-make c =
 pub returns-clause-ok : goal.returns-clause-ok
 returns-clause-ok c =
     let w = c.args.setting.now in
-    on_ok c.write_make_block.result
+    on_ok_weaker c.write_make_block.result
     (λ writes.
     pad_written w c.args.of c.args.decided c.args.at c.args.edges.now c.args.number c.requires.led c.in-Some.edge.now c.in-Some-pad_kind.kind c.edge.result c.in-Some-edge.planned
     (sym c.in-Some.ensures) c.in-Some-pad_kind.ensures (given_edge c.plan.result.now w.plan c.args.at c.args.number c.edge.result c.edge.ensures c.plan.ensures) c.in-Some-edge.is

@@ -1,6 +1,6 @@
 use Rattle.std.proofs.Common.{rules}
 use Rattle.std.specs.Result.{IsErrOf}
-use Rattle.code_drafts.specs.Laws.EmittedParts.{continues_both}
+use Rattle.materialise.specs.Laws.GrownEdits.{continues_both}
 use Rattle.code_emit.proofs.PadLaws.{edges_end, edges_full, edges_more}
 use Rattle.code_emit.proofs.pads.write_edges.Goals as goal
 use Rattle.code_emit.specs.Inner.PadBlocks.{pad_of}

@@ -1,6 +1,6 @@
 use Rattle.std.proofs.Common.{rules}
 use Rattle.std.specs.Result.{IsErrOf}
-use Rattle.code_drafts.specs.Laws.EmittedParts.{on_ok}
+use Rattle.std.proofs.lemmas.Result.{on_ok_weaker}
 use Rattle.code_emit.proofs.PassLaws.{both_passed, both_passes, first_pass_full, then_pass_full}
 use Rattle.code_emit.proofs.passes.write_blocks.Goals as goal
 use Rattle.code_emit.specs.Inner.PassBlocks.{pass_blocks}
@@ -28,7 +28,7 @@ returns-clause-ok c =
     let both =
     both_passed w (pass_blocks Points) (pass_blocks JumpPads) c.args.pool.now c.write_pass.new.pool c.write_pass-2.new.pool c.args.drafts.now c.write_pass.new.drafts
     c.write_pass-2.new.drafts c.in_ok-write_pass.ensures.ok c.in_ok-write_pass-2.ensures.ok in
-    on_ok c.write_pass-3.result
+    on_ok_weaker c.write_pass-3.result
     (λ writes.
     both_passed w (both_passes w (pass_blocks Points) (pass_blocks JumpPads)) (pass_blocks HandlerPads) c.args.pool.now c.write_pass-2.new.pool c.write_pass-3.new.pool
     c.args.drafts.now c.write_pass-2.new.drafts c.write_pass-3.new.drafts both writes)

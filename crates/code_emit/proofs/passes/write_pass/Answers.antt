@@ -1,6 +1,6 @@
 use Rattle.std.proofs.Common.{rules, ◌<◌, ◌≤◌, ℕ, length, ap, subst, ◌∙◌}
 use Rattle.std.specs.Result.{IsErrOf}
-use Rattle.code_drafts.specs.Laws.EmittedParts.{continues_both}
+use Rattle.materialise.specs.Laws.GrownEdits.{continues_both}
 use Rattle.code_emit.proofs.PassLaws.{points_end, points_full, points_more}
 use Rattle.code_emit.proofs.passes.write_pass.Goals as goal
 use Rattle.code_emit.specs.Inner.PassBlocks.{blocks_at}

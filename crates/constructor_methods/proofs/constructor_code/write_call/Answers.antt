@@ -4,7 +4,7 @@ use Rattle.std.specs.List.{flat_map}
 use Rattle.class_tree.specs.Headers.{Name, headers_of}
 use Rattle.class_tree.specs.Names.{object}
 use Rattle.making_code.specs.FieldConstructor.{CInstr, call_above, item_needs}
-use Rattle.constructor_methods.proofs.Adding.{on_ok}
+use Rattle.std.proofs.lemmas.Result.{on_ok_weaker}
 use Rattle.constructor_methods.proofs.ConstructLaws.{above_object}
 use Rattle.constructor_methods.proofs.constructor_code.write_call.Goals as goal
 use Rattle.materialise.specs.Growing.{IsFull}
@@ -14,7 +14,7 @@ pub returns-then-eq-clause-ok : goal.returns-then-eq-clause-ok
 returns-then-eq-clause-ok c =
     let same : c.in-Some.class ≡ object = first_of (search rules, grind (arith, common_steps)) in
     let items_are = above_object (headers_of c.args.constructors.now) c.args.header.now.super_name c.in-Some.class c.in-Some.is same in
-    on_ok c.call_object.result
+    on_ok_weaker c.call_object.result
     (λ all constructor described. subst (λ (items : List CInstr). Constructs constructor c.args.pool.now c.args.instrs.now.items items c.call_object.new.pool c.call_object.new.instrs.items) (sym items_are) (all constructor))
     c.call_object.ensures.ok
 

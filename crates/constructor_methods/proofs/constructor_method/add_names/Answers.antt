@@ -1,6 +1,6 @@
 use Rattle.std.proofs.Common.{List, ℕ, subst}
 use Rattle.class_model.specs.Names.{init}
-use Rattle.constructor_methods.proofs.Adding.{continues_both, index_later}
+use Rattle.materialise.specs.Laws.GrownEdits.{continues_both, index_later}
 use Rattle.constructor_methods.proofs.constructor_method.add_names.Goals as goal
 use Rattle.materialise.specs.Indices.{IsIndex, need_of_text}
 

@@ -1,13 +1,15 @@
 use Rattle.std.proofs.Common.{[], ◌∷◌}
 use Rattle.making_code.specs.Constants.{needs_class, needs_text}
-use Rattle.materialise.proofs.ConstantLaws.{class_means, full_then, grows_both, on_ok}
+use Rattle.std.proofs.lemmas.Result.{on_ok_weaker}
+use Rattle.materialise.proofs.ConstantLaws.{class_means}
+use Rattle.materialise.specs.Laws.GrownEdits.{full_then, grows_both}
 use Rattle.materialise.proofs.constants.add_class.Goals as goal
 
 pub returns-clause-ok : goal.returns-clause-ok
 returns-clause-ok c =
     let name = c.args.name.now in
     let means = class_means c.add_text.new.pool name c.in_ok-text.text c.in_ok-text.ensures.index in
-    on_ok c.add.result
+    on_ok_weaker c.add.result
     (λ grows. grows_both c.args.pool.now c.add_text.new.pool c.add.new.pool (needs_text name) (needs_class name ∷ []) c.in_ok-text.ensures.ok (grows (needs_class name) means))
     c.add.ensures.ok
 

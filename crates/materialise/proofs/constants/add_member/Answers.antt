@@ -1,6 +1,8 @@
 use Rattle.std.proofs.Common.{[], ◌∷◌, ◌++◌, sym}
 use Rattle.making_code.specs.Constants.{class_needs, name_and_type_needs, needs_class, needs_member}
-use Rattle.materialise.proofs.ConstantLaws.{full_then, grows_both, if_ok, index_later, member_means, on_ok}
+use Rattle.std.proofs.lemmas.Result.{on_ok_weaker}
+use Rattle.materialise.proofs.ConstantLaws.{if_ok, member_means}
+use Rattle.materialise.specs.Laws.GrownEdits.{full_then, grows_both, index_later}
 use Rattle.materialise.proofs.constants.add_member.Goals as goal
 use Rattle.materialise.specs.Indices.{kind_needed}
 
@@ -13,7 +15,7 @@ returns-clause-ok c =
     let class_is = index_later c.add_class.new.pool c.add_name_and_type.new.pool (needs_class class) c.in_ok-class_index.class_index c.in_ok-class_index.ensures.index c.add_name_and_type.ensures.more in
     let means = member_means c.add_name_and_type.new.pool kind class name desc c.in_ok-class_index.class_index c.in_ok-member.member c.reference_to.result class_is c.in_ok-member.ensures.index (sym c.reference_to.ensures) in
     let both = grows_both c.args.pool.now c.add_class.new.pool c.add_name_and_type.new.pool (class_needs class) (name_and_type_needs name desc) c.in_ok-class_index.ensures.ok c.in_ok-member.ensures.ok in
-    on_ok c.add.result
+    on_ok_weaker c.add.result
     (λ grows. grows_both c.args.pool.now c.add_name_and_type.new.pool c.add.new.pool (class_needs class ++ name_and_type_needs name desc) (needs_member kind class name desc ∷ []) both (grows (needs_member kind class name desc) means))
     c.add.ensures.ok
 

@@ -1,6 +1,8 @@
 use Rattle.std.proofs.Common.{[], ◌∷◌, ◌++◌}
 use Rattle.making_code.specs.Constants.{needs_name_and_type, needs_text}
-use Rattle.materialise.proofs.ConstantLaws.{full_then, grows_both, index_later, on_ok, pair_means}
+use Rattle.std.proofs.lemmas.Result.{on_ok_weaker}
+use Rattle.materialise.proofs.ConstantLaws.{pair_means}
+use Rattle.materialise.specs.Laws.GrownEdits.{full_then, grows_both, index_later}
 use Rattle.materialise.proofs.constants.add_name_and_type.Goals as goal
 use Rattle.materialise.specs.Indices.{need_of_text}
 
@@ -11,7 +13,7 @@ returns-clause-ok c =
     let first = index_later c.add_text.new.pool c.add_text-2.new.pool (need_of_text name) c.in_ok-name_index.name_index c.in_ok-name_index.ensures.index c.add_text-2.ensures.more in
     let means = pair_means c.add_text-2.new.pool name desc c.in_ok-name_index.name_index c.in_ok-desc_index.desc_index first c.in_ok-desc_index.ensures.index in
     let both = grows_both c.args.pool.now c.add_text.new.pool c.add_text-2.new.pool (needs_text name) (needs_text desc) c.in_ok-name_index.ensures.ok c.in_ok-desc_index.ensures.ok in
-    on_ok c.add.result
+    on_ok_weaker c.add.result
     (λ grows. grows_both c.args.pool.now c.add_text-2.new.pool c.add.new.pool (needs_text name ++ needs_text desc) (needs_name_and_type name desc ∷ []) both (grows (needs_name_and_type name desc) means))
     c.add.ensures.ok
 

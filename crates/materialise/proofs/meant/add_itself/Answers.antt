@@ -1,10 +1,11 @@
 use Rattle.making_code.specs.Constants.{needs_itself}
-use Rattle.materialise.proofs.ConstantLaws.{if_ok, itself_means, last_itself, on_ok}
+use Rattle.std.proofs.lemmas.Result.{on_ok_weaker}
+use Rattle.materialise.proofs.ConstantLaws.{if_ok, itself_means, last_itself}
 use Rattle.materialise.proofs.meant.add_itself.Goals as goal
 
 pub returns-clause-ok : goal.returns-clause-ok
 returns-clause-ok c =
-    on_ok c.add.result (λ grows. grows (needs_itself c.args.value) (itself_means c.args.pool.now c.args.value)) c.add.ensures.ok
+    on_ok_weaker c.add.result (λ grows. grows (needs_itself c.args.value) (itself_means c.args.pool.now c.args.value)) c.add.ensures.ok
 
 pub returns-clause-index : goal.returns-clause-index
 returns-clause-index c =

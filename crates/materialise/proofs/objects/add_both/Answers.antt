@@ -2,7 +2,7 @@ use Rattle.std.proofs.Common.{rules, List, ℕ, subst}
 use Rattle.std.specs.Result.{IsErrOf}
 use Rattle.flow_code.specs.declared.reason.KeptFault.TheVariants.{Kept}
 use Rattle.making_code.specs.Constants.{class_needs, constructor_needs, member_needs, needs_class, needs_member, of_method}
-use Rattle.materialise.proofs.ConstantLaws.{full_then, grows_both, index_later}
+use Rattle.materialise.specs.Laws.GrownEdits.{full_then, grows_both, index_later}
 use Rattle.materialise.proofs.objects.add_both.Goals as goal
 use Rattle.materialise.specs.Growing.{Grows, IsFull}
 use Rattle.materialise.specs.Indices.{IsIndex}

@@ -1,5 +1,6 @@
 use Rattle.std.proofs.Common.{ℕ, List, sym, subst}
-use Rattle.materialise.proofs.ConstantLaws.{if_ok, on_ok}
+use Rattle.std.proofs.lemmas.Result.{on_ok_weaker}
+use Rattle.materialise.proofs.ConstantLaws.{if_ok}
 use Rattle.materialise.proofs.objects.add_made.Goals as goal
 use Rattle.field_constructors.specs.Constructors.{IsConstructor}
 use Rattle.materialise.specs.Growing.{Grows, IsFull}
@@ -9,7 +10,7 @@ pub returns-clause-ok : goal.returns-clause-ok
 returns-clause-ok c =
     let class = c.args.class.now in
     let is = subst (IsConstructor c.args.constructors.now class) c.in-Some.is (c.in_ok-desc.ensures c.requires.number c.requires.of_folder) in
-    on_ok c.add_both.result (λ grows constructor described. subst (λ (desc : List ℕ). Grows c.args.pool.now (made_needs class desc) c.add_both.new.pool) (sym (described class c.in-Some.desc is)) grows) c.add_both.ensures.ok
+    on_ok_weaker c.add_both.result (λ grows constructor described. subst (λ (desc : List ℕ). Grows c.args.pool.now (made_needs class desc) c.add_both.new.pool) (sym (described class c.in-Some.desc is)) grows) c.add_both.ensures.ok
 
 pub returns-clause-indices : goal.returns-clause-indices
 returns-clause-indices c =

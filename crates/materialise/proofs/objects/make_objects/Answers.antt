@@ -6,7 +6,7 @@ use Rattle.std.proofs.lemmas.Option.{slice_get-get_or}
 use Rattle.flow_code.specs.declared.reason.KeptFault.TheVariants.{Kept}
 use Rattle.making_code.specs.Items.{WInstr}
 use Rattle.making_code.specs.MakeCode.{make_one}
-use Rattle.materialise.proofs.ConstantLaws.{continues_both}
+use Rattle.materialise.specs.Laws.GrownEdits.{continues_both}
 use Rattle.materialise.proofs.ObjectCode.{full_at, makes_both, sites_more}
 use Rattle.materialise.proofs.objects.make_objects.Goals as goal
 use Rattle.materialise.specs.Inner.CodeWords.{Makes}

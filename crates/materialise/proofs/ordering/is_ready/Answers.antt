@@ -1,7 +1,9 @@
 use Rattle.std.proofs.Common.{not, List, sym, ap, ◌∙◌}
 use Rattle.std.specs.List.{list_any}
-use Rattle.materialise.proofs.OrderLaws.{names_of_none, names_of_some, pending_names}
-use Rattle.materialise.specs.Inner.OrderWords.{is_pending, left_of}
+use Rattle.making_code.specs.MakeOrder.{left_of}
+use Rattle.making_code.specs.Laws.MakeOrders.{names_of_none, names_of_some}
+use Rattle.materialise.proofs.OrderLaws.{pending_names}
+use Rattle.materialise.specs.Inner.OrderWords.{is_pending}
 use Rattle.virtual_state.specs.declared.slot.Slot.{Slot}
 use Rattle.virtual_state.specs.declared.slot.VObject.{VObject}
 use Rattle.materialise.proofs.ordering.is_ready.Goals as goal

@@ -1,7 +1,8 @@
 use Rattle.std.proofs.Common.{ℕ, List, [], sym, subst}
-use Rattle.making_code.specs.MakeOrder.{ComesNext}
-use Rattle.materialise.proofs.OrderLaws.{Ordered, fewer_left, none_left, ordered_all, ordered_first, ordered_more}
-use Rattle.materialise.specs.Inner.OrderWords.{IsNext, left_of}
+use Rattle.making_code.specs.MakeOrder.{ComesNext, left_of}
+use Rattle.making_code.specs.Laws.MakeOrders.{fewer_left, none_left}
+use Rattle.materialise.proofs.OrderLaws.{Ordered, ordered_all, ordered_first, ordered_more}
+use Rattle.materialise.specs.Inner.OrderWords.{IsNext}
 use Rattle.materialise.proofs.ordering.make_order.Goals as goal
 
 pub loop-site-init : goal.loop-site-init

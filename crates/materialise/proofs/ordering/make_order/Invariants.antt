@@ -1,7 +1,7 @@
 use Rattle.std.proofs.Common.{length}
+use Rattle.making_code.specs.MakeOrder.{left_of}
 use Rattle.materialise.proofs.OrderLaws.{Ordered}
 use Rattle.materialise.proofs.ordering.make_order.Given as goal
-use Rattle.materialise.specs.Inner.OrderWords.{left_of}
 
 abbrev pub invariant-loop-site : goal.invariant-loop-site
 invariant-loop-site l = Ordered l.state.objects l.sites l.made l.order

@@ -2,8 +2,7 @@ use Rattle.std.proofs.Common.{◌≡◌, ℕ, List, take, slice_get, slice_index
 use Rattle.std.proofs.lemmas.List.{take_all}
 use Rattle.std.proofs.lemmas.Option.{slice_get-get_or}
 use Rattle.materialise.proofs.NextSites.{NoneSoFar, found_next, none_next, not_true}
-use Rattle.making_code.specs.MakeOrder.{names_one}
-use Rattle.materialise.specs.Inner.OrderWords.{left_of}
+use Rattle.making_code.specs.MakeOrder.{left_of, names_one}
 use Rattle.materialise.proofs.ordering.next_site.Goals as goal
 
 pub returns-then-is_ready : goal.returns-then-is_ready

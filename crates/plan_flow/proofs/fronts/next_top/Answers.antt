@@ -1,6 +1,4 @@
-use Rattle.std.proofs.Common.{◌≡◌, ◌<◌, ◌≤◌, ◌∙◌, true, false, get_or, length, sym, arith, rules}
-use Rattle.class_model.specs.Frames.{is_top}
-use Rattle.class_model.specs.declared.frame.VType.{VType}
+use Rattle.std.proofs.Common.{◌<◌, ◌∙◌, true, false, length, sym, arith}
 use Rattle.plan_flow.proofs.KeptUnits.{next_found, next_later}
 use Rattle.plan_flow.proofs.fronts.next_top.Goals as goal
 

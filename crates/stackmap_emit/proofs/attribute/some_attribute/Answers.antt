@@ -6,7 +6,7 @@ use Rattle.class_model.specs.declared.frame.PlacedFrame.{PlacedFrame}
 use Rattle.flow_code.specs.declared.reason.KeptFault.TheVariants.{Kept}
 use Rattle.making_code.specs.Constants.{Need, needs_text}
 use Rattle.materialise.specs.Growing.{IsFull}
-use Rattle.stackmap_emit.proofs.Adding.{full_behind, full_first}
+use Rattle.materialise.specs.Laws.GrownEdits.{full_first, full_then}
 use Rattle.stackmap_emit.proofs.Attributes.{attribute_grows, attribute_is, table_some}
 use Rattle.stackmap_emit.proofs.attribute.some_attribute.Goals as goal
 use Rattle.stackmap_emit.specs.FramesAttribute.{IsNamed, placed_needs}
@@ -26,7 +26,7 @@ returns-in_err-classes-clause-full c = λ reason is.
     let full : IsFull c.add_name.new.pool (placed_needs frames) reason =
     subst (λ (list : List PlacedFrame). IsFull c.add_name.new.pool (placed_needs list) reason) c.as_slice.ensures (c.add_frames.ensures.full reason fails) in
     subst (λ (needs : List Need). IsFull c.args.pool.now needs reason) (table_some frames c.requires.some)
-    (full_behind c.args.pool.now c.add_name.new.pool (needs_text stack_map_table) (placed_needs frames) reason c.in_ok-name.ensures.ok full)
+    (full_then c.args.pool.now c.add_name.new.pool (needs_text stack_map_table) (placed_needs frames) reason c.in_ok-name.ensures.ok full)
 
 pub frame_bytes-requires : goal.frame_bytes-requires
 frame_bytes-requires c =

@@ -5,7 +5,8 @@ use Rattle.class_model.specs.declared.frame.VType.{VType}
 use Rattle.flow_code.specs.declared.reason.KeptFault.TheVariants.{Kept}
 use Rattle.making_code.specs.Constants.{Need}
 use Rattle.materialise.specs.Growing.{IsFull}
-use Rattle.stackmap_emit.proofs.Adding.{adds_both, frame_parts, full_behind, full_first}
+use Rattle.stackmap_emit.proofs.Adding.{adds_both, frame_parts}
+use Rattle.materialise.specs.Laws.GrownEdits.{full_first, full_then}
 use Rattle.stackmap_emit.proofs.classes.add_frame.Goals as goal
 use Rattle.stackmap_emit.specs.FrameConstants.{type_needs}
 use Rattle.stackmap_emit.specs.Inner.ClassIndices.{Adds}
@@ -24,7 +25,7 @@ returns-in_err-add_types-clause-full c = λ reason is.
     let full : IsFull c.add_units.new.pool (flat_map type_needs frame.stack) reason =
     subst (λ (types : List VType). IsFull c.add_units.new.pool (flat_map type_needs types) reason) c.as_slice.ensures (c.add_types.ensures.full reason fails) in
     subst (λ (needs : List Need). IsFull c.args.pool.now needs reason) (sym (frame_parts frame))
-    (full_behind c.args.pool.now c.add_units.new.pool (flat_map type_needs frame.locals) (flat_map type_needs frame.stack) reason
+    (full_then c.args.pool.now c.add_units.new.pool (flat_map type_needs frame.locals) (flat_map type_needs frame.stack) reason
     c.in_ok-add_units.ensures.ok.grows full)
 
 pub returns-clause-ok : goal.returns-clause-ok

@@ -1,5 +1,5 @@
--- Pools that grow by parts of what is needed, and what follows for an answer that is Ok.
-use Rattle.std.proofs.Common.{◌≡◌, ◌++◌, ℕ, List, [], Result, Ok, Err, OnOk, refl, sym, ap, ◌∙◌, append_assoc, option_and_then}
+-- Pools that grow by parts of what is needed: edits that go on, and what they keep.
+use Rattle.std.proofs.Common.{◌≡◌, ◌++◌, ℕ, List, [], refl, sym, ap, ◌∙◌, append_assoc, append-nil, option_and_then}
 use Rattle.std.specs.List.{flat_map}
 use Rattle.std.proofs.lemmas.Grind.{flat_map-append}
 use Rattle.class_model.specs.Pool.{Constants, entries_of}
@@ -11,12 +11,17 @@ use Rattle.materialise.specs.Growing.{Grows, IsFull}
 use Rattle.materialise.specs.Indices.{IsIndex}
 use Rattle.pool_edit.specs.Edits.{Continues, Edit, grown}
 
+-- ---- edits that go on
+
 pub grown_more : (old new : Edit) (so_far : Continues old new) → grown new ≡ grown old ++ flat_map entries_of so_far.more
 grown_more old new so_far =
     ap (λ (base : Constants). base ++ flat_map entries_of new.added) so_far.base
     ∙ ap (λ (constants : List Const). old.base ++ flat_map entries_of constants) so_far.added
     ∙ ap (λ (entries : Constants). old.base ++ entries) (flat_map-append entries_of old.added so_far.more)
     ∙ sym (append_assoc old.base (flat_map entries_of old.added) (flat_map entries_of so_far.more))
+
+pub continues_itself : (edit : Edit) → Continues edit edit
+continues_itself edit = record { base = refl; limit = refl; more = []; added = sym (append-nil edit.added) }
 
 pub continues_both : (first middle last : Edit) → Continues first middle → Continues middle last → Continues first last
 continues_both first middle last one other = record {
@@ -26,6 +31,7 @@ continues_both first middle last one other = record {
   added = other.added ∙ ap (λ (constants : List Const). constants ++ other.more) one.added ∙ append_assoc first.added one.more other.more;
 }
 
+-- an index stays what it is
 pub index_later : (old new : Edit) (need : Need) (index : ℕ) → IsIndex old need index → Continues old new → IsIndex new need index
 index_later old new need index known so_far = record {
   is = λ more.
@@ -33,6 +39,8 @@ index_later old new need index known so_far = record {
       ∙ ap (λ (pool : Constants). index_in pool need) (append_assoc (grown old) (flat_map entries_of so_far.more) more)
       ∙ known.is (flat_map entries_of so_far.more ++ more);
 }
+
+-- ---- growth, part by part
 
 pub grows_none : (edit : Edit) → Grows edit [] edit
 grows_none edit = record { base = refl; limit = refl; grown_by = refl }
@@ -48,6 +56,7 @@ grows_both first middle last front back one other = record {
       ∙ other.grown_by;
 }
 
+-- the first part does not fit
 pub full_first : (edit : Edit) (front back : List Need) (reason : Reason) → IsFull edit front reason → IsFull edit (front ++ back) reason
 full_first edit front back reason full = record {
   is = full.is;
@@ -56,6 +65,7 @@ full_first edit front back reason full = record {
       ∙ ap (option_and_then (λ (more : Constants). grow edit.limit more back)) full.past;
 }
 
+-- the first part fits, and the second does not
 pub full_then : (first middle : Edit) (front back : List Need) (reason : Reason)
     → Grows first front middle
     → IsFull middle back reason
@@ -68,7 +78,3 @@ full_then first middle front back reason one full = record {
       ∙ ap (λ (limit : ℕ). grow limit (grown middle) back) (sym one.limit)
       ∙ full.past;
 }
-
-pub on_ok : {A E P Q : Type 0} (result : Result A E) → (P → Q) → OnOk result P → OnOk result Q
-on_ok (Ok value) more holds = more holds
-on_ok (Err fault) more holds = tt
