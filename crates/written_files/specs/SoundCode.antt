@@ -6,7 +6,7 @@ use Rattle.class_model.specs.Descriptors.{IsReferenceName}
 use Rattle.class_model.specs.ModifiedUtf8.{IsModifiedUtf8}
 use Rattle.class_model.specs.PoolChecks.{ReturnsVoid, entries_checks}
 use Rattle.class_tree.specs.Headers.{Name}
-use Rattle.making_code.specs.Items.{WCatch, WInstr, WItem, carried, constructs, makes}
+use Rattle.making_code.specs.Items.{WInstr, WItem, carried, constructs, makes}
 use Rattle.plan_flow.specs.PlanScope.{PlanScope, pool_of}
 
 -- a class's name

@@ -150,5 +150,4 @@ pub fn what_written_code_needs_is_sound()
     ensures { (s : PlanScope) (constructor : Name → List ℕ) (items : List WItem)
         → AllByRecursion (IsSoundItem s constructor) items
         → AreSound (code_needs s constructor items) }
-{
-}
+{}
