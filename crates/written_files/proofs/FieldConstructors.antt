@@ -6,6 +6,7 @@ pub mod Constants
 pub mod Linking
 pub mod Member
 pub mod Operands
+pub mod Running
 pub mod Sequences
 pub mod Steps
 pub mod Typing
