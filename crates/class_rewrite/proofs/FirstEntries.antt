@@ -5,7 +5,6 @@ use Rattle.class_model.specs.Cutting.{Rest, attr_at, body_at, counted_at, entrie
 use Rattle.class_model.specs.Laws.Cuts.{bind_ok, same_done}
 use Rattle.class_model.specs.Pool.{Constants, constant_at}
 use Rattle.class_model.specs.declared.class_file.ClassFile.{ClassFile}
-
 use Rattle.class_model.specs.declared.pool.Const.{Const}
 use Rattle.class_model.specs.declared.fault.FileRule.TheVariants as rules
 use Rattle.class_tree.specs.Headers.{IsClassFile}

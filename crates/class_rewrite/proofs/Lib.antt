@@ -13,4 +13,5 @@ pub mod WrittenPoints
 pub mod WrittenMethods
 pub mod WrittenSorts
 pub mod WrittenClasses
+pub mod MadeClasses
 pub mod WholeFolders

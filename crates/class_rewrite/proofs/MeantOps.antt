@@ -106,19 +106,19 @@ module _ (old : Constants) (index : ℕ) (pool : Constants) (means : Means old i
     by : (found : Option PoolConst) → constant_at old index ≡ found → IsMethodConstant found ⊎ IsInterfaceConstant found → SameReference
     by (Some (Methodref class member)) is fits = member_same of_method class member is
     by (Some (InterfaceMethodref class member)) is fits = member_same of_interface_method class member is
-    by None is fits = elim fits [ | inl not_this ↦ elim not_this [ ] | inr nor_this ↦ elim nor_this [ ] ]
-    by (Some (Fieldref class member)) is fits = elim fits [ | inl not_this ↦ elim not_this [ ] | inr nor_this ↦ elim nor_this [ ] ]
-    by (Some (Utf8 text)) is fits = elim fits [ | inl not_this ↦ elim not_this [ ] | inr nor_this ↦ elim nor_this [ ] ]
-    by (Some (Integer number)) is fits = elim fits [ | inl not_this ↦ elim not_this [ ] | inr nor_this ↦ elim nor_this [ ] ]
-    by (Some (Float bits)) is fits = elim fits [ | inl not_this ↦ elim not_this [ ] | inr nor_this ↦ elim nor_this [ ] ]
-    by (Some (Long number)) is fits = elim fits [ | inl not_this ↦ elim not_this [ ] | inr nor_this ↦ elim nor_this [ ] ]
-    by (Some (Double bits)) is fits = elim fits [ | inl not_this ↦ elim not_this [ ] | inr nor_this ↦ elim nor_this [ ] ]
-    by (Some (Class name)) is fits = elim fits [ | inl not_this ↦ elim not_this [ ] | inr nor_this ↦ elim nor_this [ ] ]
-    by (Some (String text)) is fits = elim fits [ | inl not_this ↦ elim not_this [ ] | inr nor_this ↦ elim nor_this [ ] ]
-    by (Some (NameAndType name desc)) is fits = elim fits [ | inl not_this ↦ elim not_this [ ] | inr nor_this ↦ elim nor_this [ ] ]
-    by (Some (MethodHandle kind reference)) is fits = elim fits [ | inl not_this ↦ elim not_this [ ] | inr nor_this ↦ elim nor_this [ ] ]
-    by (Some (MethodType desc)) is fits = elim fits [ | inl not_this ↦ elim not_this [ ] | inr nor_this ↦ elim nor_this [ ] ]
-    by (Some (InvokeDynamic bootstrap member)) is fits = elim fits [ | inl not_this ↦ elim not_this [ ] | inr nor_this ↦ elim nor_this [ ] ]
+    by None is fits = elim fits [ inl not_this ↦ elim not_this [ ] | inr nor_this ↦ elim nor_this [ ] ]
+    by (Some (Fieldref class member)) is fits = elim fits [ inl not_this ↦ elim not_this [ ] | inr nor_this ↦ elim nor_this [ ] ]
+    by (Some (Utf8 text)) is fits = elim fits [ inl not_this ↦ elim not_this [ ] | inr nor_this ↦ elim nor_this [ ] ]
+    by (Some (Integer number)) is fits = elim fits [ inl not_this ↦ elim not_this [ ] | inr nor_this ↦ elim nor_this [ ] ]
+    by (Some (Float bits)) is fits = elim fits [ inl not_this ↦ elim not_this [ ] | inr nor_this ↦ elim nor_this [ ] ]
+    by (Some (Long number)) is fits = elim fits [ inl not_this ↦ elim not_this [ ] | inr nor_this ↦ elim nor_this [ ] ]
+    by (Some (Double bits)) is fits = elim fits [ inl not_this ↦ elim not_this [ ] | inr nor_this ↦ elim nor_this [ ] ]
+    by (Some (Class name)) is fits = elim fits [ inl not_this ↦ elim not_this [ ] | inr nor_this ↦ elim nor_this [ ] ]
+    by (Some (String text)) is fits = elim fits [ inl not_this ↦ elim not_this [ ] | inr nor_this ↦ elim nor_this [ ] ]
+    by (Some (NameAndType name desc)) is fits = elim fits [ inl not_this ↦ elim not_this [ ] | inr nor_this ↦ elim nor_this [ ] ]
+    by (Some (MethodHandle kind reference)) is fits = elim fits [ inl not_this ↦ elim not_this [ ] | inr nor_this ↦ elim nor_this [ ] ]
+    by (Some (MethodType desc)) is fits = elim fits [ inl not_this ↦ elim not_this [ ] | inr nor_this ↦ elim nor_this [ ] ]
+    by (Some (InvokeDynamic bootstrap member)) is fits = elim fits [ inl not_this ↦ elim not_this [ ] | inr nor_this ↦ elim nor_this [ ] ]
 
   -- ---- classes
 

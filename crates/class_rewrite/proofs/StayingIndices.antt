@@ -258,8 +258,11 @@ module _ (same : Compares) (s : PlanScope) (constructor : Name → List ℕ) (li
   numbered_stay form blocks place [] stay = refl
   numbered_stay form blocks place (one ∷ ones) stay =
       let numbers : List ℕ = map (target_number form blocks place) one.targets in
-      ap (λ (i : Instr). record { instr = jumping_to numbers i; near = is_near one.targets;
-      catches = map {B = ℕ × ℕ} (λ (catch : WCatch). (target_number form blocks place catch.to, catch_index pool catch.class)) one.catches }
+      ap (λ (i : Instr). record {
+        instr = jumping_to numbers i;
+        near = is_near one.targets;
+        catches = map {B = ℕ × ℕ} (λ (catch : WCatch). (target_number form blocks place catch.to, catch_index pool catch.class)) one.catches;
+      }
       ∷ map_numbered (indexed_item s constructor pool form blocks) (suc place) ones) stay.0.instr
       ∙ ap (λ (c : List (ℕ × ℕ)). record { instr = jumping_to numbers (indexed_instr s constructor grown one.instr); near = is_near one.targets; catches = c }
       ∷ map_numbered (indexed_item s constructor pool form blocks) (suc place) ones) (catches_stay form blocks place one.catches stay.0.catches)

@@ -24,7 +24,7 @@ use Rattle.class_rewrite.specs.Laws.MadeConstructors.{made_is_added}
 use Rattle.class_rewrite.specs.Laws.OneWriting.{HaveOne}
 use Rattle.class_rewrite.specs.Laws.WrittenGrown.{AddedAreNew, class_has_grown, folder_has_grown}
 use Rattle.class_rewrite.specs.Optimised.{with_folder}
-use Rattle.class_rewrite.specs.Rewriting.Folders.{AddsMethods, IsClassWritten, IsFolderWritten, IsPoolBefore, IsRewrittenAt, adds_none, adds_one, at_first, behind_kept, behind_rewritten}
+use Rattle.class_rewrite.specs.Rewriting.Folders.{AddsMethods, IsClassWritten, IsFolderWritten, IsMade, IsPoolBefore, IsRewrittenAt, adds_none, adds_one, at_first, behind_kept, behind_rewritten}
 use Rattle.class_rewrite.specs.Rewriting.Methods.{IsRewritten, Rewriting, Rewritten, short_items}
 use Rattle.class_rewrite.specs.Rewriting.WellWritten.{IsWellWritten}
 use Rattle.class_tree.specs.Headers.{Classes, Headers, IsClassFile, Name, headers_of}
@@ -47,7 +47,7 @@ use Rattle.member_link.specs.Machine.Codes.{call_op, instr_op}
 use Rattle.member_link.specs.Machine.Programs.{Links, RunMethod}
 use Rattle.member_link.specs.References.{Reference}
 use Rattle.member_link.specs.RowScope.{RowScope}
-use Rattle.plan_flow.specs.Written.WrittenPrograms.{WrittenMethod, plan_scope}
+use Rattle.plan_flow.specs.Written.WrittenPrograms.{WrittenMethod, constructor_method, plan_scope}
 use Rattle.stackmap_emit.specs.FrameConstants.{table_needs}
 use Rattle.stackmap_emit.specs.PlacedFrames.{spelled_in}
 use Rattle.type_rules.specs.Grown.{AreGrownClasses, AreGrownHeaders, IsGrownClass, IsGrownHeader, IsGrownOver, IsNewInitialiser}
@@ -85,10 +85,8 @@ each_file (first ∷ folder) (suc class) file all is = each_file folder class fi
 module _ (laws : HaveLaws) (r : Rewriting) (files : List ClassFile) (w : IsFolderWritten r files) (tree : IsTree r.classes) (one : HaveOne r)
     (ready : (at : MethodAt) (written : WrittenMethod) → w.written at ≡ Some written → IsReadyHost r at written)
     (free : (class : ℕ) (file : ClassFile) (method : RunMethod) → slice_get r.classes.folder class ≡ Some file
-        → w.s.added class ≡ method ∷ []
-        → declared init (r.constructor (header_of file).name) (header_of file).methods ≡ None)
-    (carries : (at : MethodAt) (flat : FlatCode) → IsExpanded r.classes r.typed at flat → CarriesConstants r.classes flat)
-    (well : IsWellWritten r files w) where
+    → w.s.added class ≡ method ∷ []
+    → declared init (r.constructor (header_of file).name) (header_of file).methods ≡ None) where
   -- ---- initialisers that are added
 
   fresh_one : (class : ℕ) (file also : ClassFile) (method : Method) (pool : Constants) (grown : Constants)
@@ -129,7 +127,7 @@ module _ (laws : HaveLaws) (r : Rewriting) (files : List ClassFile) (w : IsFolde
 
   -- ---- classes that have grown
 
-  class_grown : (class : ℕ) (file also : ClassFile) → slice_get r.classes.folder class ≡ Some file → IsClassWritten r w.written w.s class file also
+  pub class_grown : (class : ℕ) (file also : ClassFile) → slice_get r.classes.folder class ≡ Some file → IsClassWritten r w.written w.s class file also
       → IsGrownClass file also
   class_grown class file also there is = class_has_grown r w.written w.s class file also (added_new class file also there) is
 
@@ -175,28 +173,37 @@ module _ (laws : HaveLaws) (r : Rewriting) (files : List ClassFile) (w : IsFolde
 
   -- ---- the whole
 
-  pub folder_known : IsKnown r files w
-  folder_known = record {
-    same = laws.compares;
-    one = one;
-    in_order = tree.in_order;
-    folder = λ class file there. each_file r.classes.folder class file tree.folder there;
-    headers = headers_grown;
-    grown = class_grown;
-    own = laws.header;
-    method = λ file also number method is grows got.
-        laws.method (headers_of r.classes) (headers_of (with_folder r.classes files)) file also number method r.links headers_grown is grows got;
-    calls = λ scope now opcode reference headers own. laws.calls scope now r.links opcode reference headers own;
-    runs = λ file also is grows scope now locals instr fits over. laws.runs scope now file also locals instr r.links (λ to. to) is grows fits over;
-    starts = laws.starts;
-    handles = class_handles;
-    host = λ at v is. let found = hosted at v is in ap (λ (f : FlatCode). f.host) found.expanded.is ∙ found.expanded.own;
-    emitted = well.emitted;
-    means = λ at v is. laws.means (spelled_in v.one.form) v.items v.laid (well.emitted at v is) is.is.framed.laid;
-    sorts = λ at v is.
-        let known = ready at v.one (w.rewritten.all at v is) in
-        sorts_are (plan_scope r.classes r.links v.one) known.scope known.code (carries at v.one.flat (hosted at v is).expanded) v.one.form v.one.routes;
-    constructor = well.constructors;
-  } where
-    hosted : (at : MethodAt) (v : Rewritten) → IsRewrittenAt r at v → IsRewrittenHost r at v.one
-    hosted at v is = rewritten_host r files w at v.one (w.rewritten.all at v is)
+  module _ (carries : (at : MethodAt) (flat : FlatCode) → IsExpanded r.classes r.typed at flat → CarriesConstants r.classes flat)
+      (constructs : (class : ℕ) (file also : ClassFile) (method : Method) (pool : Constants) → slice_get r.classes.folder class ≡ Some file
+      → IsClassWritten r w.written w.s class file also
+      → IsMade r w.written (header_of file).name
+      → IsPoolBefore r class file (length file.methods) pool
+      → grow 65535 pool (constructor_method_needs (headers_of r.classes) r.constructor (header_of file).name) ≡ Some also.pool
+      → IsConstructorMethod (headers_of r.classes) r.constructor (header_of file).name also.pool method
+      → run_method_of r.links (headers_of (with_folder r.classes files)) also method ≡ constructor_method r.classes r.links r.constructor file)
+      (well : IsWellWritten r files w) where
+    pub folder_known : IsKnown r files w
+    folder_known = record {
+      same = laws.compares;
+      one = one;
+      in_order = tree.in_order;
+      folder = λ class file there. each_file r.classes.folder class file tree.folder there;
+      headers = headers_grown;
+      grown = class_grown;
+      own = laws.header;
+      method = λ file also number method is grows got.
+          laws.method (headers_of r.classes) (headers_of (with_folder r.classes files)) file also number method r.links headers_grown is grows got;
+      calls = λ scope now opcode reference headers own. laws.calls scope now r.links opcode reference headers own;
+      runs = λ file also is grows scope now locals instr fits over. laws.runs scope now file also locals instr r.links (λ to. to) is grows fits over;
+      starts = laws.starts;
+      handles = class_handles;
+      host = λ at v is. let found = hosted at v is in ap (λ (f : FlatCode). f.host) found.expanded.is ∙ found.expanded.own;
+      emitted = well.emitted;
+      means = λ at v is. laws.means (spelled_in v.one.form) v.items v.laid (well.emitted at v is) is.is.framed.laid;
+      sorts = λ at v is.
+          let known = ready at v.one (w.rewritten.all at v is) in
+          sorts_are (plan_scope r.classes r.links v.one) known.scope known.code (carries at v.one.flat (hosted at v is).expanded) v.one.form v.one.routes;
+      constructor = constructs;
+    } where
+      hosted : (at : MethodAt) (v : Rewritten) → IsRewrittenAt r at v → IsRewrittenHost r at v.one
+      hosted at v is = rewritten_host r files w at v.one (w.rewritten.all at v is)

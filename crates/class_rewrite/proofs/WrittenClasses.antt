@@ -25,14 +25,16 @@ use Rattle.class_rewrite.specs.Laws.OneFolder.{kept_or_rewritten}
 use Rattle.class_rewrite.specs.Laws.OneWriting.{HaveOne}
 use Rattle.class_rewrite.specs.Laws.WrittenGrown.{added_begins}
 use Rattle.class_rewrite.specs.Optimised.{with_folder}
-use Rattle.class_rewrite.specs.Rewriting.Folders.{AddsMethods, AreClassesWritten, AreMethodsWritten, IsClassWritten, IsFolderWritten, IsMethodWritten, IsPoolBefore, IsRewrittenAt, adds_none, adds_one, field_written, is_kept, is_rewritten, with_part}
+use Rattle.class_rewrite.specs.Rewriting.Folders.{AddsMethods, AreClassesWritten, AreMethodsWritten, IsClassWritten, IsFolderWritten, IsMade, IsMethodWritten, IsPoolBefore, IsRewrittenAt, adds_none, adds_one, field_written, is_kept, is_rewritten, with_part}
 use Rattle.class_rewrite.specs.Rewriting.Methods.{Rewriting, Rewritten}
 use Rattle.class_tree.specs.Alike.{AreFieldsAlike}
 use Rattle.class_tree.specs.Headers.{Headers, IsClassFile, headers_of}
 use Rattle.class_tree.specs.Trees.{IsInOrder}
 use Rattle.code_layout.specs.EmittedCode.{HasCodeOf}
 use Rattle.code_layout.specs.Emitting.{IsEmitted}
+use Rattle.making_code.specs.Constants.{grow}
 use Rattle.making_code.specs.ConstructorCode.{IsConstructorMethod}
+use Rattle.making_code.specs.FieldConstructor.{constructor_method_needs}
 use Rattle.making_code.specs.Items.{WItem}
 use Rattle.making_code.specs.Laws.GrownPools.{Begins, begins_itself, begins_through}
 use Rattle.member_link.specs.Machine.Classes.{handles_in, program_of, run_class_of, run_method_of, starts_from}
@@ -120,8 +122,11 @@ pub record IsKnown (r : Rewriting) (files : List ClassFile) (w : IsFolderWritten
       → AllByRecursion (λ (one : WItem). Sort (plan_scope r.classes r.links v.one) one.instr)
       (written_items v.one.form (finished_of r.classes r.links v.one))
   -- field constructors
-  pub constructor : (class : ℕ) (file also : ClassFile) (method : Method) → slice_get r.classes.folder class ≡ Some file
+  pub constructor : (class : ℕ) (file also : ClassFile) (method : Method) (pool : Constants) → slice_get r.classes.folder class ≡ Some file
       → IsClassWritten r w.written w.s class file also
+      → IsMade r w.written (header_of file).name
+      → IsPoolBefore r class file (length file.methods) pool
+      → grow 65535 pool (constructor_method_needs (headers_of r.classes) r.constructor (header_of file).name) ≡ Some also.pool
       → IsConstructorMethod (headers_of r.classes) r.constructor (header_of file).name also.pool method
       → run_method_of r.links (headers_of (with_folder r.classes files)) also method ≡ constructor_method r.classes r.links r.constructor file
 
@@ -257,11 +262,13 @@ module _ {r : Rewriting} {files : List ClassFile} {w : IsFolderWritten r files} 
 
     -- ---- what is added
 
-    added_written : {pool last : Constants} (added : List Method) → AddsMethods r w.written file pool last added → last ≡ also.pool
+    added_written : {pool last : Constants} (added : List Method) → IsPoolBefore r class file (length file.methods) pool
+        → AddsMethods r w.written file pool last added
+        → last ≡ also.pool
         → map runs_now added ≡ w.s.added class
-    added_written _ (adds_none none) same = sym (w.no_more class file there none)
-    added_written _ (adds_one {method = method} made grown_is is_method) same =
-        ap (λ (m : RunMethod). m ∷ []) (known.constructor class file also method there is
+    added_written _ first (adds_none none) same = sym (w.no_more class file there none)
+    added_written {pool = pool} _ first (adds_one {method = method} made grown_is is_method) same =
+        ap (λ (m : RunMethod). m ∷ []) (known.constructor class file also method pool there is made first (grown_is ∙ ap Some same)
         (subst (λ (p : Constants). IsConstructorMethod before r.constructor (header_of file).name p method) same is_method))
         ∙ sym (made_is_added r files w known.in_order class file there made)
 
@@ -274,7 +281,7 @@ module _ {r : Rewriting} {files : List ClassFile} {w : IsFolderWritten r files} 
         ∙ ap (λ (front : List RunMethod). front ++ map runs_now is.added)
         (methods_written zero file.methods is.methods is.are_methods (λ number method got. got) refl)
         ∙ ap (λ (back : List RunMethod). map_numbered (method_replaced w.s class) zero (map ran file.methods) ++ back)
-        (added_written is.added is.adds (sym pool_is))
+        (added_written is.added is.before_constructors is.adds (sym pool_is))
 
     header_fields : (header_of also).fields ≡ map_numbered (field_cleared w.s class) zero (header_of file).fields
     header_fields =

@@ -151,10 +151,10 @@ module _ (same : Compares) {classes : Classes} {links : Links} {s : PlanScope} {
     (given : IsGiven classes links s constructor form blocks file also method after part old grown items laid)
     (attrs : List Attr) (before : CodePart)
     (calls : (scope now : RowScope) (opcode : ℕ) (r : Reference) → AreGrownHeaders scope.headers now.headers → IsGrownHeader scope.own now.own
-        → call_op links now opcode r ≡ call_op links scope opcode r)
+    → call_op links now opcode r ≡ call_op links scope opcode r)
     (runs : (scope now : RowScope) (locals : ℕ) (instr : Instr) → OperandFits file.pool file.major locals instr
-        → IsGrownOver scope now file.pool also.pool
-        → instr_op links (λ to. to) now instr ≡ instr_op links (λ to. to) scope instr) where
+    → IsGrownOver scope now file.pool also.pool
+    → instr_op links (λ to. to) now instr ≡ instr_op links (λ to. to) scope instr) where
   -- the method as it was, and as it is written
   abbrev pub host_before : Scope
   host_before = record { headers = headers_of classes; class = file; method = method; part = before }

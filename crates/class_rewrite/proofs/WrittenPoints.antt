@@ -170,9 +170,9 @@ module _ (s : PlanScope) (constructor : Name → List ℕ) (host : Scope) (now :
     (first : constant_at now.pool 0 ≡ None)
     (calls : (opcode : ℕ) (r : Reference) → call_op s.links now opcode r ≡ call_op s.links (row_scope host) opcode r)
     (own_runs : (file : ClassFile) (instr : Instr) (locals : ℕ) → slice_get s.classes.folder s.flat.host.class ≡ Some file
-        → OperandFits file.pool file.major locals instr
-        → instr_op s.links (λ number. number) now instr
-        ≡ instr_op s.links (λ number. number) (record (row_scope host) { pool = pool_of s s.flat.host.class }) instr) where
+    → OperandFits file.pool file.major locals instr
+    → instr_op s.links (λ number. number) now instr
+    ≡ instr_op s.links (λ number. number) (record (row_scope host) { pool = pool_of s s.flat.host.class }) instr) where
   abbrev At : List ℕ → WInstr → Type 0
   At numbers instr =
       instr_op s.links (λ number. number) now (jumping_to numbers (indexed_instr s constructor now.pool instr))

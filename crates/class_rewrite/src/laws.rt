@@ -33,8 +33,9 @@ ghost use Rattle.type_rules.specs.Verified.{TypesFolder};
 
 use class_tree::classes_of_a_tree_are_a_hierarchy;
 use expanded_runs::{
-    an_expanded_flat_code_carries_constants, an_expanded_flat_code_is_ready, an_expanded_flat_code_is_typed,
-    expanded_flat_codes_have_a_replacement, expanded_flat_codes_run_equally,
+    an_expanded_flat_code_carries_constants, an_expanded_flat_code_is_ready,
+    an_expanded_flat_code_is_typed, expanded_flat_codes_have_a_replacement,
+    expanded_flat_codes_run_equally,
 };
 use inline_expand::a_method_has_one_expanded_flat_code;
 use machine_laws::{running_the_same_composes, running_the_same_is_reflexive};
@@ -144,6 +145,8 @@ pub fn a_written_folder_runs_as_its_folder()
     plan_flow::flat_code_has_one_least_plan();
     plan_flow::effect_grows();
     class_model::constants_compare_by_value();
+    class_model::parameters_of_bytes_are_spelled();
+    written_files::a_field_constructor_runs_its_instructions();
     type_rules::a_grown_class_has_a_grown_header();
     type_rules::a_grown_class_keeps_its_instructions();
     type_rules::a_grown_class_keeps_its_code();

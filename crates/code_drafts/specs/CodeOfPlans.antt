@@ -1,29 +1,26 @@
 -- What holds of the code that is written by a plan, in the short form. It is this project's profile.
-use Rattle.std.specs.Prelude.{◌≡◌, ◌++◌, ℕ, length, List, Option, Some, None, if◌then◌else◌}
+use Rattle.std.specs.Prelude.{◌≡◌, ◌++◌, ℕ, List, Some}
 use Rattle.std.specs.List.{AllByRecursion}
 use Rattle.class_model.specs.Pool.{Constants}
-use Rattle.class_model.specs.declared.instr.Instr.{Instr}
 use Rattle.class_tree.specs.Headers.{Name}
 use Rattle.code_layout.specs.Emitting.{IsEmitted}
 use Rattle.code_layout.specs.PlainItems.{plain_items}
-use Rattle.code_layout.specs.WideForm.{width}
 use Rattle.code_layout.specs.declared.emitted.EmitItem.{EmitItem}
 use Rattle.code_drafts.specs.FlatForms.{AreFormed}
 use Rattle.code_drafts.specs.ItemPlaces.{NameNews, enters_of, item_places, objects_of, site_places_of}
 use Rattle.making_code.specs.CountedItems.{enters_in, site_news}
 use Rattle.making_code.specs.Constants.{Need, grow}
 use Rattle.making_code.specs.IndexedItems.{IndexedItem}
-use Rattle.making_code.specs.Items.{WInstr, WItem, carried, plain}
 use Rattle.making_code.specs.Laws.GrownPools.{Begins}
-use Rattle.making_code.specs.Opposites.{opposite_instr}
 use Rattle.plan_flow.specs.PlanScope.{PlanScope, pool_of}
 use Rattle.plan_flow.specs.Plans.{IsValid, Plan}
 use Rattle.plan_flow.specs.Written.Blocks.{blocks_of}
 use Rattle.plan_flow.specs.Written.Finish.{Finished, finish}
 use Rattle.plan_flow.specs.Written.Places.{places_of}
 use Rattle.plan_flow.specs.Written.Routes.{IsRouted, Routes}
-use Rattle.plan_flow.specs.Written.WrittenCode.{short, widened, written_items}
-use Rattle.plan_flow.specs.Written.WrittenConstants.{code_needs, indexed_items, is_near}
+use Rattle.plan_flow.specs.Written.WrittenCode.{short, written_items}
+use Rattle.plan_flow.specs.Written.WrittenConstants.{code_needs, indexed_items}
+use Rattle.written_frames.specs.WideItems.{GoesWide}
 
 abbrev pub finished_blocks : PlanScope → Routes → List Finished
 finished_blocks s routes = finish s.flat (blocks_of s routes)
@@ -49,23 +46,15 @@ AreItemsEmitted =
 
 -- ---- the wide form
 
--- the opposite of a conditional jump
-abbrev pub opposite_of : WInstr → Option Instr
-opposite_of (carried class instr) = opposite_instr instr
-opposite_of (plain instr) = opposite_instr instr
-opposite_of other = None
-
--- An item is as many in the wide form as the one that is emitted for it: a conditional jump of the flat code is over a goto there, and the one
--- inside a test for null is not.
-abbrev pub KeepsWidth : WItem → Type 0
-KeepsWidth one =
-    width (if is_near one.targets then None else opposite_of one.instr) ≡ length (widened one)
-
--- Each item of a plan's code does.
-abbrev pub KeepWidths : Type 0
-KeepWidths =
-    (s : PlanScope) (routes : Routes)
-    → AllByRecursion KeepsWidth (written_items short (finished_blocks s routes))
+-- A valid plan's items are such that the code that is made wide item by item is the definition's.
+abbrev pub GoAllWide : Type 0
+GoAllWide =
+    (s : PlanScope) (constructor : Name → List ℕ) (pool : Constants) (plan : Plan) (routes : Routes)
+    → AreFormed s.flat
+    → IsValid s plan
+    → IsRouted s plan routes
+    → AllByRecursion (GoesWide s constructor pool (finished_blocks s routes))
+    (written_items short (finished_blocks s routes))
 
 -- ---- what is made and entered
 

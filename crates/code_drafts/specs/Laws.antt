@@ -12,8 +12,10 @@ pub mod PlacedBlocks
 pub mod CarriedItems
 pub mod IndexedPlaces
 pub mod CountedPlaces
+pub mod QuietJumps
 pub mod WideWidths
 pub mod EmittedParts
 pub mod KeptCounts
 pub mod LedRoutes
 pub mod SitesInside
+pub mod WideReady

@@ -1,5 +1,5 @@
 //! Laws of written code: functions that do nothing, whose contracts say what always holds.
-ghost use Rattle.code_drafts.specs.CodeOfPlans.{AreEntersCounted, AreItemPlaces, AreItemsEmitted, AreNewsCounted, KeepWidths};
+ghost use Rattle.code_drafts.specs.CodeOfPlans.{AreEntersCounted, AreItemPlaces, AreItemsEmitted, AreNewsCounted, GoAllWide};
 
 /// The items that are written by a valid plan are emitted code, where each instruction of the flat code has its form: there is an
 /// item, targets and handlers are numbers of items, and the jump inside a test against null stands over the two that it leads over.
@@ -17,8 +17,9 @@ pub fn code_of_a_plan_makes_what_the_plan_says()
     class_model::constants_compare_by_value();
 }
 
-/// In the wide form each written item is as many as the one that is emitted for it: a conditional jump of the flat code is two, and every other
-/// item is one.
-pub fn items_of_a_plan_keep_their_widths()
-    ensures { KeepWidths }
+/// The items that are written by a valid plan are such that the code that is made wide item by item is the definition's, where each
+/// instruction of the flat code has its form: each is as many items as the definition's, leads to blocks, and a conditional jump has no
+/// handler.
+pub fn items_of_a_plan_go_wide()
+    ensures { GoAllWide }
 {}

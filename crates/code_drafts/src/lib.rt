@@ -25,7 +25,7 @@ pub use edges::{edges_are_led, effect_at, state_on};
 pub use kept::KeptItems;
 pub use laws::{
     code_of_a_plan_makes_what_the_plan_says, items_of_a_plan_are_emitted_code,
-    items_of_a_plan_keep_their_widths,
+    items_of_a_plan_go_wide,
 };
 pub use placing::{Numbered, number_items};
 pub use setting::Setting;

@@ -1,5 +1,5 @@
 -- Blocks that are written, one behind the other, with the constants that they need.
-use Rattle.std.proofs.Common.{◌≡◌, ◌++◌, ◌+◌, ◌-◌, ℕ, List, [], ◌∷◌, length, refl, sym, ap, subst, ◌∙◌, append_assoc, append-nil, arith}
+use Rattle.std.proofs.Common.{◌≡◌, ◌++◌, ◌-◌, ℕ, List, [], ◌∷◌, length, refl, sym, ap, subst, ◌∙◌, append_assoc, append-nil, arith}
 use Rattle.std.proofs.lemmas.Grind.{flat_map-append}
 use Rattle.std.proofs.lemmas.List.{length-append}
 use Rattle.class_tree.specs.Headers.{Name}
@@ -10,7 +10,6 @@ use Rattle.code_drafts.specs.Laws.EmittedParts.{needs_both}
 use Rattle.materialise.specs.Laws.GrownEdits.{full_first, full_then, grows_both, grows_none}
 use Rattle.code_drafts.specs.Laws.KeptCounts.{as_long, too_many_stay}
 use Rattle.code_drafts.specs.declared.draft.DraftBlock.{DraftBlock}
-use Rattle.code_drafts.specs.declared.draft.DraftItem.{DraftItem}
 use Rattle.code_emit.specs.Inner.DraftedBlocks.{AreKept, Writes, WritesTo}
 use Rattle.code_emit.specs.declared.drafts.Drafts.{Drafts}
 use Rattle.flow_code.specs.declared.reason.Reason.{Reason}

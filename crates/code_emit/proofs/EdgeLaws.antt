@@ -1,22 +1,21 @@
 -- Make code on the edges of a point, and before its instruction.
-use Rattle.std.proofs.Common.{◌≡◌, ◌==◌, ℕ, zero, suc, Bool, true, false, List, [], ◌∷◌, length, Option, Some, None, option_and_then, option_map, refl, sym, ap, subst, ◌∙◌, arith}
+use Rattle.std.proofs.Common.{◌≡◌, ◌==◌, ℕ, true, List, [], ◌∷◌, length, Option, Some, None, option_and_then, option_map, refl, sym, ap, subst, ◌∙◌, arith}
 use Rattle.std.specs.List.{find}
 use Rattle.std.proofs.lemmas.Bool.{eqb-true}
 use Rattle.std.proofs.lemmas.Option.{none-some, same_Some}
-use Rattle.class_tree.specs.Headers.{Name, headers_of}
+use Rattle.class_tree.specs.Headers.{headers_of}
 use Rattle.code_drafts.specs.Drafts.{all_items}
 use Rattle.code_drafts.specs.Emits.{Emits, Kept, Writing}
-use Rattle.code_drafts.specs.Laws.LedRoutes.{AreFound, FoundBy, IsRouteBy, none_found, one_found, route_by, route_edge_by}
+use Rattle.code_drafts.specs.Laws.LedRoutes.{AreFound, none_found, one_found, route_by, route_edge_by}
 use Rattle.code_drafts.specs.LedEdges.{IsStateOn, planned_edge}
-use Rattle.code_drafts.specs.Writable.{AreMeant, IsRouteAt, IsWritable, making_on, scope}
+use Rattle.code_drafts.specs.Writable.{IsRouteAt, IsWritable, making_on, scope}
 use Rattle.code_emit.proofs.MadeLaws.{no_making}
 use Rattle.code_emit.specs.Inner.DraftedBlocks.{Writes}
 use Rattle.code_emit.specs.Inner.MadeBlocks.{IsFullBlock, WritesMade}
 use Rattle.code_emit.specs.Inner.MadeItems.{EmitsMaking, IsFullMaking}
 use Rattle.code_emit.specs.Inner.PointBlocks.{before_blocks, onward_blocks}
-use Rattle.code_emit.specs.Inner.ReachedPoints.{AreBlocksFull, AreFullAt, EmitsAt, IsReached, WritesAt}
+use Rattle.code_emit.specs.Inner.ReachedPoints.{AreBlocksFull, AreFullAt, EmitsAt, WritesAt}
 use Rattle.code_emit.specs.declared.drafts.Drafts.{Drafts}
-use Rattle.flow_code.specs.declared.point.Point.{Point}
 use Rattle.flow_code.specs.declared.reason.Reason.{Reason}
 use Rattle.making_code.specs.Items.{WItem}
 use Rattle.making_code.specs.MakeOrder.{IsMakeOrder}
@@ -27,7 +26,7 @@ use Rattle.plan_flow.specs.PlanEdges.{made_edge_meant}
 use Rattle.plan_flow.specs.PlanScope.{PlanScope}
 use Rattle.plan_flow.specs.Plans.{MadeEdge, Plan, PlannedPoint, planned}
 use Rattle.plan_flow.specs.Written.Blocks.{Block, before_point, make_block, next_block, on_next_edge}
-use Rattle.plan_flow.specs.Written.Routes.{IsEdgeRoute, Route, RouteEdge, edge_by, is_kind}
+use Rattle.plan_flow.specs.Written.Routes.{Route, RouteEdge, edge_by, is_kind}
 use Rattle.plan_flow.specs.Written.WrittenConstants.{code_needs}
 use Rattle.plan_flow.specs.declared.edge.Edge.{Edge}
 use Rattle.plan_flow.specs.declared.edge.EdgeKind.{EdgeKind}

@@ -1,43 +1,40 @@
 -- Blocks that were written are emitted code once their items have numbers.
-use Rattle.std.proofs.Common.{◌≡◌, ◌+◌, ◌<◌, ◌≤◌, ℕ, Bool, true, false, List, [], ◌∷◌, ◌++◌, length, map, Option, Some, None, refl, sym, ap, subst, ◌∙◌, append-nil, inl, inr, arith}
+use Rattle.std.proofs.Common.{◌≡◌, ◌≤◌, ℕ, Bool, true, false, List, [], ◌∷◌, ◌++◌, length, map, Option, Some, None, refl, sym, ap, subst, ◌∙◌, append-nil, inl, inr, arith}
 use Rattle.std.proofs.lemmas.Bool.{true≢false}
 use Rattle.std.proofs.lemmas.List.{length-append}
 use Rattle.class_model.specs.Pool.{Constants}
-use Rattle.class_tree.specs.Headers.{Classes, Name, headers_of}
-use Rattle.code_drafts.specs.CodeOfPlans.{AreItemsEmitted, finished_blocks}
+use Rattle.class_tree.specs.Headers.{Name, headers_of}
+use Rattle.code_drafts.specs.CodeOfPlans.{AreItemsEmitted}
 use Rattle.code_drafts.specs.Counts.{AreCounted, AreItems, AreTooMany, table_entries}
 use Rattle.code_drafts.specs.Drafts.{AreDrafted, Keeps, all_items, keeps_all, keeps_none, meaning, meant}
 use Rattle.code_drafts.specs.Emits.{Writing}
 use Rattle.code_drafts.specs.Laws.EmittedParts.{needs_both}
-use Rattle.code_drafts.specs.Laws.KeptCounts.{entries_both, few_kept, too_many_stay}
-use Rattle.code_drafts.specs.Writable.{AreMeant, IsWritable, scope}
-use Rattle.code_drafts.specs.declared.draft.DraftBlock.{DraftBlock}
+use Rattle.code_drafts.specs.Laws.KeptCounts.{entries_both, few_kept}
+use Rattle.code_drafts.specs.Writable.{IsWritable, scope}
 use Rattle.code_drafts.specs.declared.draft.DraftItem.{DraftItem}
-use Rattle.code_emit.specs.EmittedCode.{CanEmit, IsEmittedCode, IsEmittedFor, IsKeptAs, IsKeptFor, IsMeantBy, StartsBlocks, emitted_items, past_pool, too_many}
-use Rattle.code_emit.specs.Inner.DraftedBlocks.{AreKept, Writes}
+use Rattle.code_emit.specs.EmittedCode.{CanEmit, IsEmittedFor, IsKeptAs, IsKeptFor, IsMeantBy, StartsBlocks, emitted_items, past_pool, too_many}
+use Rattle.code_emit.specs.Inner.DraftedBlocks.{AreKept}
 use Rattle.code_emit.specs.Inner.NumberedBlocks.{ArePlaced, AreTooLong}
 use Rattle.code_emit.specs.Inner.PassBlocks.{AreAllFull, WritesAll, all_blocks}
 use Rattle.code_emit.specs.declared.drafts.Drafts.{Drafts}
 use Rattle.code_layout.specs.Emitting.{IsEmitted}
-use Rattle.code_layout.specs.PlainItems.{plain_items}
 use Rattle.code_layout.specs.declared.emitted.EmitItem.{EmitItem}
 use Rattle.flow_code.specs.FlatCode.{FlatCode}
 use Rattle.flow_code.specs.declared.reason.Reason.{Reason}
 use Rattle.flow_code.specs.declared.reason.Reason.TheVariants as reasons
 use Rattle.making_code.specs.Constants.{Need, grow}
 use Rattle.making_code.specs.Items.{WItem}
-use Rattle.materialise.specs.Growing.{Grows, IsFull}
+use Rattle.materialise.specs.Growing.{Grows}
 use Rattle.materialise.specs.Laws.DescribedConstructors.{descriptors, descriptors_describe}
 use Rattle.member_link.specs.Machine.Links.{AreLinksOf}
 use Rattle.member_link.specs.Machine.Programs.{Links}
 use Rattle.plan_flow.specs.Laws.SomeRouting.{some_routing}
-use Rattle.plan_flow.specs.PlanScope.{PlanScope, scope_of}
-use Rattle.plan_flow.specs.Plans.{Plan}
+use Rattle.plan_flow.specs.PlanScope.{PlanScope}
 use Rattle.plan_flow.specs.Written.Blocks.{Block, blocks_of}
-use Rattle.plan_flow.specs.Written.Finish.{End, Finished, end_items, end_of, finish, finished_items, goto_end, no_end, nop_end}
+use Rattle.plan_flow.specs.Written.Finish.{End, end_items, end_of, finish, goto_end, no_end, nop_end}
 use Rattle.plan_flow.specs.Written.Routes.{Routes}
 use Rattle.plan_flow.specs.Written.WrittenCode.{short, written_items}
-use Rattle.plan_flow.specs.Written.WrittenConstants.{code_needs, indexed_items}
+use Rattle.plan_flow.specs.Written.WrittenConstants.{code_needs}
 use Rattle.pool_edit.specs.Edits.{Edit, grown}
 use Rattle.written_frames.specs.declared.starts.BlockStart.{BlockStart}
 

@@ -1,5 +1,5 @@
 -- What is written of an instruction, put together.
-use Rattle.std.proofs.Common.{◌≡◌, ◌++◌, ℕ, List, [], ◌∷◌, map, Option, Some, None, option_map, refl, sym, ap, subst, ◌∙◌, append-nil}
+use Rattle.std.proofs.Common.{◌≡◌, ◌++◌, ℕ, List, [], map, Option, Some, None, option_map, refl, sym, ap, subst, ◌∙◌, append-nil}
 use Rattle.std.proofs.lemmas.List.{map-append}
 use Rattle.std.proofs.lemmas.Option.{none-some}
 use Rattle.class_model.specs.declared.frame.Frame.{Frame}
@@ -15,7 +15,6 @@ use Rattle.code_drafts.specs.declared.template.Template.{Template}
 use Rattle.code_drafts.specs.declared.template.Template.TheVariants as variants
 use Rattle.code_emit.specs.Inner.ReachedPoints.{AreFullAt, EmitsAt, IsReached, ItemsOf, own_items, rest_of}
 use Rattle.flow_code.specs.FlatCode.{FlatCode, point_at}
-use Rattle.flow_code.specs.declared.point.FlatInstr.{FlatInstr}
 use Rattle.flow_code.specs.declared.point.FlatInstr.TheVariants.{Of, NullTest}
 use Rattle.flow_code.specs.declared.point.Point.{Point}
 use Rattle.flow_code.specs.declared.reason.Reason.{Reason}
@@ -24,7 +23,6 @@ use Rattle.materialise.specs.Growing.{IsFull}
 use Rattle.member_link.specs.Machine.Links.{AreLinksOf}
 use Rattle.member_link.specs.Machine.Programs.{Links}
 use Rattle.plan_flow.specs.PlanScope.{PlanScope}
-use Rattle.plan_flow.specs.Written.Blocks.{state_written}
 use Rattle.plan_flow.specs.Written.Routes.{Route, RouteEdge, edge_by}
 use Rattle.plan_flow.specs.Written.Templates.{as_it_is, items_at, made_on_jump, template}
 use Rattle.plan_flow.specs.Written.WrittenConstants.{code_needs}

@@ -1,5 +1,5 @@
 -- Make code as items: its instructions are of no class of the folder, and there is none without a site.
-use Rattle.std.proofs.Common.{◌≡◌, ◌++◌, ℕ, zero, suc, Bool, true, false, List, [], ◌∷◌, map, slice_get, Option, Some, None, IsTrue, refl, sym, ap, subst, ◌∙◌, append-nil}
+use Rattle.std.proofs.Common.{◌≡◌, ◌++◌, ℕ, zero, suc, List, [], ◌∷◌, map, slice_get, Option, Some, None, refl, sym, ap, subst, ◌∙◌, append-nil}
 use Rattle.std.specs.List.{AllByRecursion, flat_map}
 use Rattle.std.proofs.lemmas.Bool.{false≢true}
 use Rattle.class_model.specs.Pool.{Constants}
@@ -9,19 +9,18 @@ use Rattle.class_model.specs.declared.instr.Instr.{Instr}
 use Rattle.class_model.specs.declared.instr.Instr.TheVariants.{Const, Enter, Shuffle}
 use Rattle.class_model.specs.declared.opcodes.TheConstants.{DUP}
 use Rattle.class_tree.specs.Headers.{Name}
-use Rattle.code_drafts.specs.Drafts.{Keeps, Meant, meant}
-use Rattle.code_drafts.specs.Emits.{Emits, Kept, Writing}
+use Rattle.code_drafts.specs.Drafts.{Meant, meant}
+use Rattle.code_drafts.specs.Emits.{Kept, Writing}
 use Rattle.code_drafts.specs.Laws.EmittedParts.{kept_later}
 use Rattle.code_drafts.specs.Laws.SimpleParts.{HoldsOfSimple, copied_locals_hold, copied_object_holds, each_holds, loaded_entry_holds, loaded_fields_hold, saves_hold}
 use Rattle.code_drafts.specs.Writable.{scope}
 use Rattle.code_emit.specs.Inner.MadeItems.{EmitsMaking, IsFullMaking, PutsInstrs, alone}
 use Rattle.flow_code.specs.FlatCode.{FlatCode, point_at}
-use Rattle.flow_code.specs.declared.point.Point.{Point}
 use Rattle.flow_code.specs.declared.point.Site.{Site}
 use Rattle.flow_code.specs.declared.reason.Reason.{Reason}
 use Rattle.making_code.specs.Constants.{Need}
 use Rattle.making_code.specs.IndexedMaking.{all_making_needs, made_instr, making_needs}
-use Rattle.making_code.specs.Items.{WInstr, WItem, constructs, item, makes, plain, store}
+use Rattle.making_code.specs.Items.{WInstr, constructs, item, makes, plain, store}
 use Rattle.making_code.specs.MakeCode.{Entry, copy_fields_from, copy_locals_from, copy_object, enters, entries_at, from_lowest, load_entry, load_fields_from, local_slots_in, make_code, make_one, save, saved}
 use Rattle.making_code.specs.MakeOrder.{IsMakeOrder, all_made, one_next}
 use Rattle.making_code.specs.Units.{object_unit}
@@ -30,7 +29,7 @@ use Rattle.materialise.specs.MadeCode.{DescribesConstructors, IsMakeCode}
 use Rattle.plan_flow.specs.Laws.WrittenBlocks.{holds_of_both}
 use Rattle.plan_flow.specs.PlanScope.{PlanScope}
 use Rattle.plan_flow.specs.Written.Blocks.{making}
-use Rattle.plan_flow.specs.Written.WrittenConstants.{code_needs, indexed_instr, instr_needs, item_needs}
+use Rattle.plan_flow.specs.Written.WrittenConstants.{code_needs, indexed_instr, instr_needs}
 use Rattle.pool_edit.specs.Edits.{Continues, Edit, grown}
 use Rattle.virtual_state.specs.States.{State, object_of}
 use Rattle.virtual_state.specs.declared.slot.Slot.{Slot}

@@ -5,12 +5,12 @@ use Rattle.std.proofs.lemmas.Bool.{cases_lt}
 use Rattle.std.proofs.lemmas.List.{drop_all}
 use Rattle.std.proofs.lemmas.Option.{none-some, same_Some, slice_get_within}
 use Rattle.class_model.specs.Laws.Lists.{drop_item, none_behind}
-use Rattle.class_tree.specs.Headers.{Name, headers_of}
+use Rattle.class_tree.specs.Headers.{Name}
 use Rattle.code_drafts.specs.Drafts.{all_items, kind_of}
 use Rattle.code_drafts.specs.Emits.{Writing}
 use Rattle.code_drafts.specs.Laws.LedRoutes.{AreBoth, AreFound, HasEdges, both_at, found_at, none_both, none_found, one_both, one_found, route_edges}
-use Rattle.code_drafts.specs.LedEdges.{AreLed, IsLed}
-use Rattle.code_drafts.specs.Writable.{IsLeftAt, IsRouteAt, IsWritable, scope}
+use Rattle.code_drafts.specs.LedEdges.{AreLed}
+use Rattle.code_drafts.specs.Writable.{IsLeftAt, IsWritable, scope}
 use Rattle.code_drafts.specs.declared.draft.BlockKind.{BlockKind}
 use Rattle.code_emit.proofs.DecidedLaws.{IsDecidedTest, decided_is}
 use Rattle.code_emit.proofs.DraftedLaws.{to_end, to_first, to_full, to_more, writes_none}
@@ -27,12 +27,11 @@ use Rattle.flow_code.specs.declared.reason.Reason.{Reason}
 use Rattle.making_code.specs.MakeOrder.{IsMakeOrder}
 use Rattle.materialise.specs.Growing.{IsFull}
 use Rattle.materialise.specs.MadeCode.{CanMake}
-use Rattle.member_link.specs.Machine.Links.{AreLinksOf}
 use Rattle.member_link.specs.Machine.Programs.{Links}
 use Rattle.plan_flow.specs.PlanEdges.{made_edge_meant}
 use Rattle.plan_flow.specs.PlanScope.{PlanScope}
 use Rattle.plan_flow.specs.Plans.{MadeEdge, Plan, PlannedPoint, planned}
-use Rattle.plan_flow.specs.Written.Blocks.{Block, handler_pad_of, is_decided, jump_pad_of, make_block}
+use Rattle.plan_flow.specs.Written.Blocks.{Block, is_decided, jump_pad_of, make_block}
 use Rattle.plan_flow.specs.Written.Routes.{AreEdgeRoutes, IsEdgeRoute, Route, RouteEdge}
 use Rattle.plan_flow.specs.Written.WrittenConstants.{code_needs}
 use Rattle.plan_flow.specs.declared.edge.Edge.{Edge}

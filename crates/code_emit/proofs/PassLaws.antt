@@ -7,18 +7,16 @@ use Rattle.class_tree.specs.Headers.{Name}
 use Rattle.code_drafts.specs.Drafts.{all_items}
 use Rattle.code_drafts.specs.Emits.{Writing}
 use Rattle.code_drafts.specs.Writable.{AreMeant, IsWritable, scope}
-use Rattle.code_emit.proofs.DraftedLaws.{first_full, then_full, to_end, to_first, to_full, to_more, writes_both, writes_none}
-use Rattle.code_emit.specs.Inner.DraftedBlocks.{Writes, WritesTo}
-use Rattle.code_emit.specs.Inner.PassBlocks.{AllBlocks, AreAllFull, IsUntouched, WritesAll, blocks_at, pass_blocks}
+use Rattle.code_emit.proofs.DraftedLaws.{first_full, then_full, to_end, to_first, to_full, to_more, writes_both}
+use Rattle.code_emit.specs.Inner.DraftedBlocks.{WritesTo}
+use Rattle.code_emit.specs.Inner.PassBlocks.{AllBlocks, AreAllFull, IsUntouched, WritesAll}
 use Rattle.code_emit.specs.Inner.ReachedPoints.{AreBlocksFull, BlocksOf, IsReached, WritesAt}
 use Rattle.code_emit.specs.declared.drafts.Drafts.{Drafts}
-use Rattle.code_emit.specs.declared.passes.Pass.{Pass}
-use Rattle.flow_code.specs.FlatCode.{FlatCode, point_at}
 use Rattle.flow_code.specs.declared.point.Point.{Point}
 use Rattle.flow_code.specs.declared.reason.Reason.{Reason}
 use Rattle.materialise.specs.Growing.{IsFull}
 use Rattle.member_link.specs.Machine.Programs.{Links}
-use Rattle.plan_flow.specs.Laws.RoutedPlans.{HasRoute, IsRouteOf, route_at, route_of}
+use Rattle.plan_flow.specs.Laws.RoutedPlans.{IsRouteOf, route_at, route_of}
 use Rattle.plan_flow.specs.PlanScope.{PlanScope}
 use Rattle.plan_flow.specs.Plans.{Plan, PlannedPoint, planned}
 use Rattle.plan_flow.specs.Written.Blocks.{Block, of_reached}

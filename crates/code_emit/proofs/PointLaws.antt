@@ -3,7 +3,7 @@ use Rattle.std.proofs.Common.{◌≡◌, ◌++◌, ◌-◌, ◌==◌, ℕ, true,
 use Rattle.std.proofs.lemmas.Bool.{true≢false}
 use Rattle.std.proofs.lemmas.Option.{none-some, same_Some}
 use Rattle.class_tree.specs.Headers.{Name, headers_of}
-use Rattle.code_drafts.specs.Drafts.{IsDrafted, all_items, kind_of}
+use Rattle.code_drafts.specs.Drafts.{kind_of}
 use Rattle.code_drafts.specs.Emits.{Emits, Kept, Writing}
 use Rattle.code_drafts.specs.Laws.LedRoutes.{left_is_written}
 use Rattle.code_drafts.specs.Writable.{IsLeftAt, IsRouteAt, scope}
@@ -22,12 +22,11 @@ use Rattle.flow_code.specs.FlatCode.{point_at}
 use Rattle.flow_code.specs.declared.point.Point.{Point}
 use Rattle.flow_code.specs.declared.reason.Reason.{Reason}
 use Rattle.making_code.specs.Items.{WItem}
-use Rattle.making_code.specs.MakeOrder.{IsMakeOrder}
 use Rattle.materialise.specs.Growing.{IsFull}
 use Rattle.member_link.specs.Machine.Links.{AreLinksOf}
 use Rattle.member_link.specs.Machine.Programs.{Links}
 use Rattle.plan_flow.specs.PlanScope.{PlanScope}
-use Rattle.plan_flow.specs.Plans.{PlannedPoint, planned, state_left}
+use Rattle.plan_flow.specs.Plans.{PlannedPoint, planned}
 use Rattle.plan_flow.specs.Written.Blocks.{Block, BlockOf, instruction_block, leaves_to, make_block, making}
 use Rattle.plan_flow.specs.Written.Routes.{Route}
 use Rattle.plan_flow.specs.Written.WrittenConstants.{code_needs}

@@ -3,7 +3,7 @@ use Rattle.std.proofs.Common.{◌≡◌, ◌++◌, ◌+◌, ◌-◌, ◌<◌, �
 use Rattle.class_model.specs.Pool.{Constants}
 use Rattle.class_model.specs.declared.instr.Instr.{Instr}
 use Rattle.class_tree.specs.Headers.{Name}
-use Rattle.code_drafts.specs.Drafts.{Keeps, Meant, meaning, meant}
+use Rattle.code_drafts.specs.Drafts.{Keeps, meaning, meant}
 use Rattle.code_drafts.specs.Emits.{Kept}
 use Rattle.code_drafts.specs.declared.draft.DraftCatch.{DraftCatch}
 use Rattle.code_drafts.specs.declared.draft.DraftItem.{DraftItem}

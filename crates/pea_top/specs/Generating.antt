@@ -50,19 +50,32 @@ counts_of (Some event) = (event.allocations, event.entries)
 abbrev pub last_counts : List Event → ℕ × ℕ
 last_counts events = counts_of (slice_get events (length events - 1))
 
--- How many methods were rewritten and kept, how many events the first run shows, and the counts of both runs at their last events.
-unfoldable pub generated_line : ℕ → ℕ → List Line → Shown → Shown → Bytes → Bytes
-generated_line number size report before after word =
+unfoldable pub draws_text : ℕ → ℕ → Bytes
+draws_text number size = codes "gen number=" ++ decimal number ++ codes " size=" ++ decimal size
+
+-- how many methods were rewritten and kept, and how many events the first run shows
+unfoldable pub methods_text : ℕ → ℕ → ℕ → Bytes
+methods_text changed kept events =
+    codes " rewritten=" ++ decimal changed ++ codes " kept=" ++ decimal kept
+    ++ codes " events=" ++ decimal events
+
+unfoldable pub counts_text : ℕ × ℕ → Bytes
+counts_text counts = codes "a=" ++ decimal counts.0 ++ codes " m=" ++ decimal counts.1
+
+-- of all these, and the counts of both runs
+abbrev pub numbers_line : ℕ → ℕ → ℕ × ℕ → ℕ → ℕ × ℕ → ℕ × ℕ → Bytes → Bytes
+numbers_line number size methods events before after word =
     line
-    (codes "gen number=" ++ decimal number ++ codes " size=" ++ decimal size
-    ++ codes " rewritten=" ++ decimal (rewritten_count report)
-    ++ codes " kept=" ++ decimal (length report - rewritten_count report)
-    ++ codes " events=" ++ decimal (length before.events)
-    ++ codes " before a=" ++ decimal (last_counts before.events).0
-    ++ codes " m=" ++ decimal (last_counts before.events).1
-    ++ codes " after a=" ++ decimal (last_counts after.events).0
-    ++ codes " m=" ++ decimal (last_counts after.events).1
+    (draws_text number size ++ methods_text methods.0 methods.1 events
+    ++ codes " before " ++ counts_text before ++ codes " after " ++ counts_text after
     ++ codes " " ++ word)
+
+-- the counts of each run are those at its last event
+abbrev pub generated_line : ℕ → ℕ → List Line → Shown → Shown → Bytes → Bytes
+generated_line number size report before after word =
+    numbers_line number size
+    (rewritten_count report, length report - rewritten_count report)
+    (length before.events) (last_counts before.events) (last_counts after.events) word
 
 -- ---- what is printed
 

@@ -3,7 +3,7 @@ ghost use Rattle.std.specs.Prelude.{◌≡◌, ◌≤◌, List, codes, IfOk};
 ghost use Rattle.std.specs.List.{AllByRecursion};
 ghost use Rattle.class_tree.specs.Headers.{IsClassFile};
 ghost use Rattle.machine_values.specs.declared.action.Action.{Action};
-ghost use Rattle.pea_top.specs.Generating.{IsGeneratedText, generated_line, last_counts};
+ghost use Rattle.pea_top.specs.Generating.{IsGeneratedText, counts_text, draws_text, generated_line, last_counts, methods_text, numbers_line};
 ghost use Rattle.pea_top.specs.Inner.Generating.{AreCountedAlike, AreRunsTold, IsBaseTree, VerifyWithBase};
 ghost use Rattle.script_text.specs.Scripts.{IsScript};
 ghost use Rattle.type_rules.specs.Verified.{IsVerified};
@@ -106,13 +106,67 @@ fn line_of(
         ≡ generated_line number size runs.now.report runs.now.before runs.now.after word.now) }
 {
     let changed = rewritten(&runs.report);
-    let kept = runs.report.len() - changed;
+    let methods = (changed, runs.report.len() - changed);
     let events = runs.before.events.len();
-    let (made, entered) = last_counts(&runs.before.events);
-    let (made_after, entered_after) = last_counts(&runs.after.events);
-    let text = format!(in alloc;
-        "gen number={number} size={size} rewritten={changed} kept={kept} events={events} before a={made} m={entered} after a={made_after} m={entered_after} {word}\n"
-    )?;
+    let before = last_counts(&runs.before.events);
+    let after = last_counts(&runs.after.events);
+    numbers_line(alloc, number, size, methods, events, before, after, word)
+}
+
+// The line of rewritten and kept methods, of so many events, of the counts of both runs, and of a last word.
+fn numbers_line(
+    alloc: Global,
+    number: u32,
+    size: u32,
+    methods: (usize, usize),
+    events: usize,
+    before: (u128, u64),
+    after: (u128, u64),
+    word: &str,
+) -> Result<Vec<u8>, NoMemory>
+    ensures { IfOk result (λ text.
+        text.items ≡ numbers_line number size methods events before after word.now) }
+{
+    let (changed, kept) = methods;
+    let mut line = draws_text(alloc, number, size)?;
+    line.extend_from_slice(methods_text(alloc, changed, kept, events)?.as_slice())?;
+    line.extend_from_slice(b" before ")?;
+    line.extend_from_slice(counts_text(alloc, before)?.as_slice())?;
+    line.extend_from_slice(b" after ")?;
+    line.extend_from_slice(counts_text(alloc, after)?.as_slice())?;
+    line.extend_from_slice(b" ")?;
+    line.extend_from_slice(word.as_bytes())?;
+    line.extend_from_slice(b"\n")?;
+    Ok(line)
+}
+
+// From which numbers the work was drawn.
+fn draws_text(alloc: Global, number: u32, size: u32) -> Result<Vec<u8>, NoMemory>
+    ensures { IfOk result (λ text. text.items ≡ draws_text number size) }
+{
+    let text = format!(in alloc; "gen number={number} size={size}")?;
+    Ok(text.into_bytes())
+}
+
+// How many methods were rewritten and kept, and how many events a run shows.
+fn methods_text(
+    alloc: Global,
+    changed: usize,
+    kept: usize,
+    events: usize,
+) -> Result<Vec<u8>, NoMemory>
+    ensures { IfOk result (λ text. text.items ≡ methods_text changed kept events) }
+{
+    let text = format!(in alloc; " rewritten={changed} kept={kept} events={events}")?;
+    Ok(text.into_bytes())
+}
+
+// The counts of allocations and of monitors entered.
+fn counts_text(alloc: Global, counts: (u128, u64)) -> Result<Vec<u8>, NoMemory>
+    ensures { IfOk result (λ text. text.items ≡ counts_text counts) }
+{
+    let (made, entered) = counts;
+    let text = format!(in alloc; "a={made} m={entered}")?;
     Ok(text.into_bytes())
 }
 

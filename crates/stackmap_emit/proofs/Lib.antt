@@ -10,3 +10,4 @@ pub mod WalkedItems
 pub mod PlacedItems
 pub mod PlacedForms
 pub mod TypedMethods
+pub mod WideForms

@@ -16,9 +16,9 @@ use Rattle.plan_flow.specs.PlanScope.{PlanScope}
 use Rattle.plan_flow.specs.Written.Finish.{Finished, finished_items}
 use Rattle.plan_flow.specs.Written.WrittenCode.{Form, block_items, jumping_to, short, target_number, wide, widened, written_items}
 use Rattle.plan_flow.specs.Written.WrittenConstants.{carried_instr, indexed_instr, indexed_item, indexed_items, is_near, with_index}
-use Rattle.stackmap_emit.specs.FramedItems.{KeepsWidth, opposite_of}
 use Rattle.stackmap_emit.specs.Inner.BlockTables.{AreStarts, form_number, renumbered, starts_in}
 use Rattle.written_frames.specs.BlockStarts.{block_starts, start_of_block}
+use Rattle.written_frames.specs.WideItems.{KeepsWidth, opposite_of}
 use Rattle.written_frames.specs.declared.starts.BlockStart.{BlockStart}
 
 -- ---- conditional jumps
@@ -175,7 +175,7 @@ place_number number end (item ∷ items) (suc index) inside is =
     place_number (number + width (jump_over item)) end items index (omega (arith, inside)) is
 
 -- behind some items
-place_behind : (number : ℕ) (items : List EmitItem) (count index : ℕ) → count ≤ length items
+pub place_behind : (number : ℕ) (items : List EmitItem) (count index : ℕ) → count ≤ length items
     → place_from number items (count + index) ≡ place_from (place_from number items count) (drop count items) index
 place_behind number items zero index inside = ap (place_from number items) (omega arith)
 place_behind number [] (suc count) index inside = absurd (omega (arith, inside))
@@ -185,25 +185,25 @@ place_behind number (item ∷ items) (suc count) index inside =
     ∙ place_behind (number + width (jump_over item)) items count index (omega (arith, inside))
 
 -- the items of a block
-abbrev wide_length : List WItem → ℕ
+abbrev pub wide_length : List WItem → ℕ
 wide_length written = length (flat_map widened written)
 
 wide_first : (one : WItem) (written : List WItem) → wide_length (one ∷ written) ≡ length (widened one) + wide_length written
 wide_first one written = length-append (widened one) (flat_map widened written)
 
-place_block : (number : ℕ) (items : List EmitItem) (left right : List WItem) → AreAsWide items (left ++ right)
+pub place_block : (number : ℕ) (items : List EmitItem) (left right : List WItem) → AreAsWide items (left ++ right)
     → place_from number items (length left) ≡ number + wide_length left
 place_block number items [] right are = omega arith
 place_block number [] (one ∷ left) right are = absurd are
 place_block number (item ∷ items) (one ∷ left) right are =
     place_block (number + width (jump_over item)) items left right are.1 ∙ omega (arith, are.0, wide_first one left)
 
-left_as_wide : (items : List EmitItem) (left right : List WItem) → AreAsWide items (left ++ right) → AreAsWide (drop (length left) items) right
+pub left_as_wide : (items : List EmitItem) (left right : List WItem) → AreAsWide items (left ++ right) → AreAsWide (drop (length left) items) right
 left_as_wide items [] right are = are
 left_as_wide [] (one ∷ left) right are = absurd are
 left_as_wide (item ∷ items) (one ∷ left) right are = left_as_wide items left right are.1
 
-as_many : (items : List EmitItem) (written : List WItem) → AreAsWide items written → length items ≡ length written
+pub as_many : (items : List EmitItem) (written : List WItem) → AreAsWide items written → length items ≡ length written
 as_many [] [] are = refl
 as_many [] (one ∷ written) are = absurd are
 as_many (item ∷ items) [] are = absurd are

@@ -1,23 +1,19 @@
 -- The frames of written code as they are placed: what they are made from, and what they are. It is this project's profile.
 --
 -- There is one list of frames at most that written code has, and where the code is typed there is one (`IsFramed`). What is promised is promised of it.
-use Rattle.std.specs.Prelude.{◌≡◌, ℕ, length, min, slice_get, List, Option, Some, None, if◌then◌else◌}
+use Rattle.std.specs.Prelude.{◌≡◌, ℕ, min, slice_get, List, Option, Some, if◌then◌else◌}
 use Rattle.std.specs.List.{AllByRecursion}
 use Rattle.class_model.specs.Methods.{entry_of, home_of}
 use Rattle.class_model.specs.Pool.{Constants}
 use Rattle.class_model.specs.declared.frame.Frame.{Frame}
 use Rattle.class_model.specs.declared.frame.PlacedFrame.{PlacedFrame}
-use Rattle.class_model.specs.declared.instr.Instr.{Instr}
 use Rattle.class_tree.specs.Headers.{Name}
 use Rattle.code_layout.specs.ChosenForm.{chosen_items, is_short}
 use Rattle.code_layout.specs.Layout.{start_in}
 use Rattle.code_layout.specs.PlainItems.{plain_items}
-use Rattle.code_layout.specs.WideForm.{width}
 use Rattle.code_layout.specs.declared.emitted.EmitItem.{EmitItem}
 use Rattle.flow_code.specs.FlatCode.{FlatCode}
 use Rattle.flow_code.specs.WrittenUnits.{written_units}
-use Rattle.making_code.specs.Items.{WInstr, WItem, carried, plain}
-use Rattle.making_code.specs.Opposites.{opposite_instr}
 use Rattle.member_link.specs.Bodies.{Body}
 use Rattle.member_link.specs.Scope.{Scope}
 use Rattle.plan_flow.specs.PlanScope.{PlanScope}
@@ -25,11 +21,12 @@ use Rattle.plan_flow.specs.Written.Blocks.{blocks_of}
 use Rattle.plan_flow.specs.Written.Finish.{Finished, finish}
 use Rattle.plan_flow.specs.Written.FramedCode.{IsFramed, body_of_items, greatest_of, items_scope}
 use Rattle.plan_flow.specs.Written.Routes.{Routes}
-use Rattle.plan_flow.specs.Written.WrittenCode.{Form, short, wide, widened, written_items}
-use Rattle.plan_flow.specs.Written.WrittenConstants.{indexed_items, is_near}
+use Rattle.plan_flow.specs.Written.WrittenCode.{Form, short, wide, written_items}
+use Rattle.plan_flow.specs.Written.WrittenConstants.{indexed_items}
 use Rattle.row_frames.specs.Behind.{NamesTexts}
 use Rattle.stackmap_emit.specs.PlacedFrames.{placed_frames, stated_from}
 use Rattle.written_frames.specs.BlockStarts.{block_starts}
+use Rattle.written_frames.specs.WideItems.{KeepsWidth}
 use Rattle.written_frames.specs.declared.starts.BlockStart.{BlockStart}
 
 -- ---- from what
@@ -45,18 +42,6 @@ finished_by s routes = finish s.flat (blocks_of s routes)
 abbrev pub entry_with : Scope → FlatCode → Frame
 entry_with host flat = entry_of (home_of host.class) host.method
     (record host.part { max_locals = written_units flat })
-
--- the opposite of a conditional jump
-abbrev pub opposite_of : WInstr → Option Instr
-opposite_of (carried class instr) = opposite_instr instr
-opposite_of (plain instr) = opposite_instr instr
-opposite_of other = None
-
--- An item is as many in the wide form as the one that is emitted for it: a conditional jump of the flat code is over a goto there, and the one
--- inside a test for null is not.
-abbrev pub KeepsWidth : WItem → Type 0
-KeepsWidth one =
-    width (if is_near one.targets then None else opposite_of one.instr) ≡ length (widened one)
 
 -- Items that were emitted for a method by the routes of a plan, in a pool that has their constants, and the starts of their blocks; also in
 -- the form in which they are laid out.

@@ -5,3 +5,4 @@ pub mod TypedMethods
 pub mod Inner
 pub mod Laws
 pub mod FramedItems
+pub mod WideItems

@@ -26,7 +26,7 @@ assignable_to_itself headers (one ∷ ones) = (to_same one, assignable_to_itself
 pub same_types : (one other : VType) → comparison.eq one other ≡ true → one ≡ other
 same_types one other = search rules
 
-is_a_top : (type : VType) → is_top type ≡ true → type ≡ types.Top
+pub is_a_top : (type : VType) → is_top type ≡ true → type ≡ types.Top
 is_a_top types.Top is = refl
 is_a_top types.Int is = absurd (false≢true is)
 is_a_top types.Float is = absurd (false≢true is)

@@ -1,5 +1,5 @@
 -- Where the items of each block carry each frame with which the block can begin, all items hold, one block after the other.
-use Rattle.std.proofs.Common.{◌≡◌, ◌≢◌, ◌+◌, ◌<◌, ℕ, suc, Bool, true, false, List, [], ◌∷◌, ◌++◌, length, Option, Some, None, option_map, refl, sym, ap, subst, ◌∙◌, arith}
+use Rattle.std.proofs.Common.{◌≡◌, ◌≢◌, ◌+◌, ◌<◌, ℕ, suc, Bool, true, false, List, [], ◌∷◌, ◌++◌, length, Option, Some, None, option_map, refl, sym, ap, subst, ◌∙◌, inl, inr, arith}
 use Rattle.std.specs.List.{AllByRecursion}
 use Rattle.std.proofs.lemmas.Bool.{false≢true, true≢false}
 use Rattle.std.proofs.lemmas.List.{append_assoc, length-append}
@@ -290,31 +290,24 @@ hold_block w front behind one end number (item ∷ []) rest last begins inside s
 
 -- ---- all blocks
 
-abbrev pub ArriveAt : Writing → Option Frame → List Finished → Type 0
-ArriveAt w None behind = Unit {0}
-ArriveAt w (Some flow) [] = ⊥
-ArriveAt w (Some flow) (one ∷ behind) = FitsBefore w flow one
-
 arrives_next : (w : Writing) (flow : Option Frame) (one : Finished) (behind : List Finished)
     → GoesOn w one behind
-    → ArriveAt w flow (one ∷ behind)
-    → ArriveAt w flow behind
+    → GoesBehind w flow (one ∷ behind)
+    → GoesBehind w flow behind
 arrives_next w None one behind goes arrives = tt
-arrives_next w (Some flow) one behind goes arrives =
-    subst (ArriveAt w (Some flow)) (sym goes.is) (fits_next w flow one behind goes arrives)
+arrives_next w (Some flow) one behind goes (inl fits) =
+    subst (GoesBehind w (Some flow)) (sym goes.is) (inl (fits_next w flow one behind goes fits))
+arrives_next w (Some flow) one behind goes (inr more) = more.1
 
 arrives_at_one : (w : Writing) (flow : Option Frame) (one : Finished) (behind : List Finished)
-    → ArriveAt w flow (one ∷ behind)
+    → is_empty (block_items w.form one) ≡ false
+    → GoesBehind w flow (one ∷ behind)
     → Arrives w flow one
-arrives_at_one w None one behind arrives = tt
-arrives_at_one w (Some flow) one behind arrives = arrives
+arrives_at_one w None one behind some arrives = tt
+arrives_at_one w (Some flow) one behind some (inl fits) = fits
+arrives_at_one w (Some flow) one behind some (inr more) = absurd (false≢true (sym some ∙ more.0))
 
-goes_arrives : (w : Writing) (flow : Option Frame) (behind : List Finished) → GoesBehind w flow behind → ArriveAt w flow behind
-goes_arrives w None behind goes = tt
-goes_arrives w (Some flow) [] goes = goes
-goes_arrives w (Some flow) (one ∷ behind) goes = goes
-
-nothing_comes : (w : Writing) (flow : Option Frame) → ArriveAt w flow [] → flow ≡ None
+nothing_comes : (w : Writing) (flow : Option Frame) → GoesBehind w flow [] → flow ≡ None
 nothing_comes w None arrives = refl
 nothing_comes w (Some flow) arrives = absurd arrives
 
@@ -334,7 +327,7 @@ block_starts w front behind one is some =
 
 pub hold_all : (w : Writing) (all : AllCarry w) (behind front : List Finished)
     → w.blocks ≡ front ++ behind
-    → ArriveAt w (comes w (length (written_items w.form front))) behind
+    → GoesBehind w (comes w (length (written_items w.form front))) behind
     → HoldFrom w (length (written_items w.form front)) (written_items w.form behind)
 hold_all w all [] front is arrives = nothing_comes w _ arrives
 hold_all w all (one ∷ behind) front is arrives =
@@ -348,7 +341,7 @@ hold_all w all (one ∷ behind) front is arrives =
         omega (arith, apart, alone)
 
     by : (b : Bool) → is_empty (block_items w.form one) ≡ b
-        → (ArriveAt w (comes w (length (written_items w.form (front ++ (one ∷ []))))) behind
+        → (GoesBehind w (comes w (length (written_items w.form (front ++ (one ∷ []))))) behind
         → HoldFrom w (length (written_items w.form (front ++ (one ∷ [])))) (written_items w.form behind))
         → HoldFrom w (length (written_items w.form front)) (written_items w.form (one ∷ behind))
     by true none rest =
@@ -357,7 +350,7 @@ hold_all w all (one ∷ behind) front is arrives =
         let same : length (written_items w.form (front ++ (one ∷ []))) ≡ length (written_items w.form front) = omega (arith, long, count) in
         subst (HoldFrom w (length (written_items w.form front))) (ap (λ (xs : List WItem). xs ++ written_items w.form behind) (sym items))
         (subst (λ (n : ℕ). HoldFrom w n (written_items w.form behind)) same
-        (rest (subst (λ (n : ℕ). ArriveAt w (comes w n) behind) (sym same)
+        (rest (subst (λ (n : ℕ). GoesBehind w (comes w n) behind) (sym same)
         (arrives_next w _ one behind (all.empties front behind one is none) arrives))))
       where
         no_items_of : (items : List WItem) → is_empty items ≡ true → items ≡ []
@@ -366,16 +359,16 @@ hold_all w all (one ∷ behind) front is arrives =
     by false some rest =
         let number = length (written_items w.form front) in
         let begins = begins_with w number one (comes w number) (is_led_to (items_in w) number) refl (block_starts w front behind one is some)
-        (all.no_this front behind one is) (arrives_at_one w _ one behind arrives) in
+        (all.no_this front behind one is) (arrives_at_one w _ one behind some arrives) in
         let carried = all.carries front behind one begins.frame is begins.agrees (all.fresh front behind one begins.frame is begins.is_frame) in
         hold_block w front behind one (length (written_items w.form (front ++ (one ∷ [])))) number (block_items w.form one)
         (written_items w.form behind) carried.last begins
         (record { is = is; items = refl; number_is = omega arith }) some long carried.carries
         (λ next same flow. subst (λ (n : ℕ). HoldFrom w n (written_items w.form behind)) (sym same)
-        (rest (subst (λ (from : Option Frame). ArriveAt w from behind)
-        (sym (sym (ap (comes w) same) ∙ flow)) (goes_arrives w carried.last behind carried.goes))))
+        (rest (subst (λ (from : Option Frame). GoesBehind w from behind)
+        (sym (sym (ap (comes w) same) ∙ flow)) carried.goes)))
 
 -- all items of the code
 pub all_hold : (w : Writing) → AllCarry w → HoldFrom w 0 (written_items w.form w.blocks)
 all_hold w all =
-    hold_all w all w.blocks [] refl (subst (ArriveAt w (Some (entry_in w))) (sym all.begins.is) all.begins.fits)
+    hold_all w all w.blocks [] refl (subst (GoesBehind w (Some (entry_in w))) (sym all.begins.is) (inl all.begins.fits))

@@ -36,17 +36,17 @@ use Rattle.written_types.specs.FitsTypes.{FitsTypes, HasItsNew, IsReachedNew}
 -- ---- instructions
 
 -- control goes on, or there is no edge but to handlers
-going : (i : FlatInstr) → GoesOn i ⊎ ((falls_on i ≡ false) × (targets_at i ≡ []))
+pub going : (i : FlatInstr) → GoesOn i ⊎ ((falls_on i ≡ false) × (targets_at i ≡ []))
 going (Of class (Return kind)) = inr (refl, refl)
 going (Of class Throw) = inr (refl, refl)
 going (Of class instr) = inl tt
 going (NullTest local) = inl tt
 
-same_falls : (i : FlatInstr) → falls_on i ≡ item_falls_through (flat_item i)
+pub same_falls : (i : FlatInstr) → falls_on i ≡ item_falls_through (flat_item i)
 same_falls (Of class instr) = refl
 same_falls (NullTest local) = refl
 
-same_targets : (i : FlatInstr) → item_targets (flat_item i) ≡ targets_at i
+pub same_targets : (i : FlatInstr) → item_targets (flat_item i) ≡ targets_at i
 same_targets (Of class instr) = refl
 same_targets (NullTest local) = refl
 

@@ -107,17 +107,17 @@ module _ (s : PlanScope) (reached : ℕ → Bool) where
 
 -- ---- a store
 
-map_set : {A B : Type 0} (f : A → B) (items : List A) (n : ℕ) (item : A) → map f (slice_set items n item) ≡ slice_set (map f items) n (f item)
+pub map_set : {A B : Type 0} (f : A → B) (items : List A) (n : ℕ) (item : A) → map f (slice_set items n item) ≡ slice_set (map f items) n (f item)
 map_set f [] n item = refl
 map_set f (first ∷ items) zero item = refl
 map_set f (first ∷ items) (suc n) item = λ i. f first ∷ map_set f items n item i
 
 -- the units that a store cuts: none, or one that becomes Top
-data Cut (locals : List VType) : List VType → Type 0 where
+pub data Cut (locals : List VType) : List VType → Type 0 where
   no_cut : Cut locals locals
   one_cut : (at : ℕ) → Cut locals (slice_set locals at types.Top)
 
-cut_of : (at : ℕ) (locals : List VType) → Cut locals (cut_before at locals)
+pub cut_of : (at : ℕ) (locals : List VType) → Cut locals (cut_before at locals)
 cut_of zero locals = no_cut
 cut_of (suc at) locals = by (slice_get locals at) refl where
   by_width : (wide : Bool) → Cut locals (if wide then slice_set locals at types.Top else locals)

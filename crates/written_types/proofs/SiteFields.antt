@@ -94,7 +94,7 @@ module _ (headers : Headers) where
   types_of_descs (field ∷ fields) = λ i. type_of field.desc ∷ types_of_descs fields i
 
   -- the field of a number has the type of its descriptor
-  number_has_type : (class : Name) (field : Reference) (number : ℕ) → slot_number_in headers class field ≡ Some number
+  pub number_has_type : (class : Name) (field : Reference) (number : ℕ) → slot_number_in headers class field ≡ Some number
       → slice_get (field_types headers class) number ≡ Some (type_of field.desc)
   number_has_type class field number is =
       let first = first_passing (same_reference field) (slots_in headers class) number is in

@@ -105,7 +105,7 @@ read_top flat (types.Uninit at) = by (class_of_site flat.sites at) refl where
   by (Some class) some = rw some refl
 read_top flat type = refl
 
-read_width : (flat : FlatCode) (width : Width) (type : VType) → has_width width (read_type flat type) ≡ has_width width type
+pub read_width : (flat : FlatCode) (width : Width) (type : VType) → has_width width (read_type flat type) ≡ has_width width type
 read_width flat one type = λ i. not (read_wide flat type i) && not (read_top flat type i)
 read_width flat two type = read_wide flat type
 
@@ -115,12 +115,12 @@ read_widths flat [] (type ∷ stack) = refl
 read_widths flat (width ∷ widths) [] = refl
 read_widths flat (width ∷ widths) (type ∷ stack) = λ i. read_width flat width type i && read_widths flat widths stack i
 
-read_topmost : (flat : FlatCode) (count : ℕ) (stack : List VType) → topmost count (map (read_type flat) stack) ≡ map (read_type flat) (topmost count stack)
+pub read_topmost : (flat : FlatCode) (count : ℕ) (stack : List VType) → topmost count (map (read_type flat) stack) ≡ map (read_type flat) (topmost count stack)
 read_topmost flat count stack =
     ap (λ (n : ℕ). drop (n - count) (map (read_type flat) stack)) (length-map stack (read_type flat))
     ∙ drop-map (read_type flat) (length stack - count) stack
 
-read_form : (flat : FlatCode) (forms : List Form) (stack : List VType) → form_in forms (map (read_type flat) stack) ≡ form_in forms stack
+pub read_form : (flat : FlatCode) (forms : List Form) (stack : List VType) → form_in forms (map (read_type flat) stack) ≡ form_in forms stack
 read_form flat [] stack = refl
 read_form flat (first ∷ forms) stack =
     λ i. if (ap (have_widths first.takes) (read_topmost flat (length first.takes) stack)

@@ -56,7 +56,7 @@ item_of_taken (suc count) [] n item is = absurd (none-some item is)
 item_of_taken (suc count) (first ∷ items) zero item is = is
 item_of_taken (suc count) (first ∷ items) (suc n) item is = item_of_taken count items n item is
 
-item_of_dropped : {A : Type 0} (count : ℕ) (items : List A) (n : ℕ) → slice_get (drop count items) n ≡ slice_get items (count + n)
+pub item_of_dropped : {A : Type 0} (count : ℕ) (items : List A) (n : ℕ) → slice_get (drop count items) n ≡ slice_get items (count + n)
 item_of_dropped zero items n = ap (slice_get items) (omega arith)
 item_of_dropped (suc count) [] n = refl
 item_of_dropped (suc count) (first ∷ items) n =
@@ -137,7 +137,7 @@ module _ (s : PlanScope) (reached : ℕ → Bool) (f : Frame) (before : State) (
       (places_have s before does (rf.locals ++ rf.stack) whole rf.locals 0
       (λ n type is. subst (λ (m : ℕ). slice_get (rf.locals ++ rf.stack) m ≡ Some type) (omega arith) (item_before rf.locals rf.stack n type is)))
 
-  under_have : (does : Change) (count : ℕ)
+  pub under_have : (does : Change) (count : ℕ)
       → HaveTypes s (under count rf.stack) (slots_from s before does (held_from (length f.locals) (length f.stack - count)))
   under_have does count =
       subst (λ (n : ℕ). HaveTypes s (under count rf.stack) (slots_from s before does (held_from (length f.locals) n))) many

@@ -110,7 +110,7 @@ module _ (s : PlanScope) (reached : ℕ → Bool) where
   no_init_text None other = refl
   no_init_text (Some text) other = other
 
-  host_new : (scope : Scope) → is_init scope ≡ false → News (flat_entry scope s.flat).locals
+  pub host_new : (scope : Scope) → is_init scope ≡ false → News (flat_entry scope s.flat).locals
   host_new scope other =
       entry_new scope.method.flags (text_or_empty (utf8_at scope.class.pool scope.method.name)) (home_of scope.class).name
       (parameters_of (text_or_empty (utf8_at scope.class.pool scope.method.desc))) s.flat.locals

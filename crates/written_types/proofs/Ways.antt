@@ -1,5 +1,5 @@
 -- Along the ways that a valid plan leads each state fits the types: by induction on how a point is led to.
-use Rattle.std.proofs.Common.{◌≡◌, ◌+◌, ℕ, zero, suc, Bool, true, false, List, [], ◌∷◌, Option, Some, None, is_some, refl, sym, ap, subst, ◌∙◌, inl, slice_get, arith}
+use Rattle.std.proofs.Common.{◌≡◌, ◌+◌, ℕ, zero, suc, Bool, true, false, List, [], ◌∷◌, Option, Some, None, IsTrue, is_some, refl, sym, ap, subst, ◌∙◌, inl, slice_get, arith}
 use Rattle.std.specs.List.{AllByRecursion}
 use Rattle.std.specs.Option.{option_flatten}
 use Rattle.std.proofs.lemmas.Bool.{false≢true}
@@ -45,12 +45,12 @@ use Rattle.written_types.specs.FitsTypes.{FitsRoutes, FitsTypes, is_reached}
 -- ---- lists side by side
 
 -- an edge of a plan, with the state behind it
-record LedEdge (plan : Plan) (P : Edge → Type 0) (made : MadeEdge) : Type 0 where
-  edge : Edge
-  leads : LeadsTo plan edge made
-  has_it : P edge
+pub record LedEdge (plan : Plan) (P : Edge → Type 0) (made : MadeEdge) : Type 0 where
+  pub edge : Edge
+  pub leads : LeadsTo plan edge made
+  pub has_it : P edge
 
-led_edge : (plan : Plan) (P : Edge → Type 0) (edges : List Edge) (all : List MadeEdge) → AllLead plan edges all → AllByRecursion P edges
+pub led_edge : (plan : Plan) (P : Edge → Type 0) (edges : List Edge) (all : List MadeEdge) → AllLead plan edges all → AllByRecursion P edges
     → (number : ℕ) (made : MadeEdge) → slice_get all number ≡ Some made
     → LedEdge plan P made
 led_edge plan P [] [] lead have number made is = absurd (none-some made is)
@@ -116,7 +116,7 @@ route_of s first (Some point ∷ plan) (Some one ∷ routes) are (suc number) ro
     subst (λ (n : ℕ). RouteOf s n (slice_get plan number) route) (omega arith) (route_of s (suc first) plan routes are.1 number route is)
 
 -- a plan and its routes reach the same points
-same_reached : (s : PlanScope) (first : ℕ) (plan : Plan) (routes : Routes) → AreRoutes s first plan routes → (number : ℕ)
+pub same_reached : (s : PlanScope) (first : ℕ) (plan : Plan) (routes : Routes) → AreRoutes s first plan routes → (number : ℕ)
     → is_some (planned plan number) ≡ is_reached routes number
 same_reached s first [] [] are number = refl
 same_reached s first [] (one ∷ routes) are number = absurd are
@@ -137,9 +137,6 @@ module _ (classes : Classes) (links : Links) (scope : Scope) (flat : FlatCode) (
   abbrev s : PlanScope
   s = scope_of classes links flat
 
-  abbrev reached : ℕ → Bool
-  reached number = is_some (planned plan number)
-
   candidate_at : (number : ℕ) (site : Site) → slice_get flat.sites number ≡ Some site → IsSite classes flat site
   candidate_at number site is = all_at (IsSite classes flat) flat.sites number site candidates.sites is
 
@@ -148,7 +145,7 @@ module _ (classes : Classes) (links : Links) (scope : Scope) (flat : FlatCode) (
       let candidate = (candidate_at number site is).candidate in
       ap is_some (class_of_folder (headers_of classes) site.class candidate.header candidate.found)
 
-  sites : SitesKnown s
+  pub sites : SitesKnown s
   sites = record {
     hierarchy = hierarchy;
     links = are_links;
@@ -156,10 +153,10 @@ module _ (classes : Classes) (links : Links) (scope : Scope) (flat : FlatCode) (
     fields = λ number site is. (candidate_at number site is).fields;
   }
 
-  headers_are : scope.headers ≡ headers_of classes
+  pub headers_are : scope.headers ≡ headers_of classes
   headers_are = scope_headers classes flat.host scope ready.host
 
-  no_initialiser : is_init scope ≡ false
+  pub no_initialiser : is_init scope ≡ false
   no_initialiser = by (is_init scope) refl where
     by : (b : Bool) → is_init scope ≡ b → is_init scope ≡ false
     by true is = absurd (candidates.host (is_initialiser scope ready.host (inl is)))
@@ -178,53 +175,76 @@ module _ (classes : Classes) (links : Links) (scope : Scope) (flat : FlatCode) (
       → ⊥
   none_asked number point before must at position site is asks = false≢true (must.asked site (by_position at position site is asks))
 
-  point_known : (number : ℕ) (one : PlannedPoint) → planned plan number ≡ Some one → (point : Point) → point_at flat number ≡ Some point
+  -- by a test that each of the points has from which control comes
+  module _ (reached : ℕ → Bool) where
+    point_known_by : (number : ℕ) (one : PlannedPoint) → planned plan number ≡ Some one → IsTrue (reached number) → (point : Point)
+        → point_at flat number ≡ Some point
+        → PointKnown s reached scope number point (state_left one)
+    point_known_by number one is told point there = record {
+      typed = ready.typed.points number point there;
+      here = λ class index is_new. record {
+        point = point;
+        there = there;
+        class = class;
+        index = index;
+        is_new = is_new;
+        is_reached = told;
+      };
+      inits = calls_init point.instr (all_at (λ (p : Point). IsReadyItem classes flat.locals p.instr) flat.points number point ready.points there);
+      asks = none_asked number point (state_left one)
+          (subst (λ (found : Option Point). IsMustIn s number found (state_left one) []) there (valid.each number one is).asks_none);
+    }
+
+    edges_fit : (number : ℕ) (one : PlannedPoint) → planned plan number ≡ Some one → IsTrue (reached number)
+        → FitsTypes s reached number one.state
+        → (edges : List Edge)
+        → IsEffect s number (state_left one) edges
+        → AllByRecursion (λ (edge : Edge). FitsTypes s reached edge.to edge.state) edges
+    edges_fit number one is told fits edges effect =
+        effect_fits s reached scope sites headers_are number fits.point (state_left one) (made_fits (has one.made) (fits_point fits))
+        (point_known_by number one is told fits.point fits.there) edges effect
+
+    -- what holds before objects are made holds behind
+    above_fits : (at : ℕ) (state above : State) → IsBelow state above → FitsTypes s reached at state → FitsTypes s reached at above
+    above_fits at state above below fits =
+        subst (FitsTypes s reached at) (sym below.is) (fits_types (made_fits (has below.sites) (fits_point fits)))
+
+    -- the state of the first point
+    pub first_fits : (one : PlannedPoint) → planned plan 0 ≡ Some one → FitsTypes s reached 0 one.state
+    first_fits one is =
+        subst (FitsTypes s reached 0)
+        (sym valid.no_site ∙ ap (λ (p : PlannedPoint). p.state) (same_Some valid.start one (sym valid.is_start ∙ is)))
+        (start_fits s reached scope no_initialiser ready.typed.entry)
+
+    -- along an edge
+    pub next_fits : (from number : ℕ) (point : PlannedPoint) (made : MadeEdge) → planned plan from ≡ Some point → IsTrue (reached from)
+        → slice_get point.edges number ≡ Some made
+        → FitsTypes s reached from point.state
+        → (one : PlannedPoint)
+        → planned plan made.to ≡ Some one
+        → FitsTypes s reached made.to one.state
+    next_fits from number point made from_is told made_is fits one is =
+        let v = valid.each from point from_is in
+        let edge = led_edge plan (λ (edge : Edge). FitsTypes s reached edge.to edge.state) v.edges point.edges v.lead
+        (edges_fit from point from_is told fits v.edges v.effect) number made made_is in
+        let target : edge.leads.target ≡ one =
+        same_Some edge.leads.target one (sym edge.leads.reached ∙ ap (planned plan) (sym edge.leads.same_to) ∙ is) in
+        subst (λ (p : PlannedPoint). FitsTypes s reached made.to p.state) target
+        (subst (λ (to : ℕ). FitsTypes s reached to edge.leads.target.state) (sym edge.leads.same_to)
+        (above_fits edge.edge.to edge.edge.state edge.leads.target.state edge.leads.below edge.has_it))
+
+  abbrev reached : ℕ → Bool
+  reached number = is_some (planned plan number)
+
+  pub point_known : (number : ℕ) (one : PlannedPoint) → planned plan number ≡ Some one → (point : Point) → point_at flat number ≡ Some point
       → PointKnown s reached scope number point (state_left one)
-  point_known number one is point there = record {
-    typed = ready.typed.points number point there;
-    here = λ class index is_new. record {
-      point = point;
-      there = there;
-      class = class;
-      index = index;
-      is_new = is_new;
-      is_reached = ap is_some is;
-    };
-    inits = calls_init point.instr (all_at (λ (p : Point). IsReadyItem classes flat.locals p.instr) flat.points number point ready.points there);
-    asks = none_asked number point (state_left one)
-        (subst (λ (found : Option Point). IsMustIn s number found (state_left one) []) there (valid.each number one is).asks_none);
-  }
-
-  abbrev EdgeFitsTypes : Edge → Type 0
-  EdgeFitsTypes edge = FitsTypes s reached edge.to edge.state
-
-  edges_fit : (number : ℕ) (one : PlannedPoint) → planned plan number ≡ Some one → FitsTypes s reached number one.state → (edges : List Edge)
-      → IsEffect s number (state_left one) edges
-      → AllByRecursion EdgeFitsTypes edges
-  edges_fit number one is fits edges effect =
-      effect_fits s reached scope sites headers_are number fits.point (state_left one) (made_fits (has one.made) (fits_point fits))
-      (point_known number one is fits.point fits.there) edges effect
-
-  -- what holds before objects are made holds behind
-  above_fits : (at : ℕ) (state above : State) → IsBelow state above → FitsTypes s reached at state → FitsTypes s reached at above
-  above_fits at state above below fits =
-      subst (FitsTypes s reached at) (sym below.is) (fits_types (made_fits (has below.sites) (fits_point fits)))
+  point_known number one is point there = point_known_by reached number one is (ap is_some is) point there
 
   -- Each point that is led to, by the state with which it is planned.
   pub led_fits : (at : ℕ) → IsLedTo plan at → (one : PlannedPoint) → planned plan at ≡ Some one → FitsTypes s reached at one.state
-  led_fits _ at_start one is =
-      subst (FitsTypes s reached 0)
-      (sym valid.no_site ∙ ap (λ (p : PlannedPoint). p.state) (same_Some valid.start one (sym valid.is_start ∙ is)))
-      (start_fits s reached scope no_initialiser ready.typed.entry)
+  led_fits _ at_start one is = first_fits reached one is
   led_fits _ (over_edge from number point made led from_is made_is) one is =
-      let v = valid.each from point from_is in
-      let fits = led_fits from led point from_is in
-      let edge = led_edge plan EdgeFitsTypes v.edges point.edges v.lead (edges_fit from point from_is fits v.edges v.effect) number made made_is in
-      let target : edge.leads.target ≡ one =
-      same_Some edge.leads.target one (sym edge.leads.reached ∙ ap (planned plan) (sym edge.leads.same_to) ∙ is) in
-      subst (λ (p : PlannedPoint). FitsTypes s reached made.to p.state) target
-      (subst (λ (to : ℕ). FitsTypes s reached to edge.leads.target.state) (sym edge.leads.same_to)
-      (above_fits edge.edge.to edge.edge.state edge.leads.target.state edge.leads.below edge.has_it))
+      next_fits reached from number point made from_is (ap is_some from_is) made_is (led_fits from led point from_is) one is
 
   -- ---- routes
 
@@ -257,8 +277,9 @@ module _ (classes : Classes) (links : Links) (scope : Scope) (flat : FlatCode) (
       edges = λ at number route edge is edge_is.
           let of = route_at at route is in
           let planned_is = ap option_flatten of.is in
-          let one = routed_edge EdgeFitsTypes of.routed.effect of.point.edges route.edges of.routed.edges
-          (edges_fit at of.point planned_is (point_fits at of.point planned_is) of.routed.effect of.routed.is_effect) number edge edge_is in
+          let one = routed_edge (λ (edge : Edge). FitsTypes s reached edge.to edge.state) of.routed.effect of.point.edges route.edges of.routed.edges
+          (edges_fit reached at of.point planned_is (ap is_some planned_is) (point_fits at of.point planned_is) of.routed.effect
+          of.routed.is_effect) number edge edge_is in
           subst (λ (to : ℕ). FitsTypes s reached to edge.state) (sym one.same_to)
           (subst (FitsTypes s reached one.edge.to) (sym one.same_state) one.has_it);
     }

@@ -1,2 +1,3 @@
 pub mod FitsTypes
+pub mod Setting
 pub mod Writing

@@ -1,6 +1,6 @@
 -- Written code item by item: what flows into each item and which frame it has, and what it means that the items of a block carry each frame
 -- with which the block can begin to the block behind it. It is this project's profile.
-use Rattle.std.specs.Prelude.{◌≡◌, ◌≢◌, ◌⊎◌, ◌+◌, ◌≤◌, ◌<◌, ℕ, zero, suc, List, [], ◌∷◌, ◌++◌, length, slice_get, Option, Some, None}
+use Rattle.std.specs.Prelude.{◌≡◌, ◌≢◌, ◌⊎◌, ◌+◌, ◌≤◌, ◌<◌, ℕ, zero, suc, true, List, [], ◌∷◌, ◌++◌, length, slice_get, Option, Some, None}
 use Rattle.std.specs.List.{AllByRecursion}
 use Rattle.class_model.specs.Frames.{depth}
 use Rattle.class_model.specs.Pool.{Constants}
@@ -20,7 +20,7 @@ use Rattle.member_link.specs.Scope.{Scope}
 use Rattle.class_model.specs.Methods.{entry_of, home_of}
 use Rattle.flow_code.specs.WrittenUnits.{written_units}
 use Rattle.plan_flow.specs.PlanScope.{PlanScope}
-use Rattle.plan_flow.specs.Written.Finish.{Finished}
+use Rattle.plan_flow.specs.Written.Finish.{Finished, is_empty}
 use Rattle.plan_flow.specs.Written.FramedCode.{frame_by_item, frame_had, frame_of_item, is_led_to, item_body, items_scope, stated_by}
 use Rattle.plan_flow.specs.Written.WrittenCode.{Form, block_items, written_items}
 use Rattle.plan_flow.specs.Written.WrittenConstants.{indexed_item, indexed_items}
@@ -154,11 +154,13 @@ pub data Carries (w : Writing) : ℕ → List WItem → Frame → Option Frame �
       → flows_on (point_in w number one) frame ≡ None
       → Carries w number (one ∷ []) frame None
 
--- what comes out of a block fits the block behind it
+-- what comes out of a block fits the block behind it, or one behind that over blocks without items
 abbrev pub GoesBehind : Writing → Option Frame → List Finished → Type 0
 GoesBehind w None behind = Unit {0}
 GoesBehind w (Some frame) [] = ⊥
-GoesBehind w (Some frame) (next ∷ others) = FitsBefore w frame next
+GoesBehind w (Some frame) (next ∷ others) =
+    FitsBefore w frame next
+    ⊎ ((is_empty (block_items w.form next) ≡ true) × GoesBehind w (Some frame) others)
 
 -- the items of a block carry a frame to what is behind it
 pub record BlockCarries (w : Writing) (number : ℕ) (one : Finished) (behind : List Finished) (frame : Frame)

@@ -1,12 +1,12 @@
 -- The lines of a report by what becomes of methods. It is this project's profile.
-use Rattle.std.specs.Prelude.{◌≡◌, ◌≢◌, length}
+use Rattle.std.specs.Prelude.{◌≡◌, ◌≢◌, count_by, length}
 use Rattle.class_model.specs.declared.class_file.MethodAt.{MethodAt}
 use Rattle.class_rewrite.specs.Reports.{HasNoNumbers}
 use Rattle.class_rewrite.specs.Rewriting.Folders.{HasReasonAt, IsRewrittenAt}
 use Rattle.class_rewrite.specs.Rewriting.Methods.{Rewriting, Rewritten}
 use Rattle.class_rewrite.specs.declared.report.Line.{Line}
 use Rattle.flow_code.specs.declared.reason.Reason.TheVariants as reasons
-use Rattle.making_code.specs.CountedItems.{enters_in, site_news}
+use Rattle.making_code.specs.CountedItems.{is_enter, site_news}
 use Rattle.plan_flow.specs.Written.WrittenPrograms.{items_of}
 
 -- The numbers of a method that is rewritten: the sites of its flat code, the objects of sites that written code makes, the monitors that it enters,
@@ -14,7 +14,7 @@ use Rattle.plan_flow.specs.Written.WrittenPrograms.{items_of}
 pub record HasNumbers (r : Rewriting) (w : Rewritten) (line : Line) : Type 0 where
   pub sites : line.sites ≡ length w.one.flat.sites
   pub news : line.news ≡ site_news (items_of r.classes r.links w.one)
-  pub enters : line.enters ≡ enters_in w.items
+  pub enters : line.enters ≡ count_by (λ item. is_enter item.instr) w.items
   pub bytes : line.bytes ≡ length w.part.code
 
 pub record IsLineOf (r : Rewriting) (at : MethodAt) (line : Line) : Type 0 where

@@ -95,7 +95,7 @@ module _ (s : PlanScope) (plan : Plan) (routes : Routes) (valid : IsValid s plan
   abbrev written : List WItem
   written = written_items short (finished s routes)
 
-  done : Each (IsDone s routes) (finished s routes)
+  pub done : Each (IsDone s routes) (finished s routes)
   done = finished_done s routes (blocks_of s routes) (blocks_good s plan routes valid routed formed)
 
   starts_inside : (is_it : BlockOf → Bool)
@@ -105,7 +105,7 @@ module _ (s : PlanScope) (plan : Plan) (routes : Routes) (valid : IsValid s plan
       subst (λ (n : ℕ). n < length (written_items short (finished s routes))) (sym some.starts)
       (starts_within s routes (finished s routes) some.number some.block done some.is_there)
 
-  leads_inside : (number : ℕ) (target : WTarget) → LeadsSome s routes target
+  pub leads_inside : (number : ℕ) (target : WTarget) → LeadsSome s routes target
       → target_number short (finished s routes) number target < length (written_items short (finished s routes))
   leads_inside number (to_point to) leads = starts_inside _ leads
   leads_inside number (to_jump_pad at edge) leads = starts_inside _ leads

@@ -147,9 +147,9 @@ carries_constants laws one classes typed at flat types is =
     subst (CarriesConstants classes) (sym is.is) (λ number point class instr file there of_class is_file other.
     subst (IsCarried classes is.host.at.class) of_class
     (at_index (λ (x : Point). IsCarried classes is.host.at.class x.instr) (expanded is.host is.expansion).points number point carried there) file is_file other)
-    where
-      carried : AllByRecursion (λ (point : Point). IsCarried classes is.host.at.class point.instr) (expanded is.host is.expansion).points
-      carried =
-          points_carried laws one classes typed types is.host is.expansion
-          (subst (λ (a : MethodAt). HasFrames classes typed a is.host.scope is.host.frames) (sym is.own) is.is_host)
-          (subst (λ (a : MethodAt). Expands classes typed a [] a (instructions is.host.scope) is.expansion) (sym is.own) is.expands)
+  where
+    carried : AllByRecursion (λ (point : Point). IsCarried classes is.host.at.class point.instr) (expanded is.host is.expansion).points
+    carried =
+        points_carried laws one classes typed types is.host is.expansion
+        (subst (λ (a : MethodAt). HasFrames classes typed a is.host.scope is.host.frames) (sym is.own) is.is_host)
+        (subst (λ (a : MethodAt). Expands classes typed a [] a (instructions is.host.scope) is.expansion) (sym is.own) is.expands)

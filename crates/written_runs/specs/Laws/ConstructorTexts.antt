@@ -156,7 +156,7 @@ module _ (classes : Classes) (tree : IsTree classes) (reads : ReadsParameters) (
           (sym (append_assoc (replicate dimensions left_bracket) (boolean_letter ∷ []) (right_parenthesis ∷ void_letter ∷ [])))
           ∙ sym (append_assoc (flat_map (λ (field : Member). field.desc) fields) array (right_parenthesis ∷ void_letter ∷ []))
 
-    bytes : BytesSpell (constructor_descriptor (headers_of classes) name dimensions) spelled_as
+    pub bytes : BytesSpell (constructor_descriptor (headers_of classes) name dimensions) spelled_as
     bytes = record {
       params = all_named (types_of fields) (types_named fields described);
       units =

@@ -65,7 +65,7 @@ use Rattle.written_runs.specs.Laws.UpperSlots.{slot_number_is}
 -- ---- units of fields
 
 -- a class above has no more units of fields
-fewer_units : (headers : Headers) → IsHierarchy headers → (class : Name) (header : Header) → class_named headers class ≡ Some header
+pub fewer_units : (headers : Headers) → IsHierarchy headers → (class : Name) (header : Header) → class_named headers class ≡ Some header
     → (name : Name) → IsTrue (list_any (bytes_eq name) (superclasses headers class))
     → parameter_units (field_types headers name) ≤ parameter_units (field_types headers class)
 fewer_units headers hierarchy class header is =

@@ -1,42 +1,52 @@
-use Rattle.std.proofs.Common.{◌≡◌, ◌<◌, inl, inr, ℕ, List, [], ◌∷◌, length, slice_get, Some, None, refl, sym, subst}
+use Rattle.std.proofs.Common.{◌≡◌, ◌<◌, inl, inr, ℕ, List, [], ◌∷◌, length, slice_get, Some, None, refl, sym, ap, subst, arith, append-nil}
 use Rattle.class_model.specs.Header.{header_of}
+use Rattle.class_model.specs.Laws.Lists.{at_index}
+use Rattle.class_model.specs.MethodCode.{code_of}
 use Rattle.class_model.specs.Names.{init}
+use Rattle.class_model.specs.Pool.{Constants}
 use Rattle.class_model.specs.declared.class_file.ClassFile.{ClassFile}
+use Rattle.class_model.specs.declared.class_file.Method.{Method}
 use Rattle.class_model.specs.declared.class_file.MethodAt.{MethodAt}
 use Rattle.class_rewrite.proofs.SomeClasses.{none_or_some}
-use Rattle.class_rewrite.proofs.WholeFolders.{HaveLaws, folder_known, headers_grown}
+use Rattle.class_rewrite.proofs.MadeClasses.{above, described, described_above, few, fields_are, grow_count, is_above, pool_count}
+use Rattle.class_rewrite.proofs.WholeFolders.{HaveLaws, class_grown, folder_known, headers_grown}
 use Rattle.class_rewrite.proofs.WrittenClasses.{program_written}
 use Rattle.class_rewrite.proofs.WrittenFolders.{IsReadyHost, added_is_made, are_expanded, are_flats, flats_written, made_is_candidate, of_flat, ready_method, rewritten_host, sites_are_news}
 use Rattle.class_rewrite.proofs.laws.a_written_folder_runs_as_its_folder.Goals as goal
 use Rattle.class_rewrite.specs.Laws.MadeConstructors.{made_is_added}
 use Rattle.class_rewrite.specs.Laws.OneWriting.{HaveOne}
 use Rattle.class_rewrite.specs.Optimised.{with_folder}
-use Rattle.class_rewrite.specs.Rewriting.Folders.{IsFolderWritten}
+use Rattle.class_rewrite.specs.Rewriting.Folders.{IsClassWritten, IsFolderWritten, IsMade, IsPoolBefore}
 use Rattle.class_rewrite.specs.Rewriting.Methods.{Rewriting}
-use Rattle.class_tree.specs.Headers.{headers_of}
+use Rattle.class_tree.specs.Headers.{IsClassFile, headers_of}
 use Rattle.class_tree.specs.Hierarchy.{IsHierarchy}
 use Rattle.class_tree.specs.Trees.{IsTree}
 use Rattle.expanded_code.specs.ExpandAnswers.{IsExpanded}
 use Rattle.expanded_runs.specs.ByteCodes.{HaveByteCodes}
 use Rattle.expanded_runs.specs.CarriedConstants.{CarriesConstants}
 use Rattle.flow_code.specs.FlatCode.{FlatCode}
+use Rattle.making_code.specs.Constants.{grow}
+use Rattle.making_code.specs.ConstructorCode.{IsConstructorMethod}
+use Rattle.making_code.specs.FieldConstructor.{constructor_method_needs}
 use Rattle.member_link.specs.DeclaredMembers.{declared}
 use Rattle.member_link.specs.Linked.{IsLinked}
-use Rattle.member_link.specs.Machine.Classes.{program_of}
+use Rattle.member_link.specs.Machine.Classes.{program_of, run_method_of}
 use Rattle.member_link.specs.Machine.Links.{AreLinksOf}
 use Rattle.member_link.specs.Machine.Programs.{Program, RunMethod}
 use Rattle.member_link.specs.Machine.Replaced.{Replacement, replaced}
 use Rattle.member_link.specs.Machine.SameRuns.{SameRuns}
 use Rattle.member_link.specs.Scope.{scope_at}
-use Rattle.plan_flow.specs.Written.WrittenPrograms.{WrittenMethod}
+use Rattle.plan_flow.specs.Written.WrittenPrograms.{WrittenMethod, constructor_method}
 use Rattle.same_runs.specs.ClearedFields.{ReplacesByFlats}
 use Rattle.typed_flats.specs.FlatTypings.{AreReady, IsReadyFlat, flat_typings}
 use Rattle.typed_flats.specs.TypedReplacements.{all_typed_in}
+use Rattle.type_rules.specs.Grown.{AreGrownHeaders}
 use Rattle.type_rules.specs.Verified.{TypesFolder}
 use Rattle.typed_runs.specs.FolderTypings.{HasTypings}
 use Rattle.typed_runs.specs.TypedPrograms.{IsTypedProgram, Typings}
 use Rattle.written_runs.specs.Inner.Setup.{IsSetup, Setup}
 use Rattle.written_runs.specs.Laws.AddedConstructors.{AddsToCandidates, added_to, has_free}
+use Rattle.written_runs.specs.Laws.ConstructorTexts.{ReadsParameters}
 
 module _ (c : goal.After-programs_that_are_equal_run_equally) (r : Rewriting) (files : List ClassFile) (w : IsFolderWritten r files) (tree : IsTree r.classes)
     (bytes : HaveByteCodes r.classes) (linked : IsLinked r.classes) (types : TypesFolder r.classes r.typed) (are_links : AreLinksOf (headers_of r.classes) r.links)
@@ -146,6 +156,47 @@ module _ (c : goal.After-programs_that_are_equal_run_equally) (r : Rewriting) (f
   carries : (at : MethodAt) (flat : FlatCode) → IsExpanded r.classes r.typed at flat → CarriesConstants r.classes flat
   carries at flat is = c.an_expanded_flat_code_carries_constants.ensures r.classes r.typed at flat types is
 
+  reads : ReadsParameters
+  reads = record { parameters = c.parameters_of_bytes_are_spelled.ensures }
+
+  grown : AreGrownHeaders (headers_of r.classes) (headers_of (with_folder r.classes files))
+  grown = headers_grown laws r files w tree one ready free
+
+  -- a field constructor does what its instructions mean
+  constructs : (class : ℕ) (file also : ClassFile) (method : Method) (pool : Constants) → slice_get r.classes.folder class ≡ Some file
+      → IsClassWritten r w.written w.s class file also
+      → IsMade r w.written (header_of file).name
+      → IsPoolBefore r class file (length file.methods) pool
+      → grow 65535 pool (constructor_method_needs (headers_of r.classes) r.constructor (header_of file).name) ≡ Some also.pool
+      → IsConstructorMethod (headers_of r.classes) r.constructor (header_of file).name also.pool method
+      → run_method_of r.links (headers_of (with_folder r.classes files)) also method ≡ constructor_method r.classes r.links r.constructor file
+  constructs class file also method pool there is made first grows is_method =
+      let to = added_to u setup hierarchy adds class file there (made_is_added r files w tree.in_order class file there made) in
+      let up = above u setup hierarchy adds reads file to in
+      let short = pool_count r class file (length file.methods) pool first (to.room.constants file class there refl) in
+      c.a_field_constructor_runs_its_instructions.ensures r.classes r.links r.constructor file
+      (record { headers = headers_of (with_folder r.classes files); class = also; method = method; part = is_method.part })
+      (record {
+        is_class_file = at_index IsClassFile r.classes.folder class file tree.folder there;
+        class = class_grown laws r files w tree one ready free class file also there is;
+        above = up.0;
+        superclass = up.1;
+        is_above = is_above u setup hierarchy adds reads file to;
+        fields = fields_are u setup hierarchy adds reads file to;
+        few = few u setup hierarchy adds reads file to;
+        described = described u setup hierarchy adds reads file to;
+        described_above = described_above u setup hierarchy adds reads file to;
+        before = pool;
+        pool = also.pool;
+        grows = grows;
+        more = [];
+        has = sym (append-nil also.pool);
+        count = grow_count 65535 65535 _ pool also.pool grows (omega (arith, short)) (omega arith);
+        method = is_method;
+        code = ap code_of is_method.attrs;
+      })
+      grown
+
 pub returns-clause-codes : goal.returns-clause-codes
 returns-clause-codes c = λ r files w tree bytes linked types are_links.
     elim (none_or_some r.classes r.links w.s) [
@@ -157,12 +208,10 @@ pub returns-clause-folder : goal.returns-clause-folder
 returns-clause-folder c = λ r files w tree bytes linked types are_links some well.
     let known = folder_known (laws c r files w tree bytes linked types are_links some) r files w tree (one c r files w tree bytes linked types are_links some)
     (ready c r files w tree bytes linked types are_links some) (free c r files w tree bytes linked types are_links some)
-    (carries c r files w tree bytes linked types are_links some) well in
-    let grown = headers_grown (laws c r files w tree bytes linked types are_links some) r files w tree (one c r files w tree bytes linked types are_links some)
-    (ready c r files w tree bytes linked types are_links some) (free c r files w tree bytes linked types are_links some)
-    (carries c r files w tree bytes linked types are_links some) well in
+    (carries c r files w tree bytes linked types are_links some) (constructs c r files w tree bytes linked types are_links some) well in
     let after : AreLinksOf (headers_of (with_folder r.classes files)) r.links =
-    (c.grown_classes_have_the_same_links.ensures (headers_of r.classes) (headers_of (with_folder r.classes files)) r.links grown).0 are_links in
+    (c.grown_classes_have_the_same_links.ensures (headers_of r.classes) (headers_of (with_folder r.classes files)) r.links
+    (grown c r files w tree bytes linked types are_links some)).0 are_links in
     record {
       first = program_of r.classes r.links;
       is_first = record { links = r.links; are_links = are_links; same = refl };

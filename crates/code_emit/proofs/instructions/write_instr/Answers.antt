@@ -1,4 +1,3 @@
-use Rattle.std.proofs.Common.{ap, ◌∙◌}
 use Rattle.std.proofs.lemmas.Result.{on_ok_weaker}
 use Rattle.code_emit.proofs.InstructionLaws.{all_full, all_written}
 use Rattle.code_emit.proofs.instructions.write_instr.Goals as goal

@@ -1,4 +1,4 @@
-use Rattle.std.proofs.Common.{◌≡◌, ap, ◌∙◌}
+use Rattle.std.proofs.Common.{◌∙◌}
 use Rattle.std.proofs.lemmas.Result.{on_ok_weaker}
 use Rattle.code_drafts.specs.Laws.LedRoutes.{instr_is}
 use Rattle.code_emit.proofs.InstructionLaws.{test_full, test_written}

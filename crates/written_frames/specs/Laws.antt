@@ -1,0 +1,2 @@
+-- What follows of the definitions alone: a reader of the definitions may pass it over.
+pub mod Turnings

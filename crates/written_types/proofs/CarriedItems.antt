@@ -1,0 +1,113 @@
+-- Where the item of an instruction that is written as it is leads: to its targets and to its handlers.
+use Rattle.std.proofs.Common.{◌≡◌, ◌≢◌, ◌+◌, ◌++◌, ℕ, zero, suc, Bool, true, false, List, [], ◌∷◌, length, map, slice_get, Option, Some, None, if◌then◌else◌, refl, sym, ap, subst, ◌∙◌, arith}
+use Rattle.std.specs.List.{AllByRecursion}
+use Rattle.std.proofs.lemmas.List.{length-map}
+use Rattle.std.proofs.lemmas.Option.{none-some, same_Some}
+use Rattle.class_model.specs.Instructions.{targets}
+use Rattle.class_model.specs.declared.frame.Frame.{Frame}
+use Rattle.class_model.specs.declared.frame.VType.{VType}
+use Rattle.class_model.specs.declared.frame.VType.TheVariants as types
+use Rattle.class_model.specs.declared.instr.Instr.{Instr}
+use Rattle.class_tree.specs.Headers.{Name}
+use Rattle.flow_code.specs.FlatCode.{point_at}
+use Rattle.flow_code.specs.ReadTypes.{read_frame}
+use Rattle.flow_code.specs.declared.handlers.FlatHandler.{FlatHandler}
+use Rattle.flow_code.specs.declared.point.FlatInstr.TheVariants.{Of}
+use Rattle.flow_code.specs.declared.point.Point.{Point}
+use Rattle.making_code.specs.Items.{WCatch, WItem, to_handler_pad, to_point}
+use Rattle.member_link.specs.Bodies.{BodyCatch, catch_frame, caught_type, frame_behind}
+use Rattle.plan_flow.specs.Effect.{IsEffectIn}
+use Rattle.plan_flow.specs.Laws.OpenEdges.{jump_edge, next_edge}
+use Rattle.plan_flow.specs.Laws.RoutedPlans.{IsRouteOf}
+use Rattle.plan_flow.specs.Plans.{state_left}
+use Rattle.plan_flow.specs.Written.Blocks.{is_decided, state_written}
+use Rattle.plan_flow.specs.Written.FramedCode.{body_catch, caught_name, frame_by_item}
+use Rattle.plan_flow.specs.Written.Routes.{AreEdgeRoutes, Route, RouteEdge, edge_by}
+use Rattle.plan_flow.specs.Written.Templates.{catches_at, catches_from, jump_target, jump_targets, template, to_or_pad}
+use Rattle.plan_flow.specs.Written.WrittenCode.{jumping_to, short, target_number, written_items}
+use Rattle.plan_flow.specs.Written.WrittenConstants.{carried_instr, catch_index}
+use Rattle.plan_flow.specs.declared.edge.Edge.{Edge}
+use Rattle.plan_flow.specs.declared.edge.EdgeKind.TheVariants as edges
+use Rattle.same_runs.specs.FlatBodies.{caught_class}
+use Rattle.virtual_state.specs.States.{State}
+use Rattle.written_types.proofs.CarriedGuards.{opens_jump, opens_next}
+use Rattle.written_types.proofs.CarriedHolds.{behind_is, carried_item, fits_jump, index, row_holds, stands}
+use Rattle.written_types.proofs.CarriedWays.{goes_on, jumps_on, not_decided}
+use Rattle.written_types.proofs.CaughtNames.{IsCaught, caught_same}
+use Rattle.written_types.proofs.ChangedTypes.{new_item}
+use Rattle.written_types.proofs.Given.{EdgesFit, FitsState, Given, StandsFor, TargetsStand, frame_in_slots, written_along, written_before}
+use Rattle.written_types.proofs.ItemRows.{index_targets, jumping_targets}
+use Rattle.written_types.proofs.NewItems.{own_block}
+use Rattle.written_types.proofs.NewsApart.{ItemIn, first_of_block}
+use Rattle.written_types.proofs.Placing.{leads_in}
+use Rattle.written_types.proofs.PointFrames.{agrees_caught, rest_of}
+use Rattle.written_types.proofs.ReadyPoints.{FindsOne}
+use Rattle.written_types.proofs.RouteEdges.{planned_route, written_is}
+use Rattle.written_types.proofs.RowTable.{IsGoing}
+use Rattle.written_types.proofs.StandingFrames.{left_by_row}
+use Rattle.written_types.proofs.WrittenPool.{PoolLaws}
+use Rattle.written_types.proofs.WrittenTypes.{IsSteady}
+use Rattle.written_types.specs.FitsTypes.{is_reached}
+use Rattle.written_types.specs.Writing.{Agrees, ItemHolds, LeadsIn, Writing, point_in, scope_in}
+
+pub caught_steady : (class : Option Name) → IsSteady (caught_type class)
+caught_steady None = tt
+caught_steady (Some class) = tt
+
+pub targets_many : (at : ℕ) (route : Route) (from : ℕ) (all : List ℕ) → length (jump_targets at route from all) ≡ length all
+targets_many at route from [] = refl
+targets_many at route from (to ∷ others) = ap suc (targets_many at route (suc from) others)
+
+-- ---- handlers
+
+-- a frame at the handlers of a point, by which classes they catch
+module _ (w : Writing) (given : Given w) (fit : EdgesFit w given) (stand : TargetsStand w given) (at : ℕ) (point : Point) (route : Route)
+    (there : point_at w.s.flat at ≡ Some point) (is_route : slice_get given.setting.routes at ≡ Some (Some route)) (number : ℕ) (frame : Frame)
+    (caught : (from : ℕ) (handler : FlatHandler) → slice_get point.handlers from ≡ Some handler
+    → Agrees (record { locals = frame.locals; stack = caught_type (caught_class handler.catch_class) ∷ [] })
+    (frame_by_item w.form w.blocks (written_along w at point (state_written route) (edges.Handler from)))) where
+  -- what the items of handlers from a number on are
+  abbrev Lead : List WCatch → Type 0
+  Lead catches =
+      AllByRecursion (λ (catch : BodyCatch). LeadsIn w (Some (catch_frame frame catch.class)) catch.to)
+      (map (body_catch w.pool) (map (λ (catch : WCatch). (target_number w.form w.blocks number catch.to, catch_index w.pool catch.class)) catches))
+
+  handler_leads : (from : ℕ) (handler : FlatHandler) (edge : RouteEdge) → slice_get point.handlers from ≡ Some handler
+      → edge_by route (edges.Handler from) ≡ Some edge
+      → caught_name w.pool (catch_index w.pool handler.catch_class) ≡ caught_class handler.catch_class
+      → LeadsIn w (Some (catch_frame frame (caught_name w.pool (catch_index w.pool handler.catch_class))))
+      (target_number w.form w.blocks number (to_or_pad edge.made (to_point edge.to) (to_handler_pad at from)))
+  handler_leads from handler edge is found same =
+      subst (λ (class : Option Name). LeadsIn w (Some (catch_frame frame class))
+      (target_number w.form w.blocks number (to_or_pad edge.made (to_point edge.to) (to_handler_pad at from)))) (sym same)
+      (leads_in w (catch_frame frame (caught_class handler.catch_class))
+      (target_number w.form w.blocks number (to_or_pad edge.made (to_point edge.to) (to_handler_pad at from))) edge.to edge.state
+      (fit.along at point route (edges.Handler from) edge (catch_frame frame (caught_class handler.catch_class)) there is_route found
+      (caught from handler is))
+      (stand.handler at point route edge from there is_route found number))
+
+  pub handlers_lead : (from : ℕ) (handlers : List FlatHandler)
+      → ((n : ℕ) → slice_get handlers n ≡ slice_get point.handlers (from + n))
+      → AllByRecursion (λ (catch : WCatch). caught_name w.pool (catch_index w.pool catch.class) ≡ caught_class catch.class)
+      (catches_from at route from handlers)
+      → Lead (catches_from at route from handlers)
+  handlers_lead from [] part same = tt
+  handlers_lead from (handler ∷ handlers) part same =
+      by (edge_by route (edges.Handler from)) refl same (handlers_lead (suc from) handlers next) where
+        here : slice_get point.handlers from ≡ Some handler
+        here = let first : from ≡ from + 0 = omega arith in ap (slice_get point.handlers) first ∙ sym (part 0)
+
+        next : (n : ℕ) → slice_get handlers n ≡ slice_get point.handlers (suc from + n)
+        next n = let later : from + suc n ≡ suc from + n = omega arith in part (suc n) ∙ ap (slice_get point.handlers) later
+
+        by : (found : Option RouteEdge) → edge_by route (edges.Handler from) ≡ found
+            → AllByRecursion (λ (catch : WCatch). caught_name w.pool (catch_index w.pool catch.class) ≡ caught_class catch.class)
+            (catches_from at route from (handler ∷ handlers))
+            → (AllByRecursion (λ (catch : WCatch). caught_name w.pool (catch_index w.pool catch.class) ≡ caught_class catch.class)
+            (catches_from at route (suc from) handlers)
+            → Lead (catches_from at route (suc from) handlers))
+            → Lead (catches_from at route from (handler ∷ handlers))
+        by None is all rest = rw is (rest (rw is at all))
+        by (Some edge) is all rest =
+            let both = rw is at all in
+            rw is (handler_leads from handler edge here is both.0, rest both.1)
