@@ -1,4 +1,5 @@
 pub mod FieldConstructors
 pub mod GrownPools
+pub mod SoundCode
 pub mod SoundConstructors
 pub mod SoundNeeds

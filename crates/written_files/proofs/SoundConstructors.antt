@@ -155,7 +155,7 @@ no_parameters = record {
 
 -- ---- members
 
-constructor_text : (class : Name) (desc : List ℕ) → ClassSound class → IsModifiedUtf8 desc → ReturnsVoid desc → IsMemberText of_method class init desc
+pub constructor_text : (class : Name) (desc : List ℕ) → ClassSound class → IsModifiedUtf8 desc → ReturnsVoid desc → IsMemberText of_method class init desc
 constructor_text class desc is text void = record {
   class_text = is.text;
   is_class = is.is_name;

@@ -34,7 +34,7 @@ both_sound _ back (sound_number constant needs is rest) other =
 pub one_text : (text : List ℕ) → IsModifiedUtf8 text → AreSound (needs_text text)
 one_text text is = sound_text text [] is sound_none
 
-one_class : (name : Name) → IsModifiedUtf8 name → IsReferenceName name → AreSound (class_needs name)
+pub one_class : (name : Name) → IsModifiedUtf8 name → IsReferenceName name → AreSound (class_needs name)
 one_class name is is_name = subst AreSound (append-nil (class_needs name)) (sound_class name [] is is_name sound_none)
 
 pub one_member : (kind : MemberKind) (class : Name) (name desc : List ℕ) → IsMemberText kind class name desc

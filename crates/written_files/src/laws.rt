@@ -16,10 +16,13 @@ ghost use Rattle.class_tree.specs.Layouts.{instance_fields};
 ghost use Rattle.making_code.specs.Constants.{Need, grow, needs_at};
 ghost use Rattle.making_code.specs.ConstructorCode.{IsConstructorMethod};
 ghost use Rattle.making_code.specs.FieldConstructor.{constructor_method_needs};
+ghost use Rattle.making_code.specs.Items.{WItem};
 ghost use Rattle.member_link.specs.Machine.Classes.{run_method_of};
 ghost use Rattle.member_link.specs.Machine.Programs.{Links};
 ghost use Rattle.member_link.specs.References.{DescriptorNames, FieldTypeNames};
 ghost use Rattle.member_link.specs.Scope.{Scope};
+ghost use Rattle.plan_flow.specs.PlanScope.{PlanScope};
+ghost use Rattle.plan_flow.specs.Written.WrittenConstants.{code_needs};
 ghost use Rattle.plan_flow.specs.Written.WrittenPrograms.{constructor_method};
 ghost use Rattle.type_rules.specs.Grown.{AreGrownHeaders};
 ghost use Rattle.type_rules.specs.Typed.{Typed};
@@ -27,6 +30,7 @@ ghost use Rattle.written_files.specs.CheckedConstructors.{IsNewMethod};
 ghost use Rattle.written_files.specs.FieldConstructors.{IsConstructorIn, IsDescribed, constructor_member};
 ghost use Rattle.written_files.specs.GrownPools.{AddsChecked, AreSound};
 ghost use Rattle.written_files.specs.LinkedConstructors.{HasLinkedMembers, IsLinkedMethod};
+ghost use Rattle.written_files.specs.SoundCode.{IsSoundItem};
 ghost use Rattle.written_files.specs.SoundConstructors.{HasSoundTexts};
 
 use code_bytes::the_chosen_spelling_is_of_the_table;
@@ -139,4 +143,11 @@ pub fn what_a_field_constructor_needs_is_sound()
     ensures { (headers : Headers) (constructor : Name → List ℕ) (file : ClassFile)
         → HasSoundTexts headers constructor file
         → AreSound (constructor_method_needs headers constructor (header_of file).name) }
+{}
+
+/// What written code needs is well formed, where the pools that its instructions come from were checked.
+pub fn what_written_code_needs_is_sound()
+    ensures { (s : PlanScope) (constructor : Name → List ℕ) (items : List WItem)
+        → AllByRecursion (IsSoundItem s constructor) items
+        → AreSound (code_needs s constructor items) }
 {}

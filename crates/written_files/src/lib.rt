@@ -8,4 +8,5 @@ pub use laws::{
     a_field_constructor_names_classes_that_are_there, a_field_constructor_passes_its_checks,
     a_field_constructor_runs_its_instructions, a_grown_pool_passes,
     what_a_checked_pool_needs_is_sound, what_a_field_constructor_needs_is_sound,
+    what_written_code_needs_is_sound,
 };
