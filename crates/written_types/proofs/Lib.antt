@@ -119,3 +119,4 @@ mod DeepStacks
 mod EndingRows
 mod MakingConstants
 mod AvoidingWays
+mod WrittenEdges
