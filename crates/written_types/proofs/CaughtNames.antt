@@ -73,7 +73,7 @@ first_stays (first ∷ pool) more is = is
 -- ---- classes that are caught
 
 -- each of a list, with those before it and behind it
-all_split : {A : Type 0} (P : A → Type 0) (all front back : List A) → all ≡ front ++ back
+pub all_split : {A : Type 0} (P : A → Type 0) (all front back : List A) → all ≡ front ++ back
     → ((before behind : List A) (item : A) → all ≡ before ++ (item ∷ behind) → P item)
     → AllByRecursion P back
 all_split P all front [] is each = tt

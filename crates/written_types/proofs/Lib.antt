@@ -111,4 +111,15 @@ mod MakingStack
 mod MakingReload
 mod MakingCopies
 mod NewStarts
+mod MadeStates
+mod MakeCodes
+mod MakeWhole
+mod MadeBlocks
+mod Joined
 mod CarriedPoints
+mod CaughtTypes
+mod DeepStacks
+mod EndingRows
+mod MakingConstants
+mod AvoidingWays
+mod WrittenEdges

@@ -116,7 +116,7 @@ units_some type = by (is_wide type) refl where
 depth_one : (type : VType) → depth (type ∷ []) ≡ units_long type
 depth_one type = ap length (append-nil (units type))
 
-entry_no_top : (w : Writing) (type : VType) → is_top type ≡ false → entry_type w type ≢ types.Top
+pub entry_no_top : (w : Writing) (type : VType) → is_top type ≡ false → entry_type w type ≢ types.Top
 entry_no_top w types.Top apart e = absurd (false≢true (sym apart))
 entry_no_top w types.Int apart e = absurd cc
 entry_no_top w types.Float apart e = absurd cc

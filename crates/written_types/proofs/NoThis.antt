@@ -51,7 +51,7 @@ all_not_this : (form : Form) (blocks : List Finished) (all : List VType) → All
 all_not_this form blocks [] none = tt
 all_not_this form blocks (type ∷ all) none = (by_item_not_this form blocks type none.0, all_not_this form blocks all none.1)
 
-new_not_this : (s : PlanScope) (reached : ℕ → Bool) (type : VType) → HasItsNew s reached type → NotThis type
+pub new_not_this : (s : PlanScope) (reached : ℕ → Bool) (type : VType) → HasItsNew s reached type → NotThis type
 new_not_this s reached types.UninitThis new = absurd new
 new_not_this s reached (types.Uninit at) new = λ e. absurd cc
 new_not_this s reached (types.Object name) new = λ e. absurd cc

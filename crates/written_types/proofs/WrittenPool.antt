@@ -6,7 +6,9 @@ use Rattle.std.proofs.lemmas.Bool.{eqb-true, eq-eqb}
 use Rattle.std.proofs.lemmas.List.{append_assoc}
 use Rattle.std.proofs.lemmas.Option.{none-some, same_Some}
 use Rattle.class_model.specs.Pool.{Constants, constant_at}
+use Rattle.class_model.specs.Names.{init}
 use Rattle.class_model.specs.PoolChecks.{class_at}
+use Rattle.class_model.specs.declared.pool.Const.TheVariants.{Class, Methodref, NameAndType, Utf8}
 use Rattle.class_model.specs.declared.class_file.ClassFile.{ClassFile}
 use Rattle.class_model.specs.MethodCode.{code_of}
 use Rattle.class_model.specs.declared.class_file.CodePart.{CodePart}
@@ -14,10 +16,11 @@ use Rattle.class_model.specs.declared.class_file.Method.{Method}
 use Rattle.class_model.specs.declared.class_file.MethodAt.{MethodAt}
 use Rattle.class_model.specs.declared.instr.Instr.{Instr}
 use Rattle.class_tree.specs.Headers.{Classes, Headers, Name, headers_of}
-use Rattle.making_code.specs.Constants.{Need, class_needs, grow, index_in, needs_at, needs_class}
+use Rattle.making_code.specs.Constants.{Need, class_needs, constructor_needs, grow, index_in, needs_at, needs_class}
 use Rattle.making_code.specs.IndexedMaking.{index_of_last}
 use Rattle.making_code.specs.Items.{WCatch, WItem, carried}
 use Rattle.making_code.specs.Laws.GrownPools.{Begins, begins_through, grow_begins, grow_both}
+use Rattle.member_link.specs.Signatures.{reference_of}
 use Rattle.member_link.specs.Scope.{Scope, scope_at, scope_of}
 use Rattle.plan_flow.specs.PlanScope.{PlanScope, pool_of}
 use Rattle.plan_flow.specs.Written.WrittenCode.{short, written_items}
@@ -25,6 +28,7 @@ use Rattle.plan_flow.specs.Written.WrittenConstants.{carried_instr, carried_need
 use Rattle.written_types.proofs.Given.{Given}
 use Rattle.written_types.proofs.ItemRows.{own_index, with_own}
 use Rattle.written_types.proofs.MeantConstants.{Means}
+use Rattle.written_types.proofs.NamedConstants.{meant_named}
 use Rattle.written_types.specs.Writing.{Writing}
 
 -- what is proved of pools that grow
@@ -33,10 +37,24 @@ pub record PoolLaws : Type 0 where
       → grow limit start (needs_at old index) ≡ Some grown
       → Begins grown pool
       → Means old index pool (index_of_last pool (needs_at old index))
-  pub named : (limit : ℕ) (start grown pool : Constants) (name : Name)
-      → grow limit start (class_needs name) ≡ Some grown
-      → Begins grown pool
-      → class_at pool (index_in pool (needs_class name)) ≡ Some name
+
+-- a class, and the constructor of one, by pools that have no more
+pub class_grown : PoolLaws → (limit : ℕ) (start grown pool : Constants) (name : Name) → grow limit start (class_needs name) ≡ Some grown
+    → Begins grown pool
+    → class_at pool (index_in pool (needs_class name)) ≡ Some name
+class_grown laws limit start grown pool name grows begins =
+    (laws.needed limit (Some (Class 1) ∷ Some (Utf8 name) ∷ []) start grown pool 0 grows begins).class name refl
+
+pub constructor_grown : PoolLaws → (limit : ℕ) (start grown pool : Constants) (class : Name) (desc : List ℕ)
+    → grow limit start (constructor_needs class desc) ≡ Some grown
+    → Begins grown pool
+    → reference_of pool (constant_at pool (index_of_last pool (constructor_needs class desc))) ≡ Some (record { class = class; name = init; desc = desc })
+constructor_grown laws limit start grown pool class desc grows begins =
+    (meant_named old 0 pool (index_of_last pool (constructor_needs class desc)) (laws.needed limit old start grown pool 0 grows begins)).member
+    (record { class = class; name = init; desc = desc }) refl where
+      old : Constants
+      old =
+          Some (Methodref 1 2) ∷ Some (Class 3) ∷ Some (NameAndType 4 5) ∷ Some (Utf8 class) ∷ Some (Utf8 init) ∷ Some (Utf8 desc) ∷ []
 
 -- ---- growth by a part of what is needed
 
@@ -159,7 +177,7 @@ module _ (w : Writing) (given : Given w) (laws : PoolLaws) where
       → catch.class ≡ Some class
       → class_at w.pool (index_in w.pool (needs_class class)) ≡ Some class
   caught_item left right one before behind catch class is of_item named =
-      laws.named 64535 here.start here.middle w.pool class here.grows here.begins where
+      class_grown laws 64535 here.start here.middle w.pool class here.grows here.begins where
         all_are : caught_needs one.catches ≡ caught_needs before ++ (class_needs class ++ caught_needs behind)
         all_are =
             ap caught_needs of_item ∙ caught_apart before (catch ∷ behind)
@@ -177,6 +195,12 @@ module _ (w : Writing) (given : Given w) (laws : PoolLaws) where
         here =
             part_of 64535 (caught_needs before) (class_needs class) (caught_needs behind) w.pool
             (subst (λ (needs : List Need). GrownBy 64535 needs w.pool) all_are catches)
+
+  -- what it needs where it is none of a class of the folder
+  pub making_item : (left right : List WItem) (one : WItem) → written_items short w.blocks ≡ left ++ (one ∷ right)
+      → GrownBy 64535 (instr_needs w.s w.constructor one.instr) w.pool
+  making_item left right one is =
+      part_of 64535 [] (instr_needs w.s w.constructor one.instr) (caught_needs one.catches) w.pool (grown_item left right one is)
 
   -- ---- the host's own constants
 
