@@ -1,5 +1,5 @@
 -- What typing, laying out and linking say of a written folder, put together.
-use Rattle.std.proofs.Common.{◌≡◌, ◌++◌, ℕ, zero, suc, nat_le, Bool, true, false, List, ◌∷◌, codes, flat_map, length, slice_get, Option, Some, None, if◌then◌else◌, refl, sym, ap, subst, ◌∙◌}
+use Rattle.std.proofs.Common.{◌≡◌, ◌++◌, ℕ, zero, suc, nat_le, Bool, true, false, List, [], ◌∷◌, codes, flat_map, length, slice_get, Option, Some, None, if◌then◌else◌, refl, sym, ap, subst, ◌∙◌}
 use Rattle.std.specs.List.{AllByRecursion}
 use Rattle.std.proofs.lemmas.Option.{none-some, same_Some}
 use Rattle.class_model.specs.Code.{OperandFits}
