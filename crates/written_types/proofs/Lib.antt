@@ -109,3 +109,6 @@ mod CarriedPoints
 mod CaughtTypes
 mod DeepStacks
 mod EndingRows
+mod MakingConstants
+mod ConstructorTexts
+mod ConstructorTakes
