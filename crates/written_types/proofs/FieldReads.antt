@@ -1,5 +1,5 @@
 -- A getfield of a virtual object: its field's unit is loaded, or nothing is written where the field holds a virtual object.
-use Rattle.std.proofs.Common.{◌≡◌, ◌⊎◌, ◌+◌, ◌-◌, ◌≤◌, ℕ, suc, Bool, true, false, List, [], ◌∷◌, ◌++◌, drop, length, map, slice_get, Option, Some, None, option_and_then, refl, sym, ap, subst, ◌∙◌, inl, inr, arith}
+use Rattle.std.proofs.Common.{◌≡◌, ◌⊎◌, ◌+◌, ◌-◌, ◌≤◌, ℕ, suc, Bool, true, false, List, [], ◌∷◌, ◌++◌, drop, length, map, slice_get, Option, Some, None, option_and_then, if◌then◌else◌, refl, sym, ap, subst, ◌∙◌, inl, inr, arith}
 use Rattle.std.proofs.lemmas.Bool.{false≢true}
 use Rattle.std.proofs.lemmas.List.{append-nil}
 use Rattle.std.proofs.lemmas.Option.{none-some}
@@ -24,10 +24,11 @@ use Rattle.member_link.specs.Rows.MemberRows.{get_field_row}
 use Rattle.member_link.specs.Rows.Operands.{assignable_to, topmost, under}
 use Rattle.member_link.specs.Rows.Row.{stack_behind}
 use Rattle.member_link.specs.Signatures.{field_type, reference_of}
-use Rattle.plan_flow.specs.PlanRows.{from_field, no_change}
-use Rattle.plan_flow.specs.PlanScope.{field_number, field_of, pool_of}
+use Rattle.plan_flow.specs.Must.{AsksFor}
+use Rattle.plan_flow.specs.PlanRows.{Position, any_object, from_field, no_change}
+use Rattle.plan_flow.specs.PlanScope.{field_number, field_of, is_of_library, pool_of}
 use Rattle.plan_flow.specs.PlanSlots.{changed, field_held, field_of_slot, held, is_open}
-use Rattle.plan_flow.specs.PlanTable.{falls_on, get_field_row as plan_get, held_from, operand}
+use Rattle.plan_flow.specs.PlanTable.{falls_on, get_field_row as plan_get, held_from, operand, operands_asked, positions}
 use Rattle.plan_flow.specs.Written.FramedCode.{frame_by_item}
 use Rattle.plan_flow.specs.Written.Templates.{field_type_at, items_at}
 use Rattle.same_runs.specs.Flats.{pool_of as flat_pool}
@@ -35,6 +36,7 @@ use Rattle.virtual_state.specs.States.{State, is_present, is_unusable}
 use Rattle.virtual_state.specs.declared.slot.Slot.{Slot}
 use Rattle.virtual_state.specs.declared.slot.Slot.TheVariants.{Plain, Virt, Unusable}
 use Rattle.written_types.proofs.AgreeingFrames.{agrees_with_itself}
+use Rattle.written_types.proofs.CarriedHolds.{known_at}
 use Rattle.written_types.proofs.FieldPlaces.{FieldPlace, IsValue, declared_value, field_local, field_place, present_held}
 use Rattle.written_types.proofs.Given.{EdgesFit, EndsCarry, Given, entries_in}
 use Rattle.written_types.proofs.ItemSteps.{frame_of, load_carries}
@@ -62,7 +64,15 @@ field_is w class index r named =
 pub host_headers : (w : Writing) → Given w → w.host.headers ≡ headers_of w.s.classes
 host_headers w given = scope_headers w.s.classes w.s.flat.host w.host given.setting.ready.host
 
--- Of a virtual object that a getfield or putfield takes, each field that is linked has a number.
+-- nothing is asked where what must be made is made
+pub none_asked : (w : Writing) (given : Given w) (b : Before w given) (number : ℕ) (position : Position) (site : ℕ)
+    → slice_get (positions (plan_row w given b)) number ≡ Some position
+    → AsksFor w.s (state w given b) position site
+    → ⊥
+none_asked w given b number position site there asks =
+    (known_at w given b.at b.point b.route b.here.there b.here.is_route).asks number position site there asks
+
+-- Of a virtual object that a getfield or putfield takes, each field that is linked and that no class of the library declares has a number.
 pub record FieldsNumbered (w : Writing) : Type 0 where
   pub number : (at class index site : ℕ) (point : Point) (r field : Reference)
       → point_at w.s.flat at ≡ Some point
@@ -70,6 +80,7 @@ pub record FieldsNumbered (w : Writing) : Type 0 where
       → named_in w class index ≡ Some r
       → w.s.links.field r ≡ Some field
       → IsOfType w.s site (types.Object r.class)
+      → is_of_library w.s field ≡ false
       → (place : ℕ) × (field_number w.s site field ≡ Some place)
 
 module _ (w : Writing) (given : Given w) (b : Before w given) (fit : EdgesFit w given) (ends : EndsCarry w given) (known : SitesKnown w.s)
@@ -87,6 +98,17 @@ module _ (w : Writing) (given : Given w) (b : Before w given) (fit : EdgesFit w 
 
   plan_field : field_of w.s class index ≡ Some field
   plan_field = field_is w class index r named ∙ linked
+
+  -- a field of the library would ask for its object
+  folder : is_of_library w.s field ≡ false
+  folder = by (is_of_library w.s field) refl where
+    by : (from_library : Bool) → is_of_library w.s field ≡ from_library → is_of_library w.s field ≡ false
+    by false is_library = is_library
+    by true is_library =
+        absurd (none_asked w given b 0 (any_object (operand b.point.typed 0)) site
+        (ap (λ (found : FlatInstr). slice_get (positions (plan_for w given b found)) 0) is
+        ∙ ap (λ (found : Option Reference). slice_get (positions (plan_get w.s b.point.typed found)) 0) plan_field
+        ∙ ap (λ (from_library : Bool). slice_get ((if from_library then operands_asked b.point.typed 1 else []) ++ []) 0) is_library) virtual)
 
   object : OneType (scope_for w given b i) (assignable_to (types.Object r.class)) (topmost 1 read_stack)
   object =
@@ -205,7 +227,7 @@ module _ (w : Writing) (given : Given w) (b : Before w given) (fit : EdgesFit w 
     by (Virt other) is_slot = held_virtual other is_slot
     by Plain is_slot =
         let found = numbers.number b.at class index site b.point r field b.here.there (inl is) named linked
-        of_receiver in
+        of_receiver folder in
         held_plain is_slot found.0 found.1
     by Unusable is_slot =
         absurd (false≢true (sym (sources_usable w.s now no_change (from_field (operand b.point.typed 0) field ∷ [])).0

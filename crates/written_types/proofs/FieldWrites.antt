@@ -1,5 +1,5 @@
 -- A putfield into a virtual object: its field's unit is set, or nothing is written where a virtual object is put.
-use Rattle.std.proofs.Common.{◌≡◌, ◌≢◌, ◌⊎◌, ◌+◌, ◌-◌, ◌≤◌, ℕ, suc, Bool, true, false, List, [], ◌∷◌, ◌++◌, drop, length, map, slice_get, take, Option, Some, None, refl, sym, ap, subst, ◌∙◌, inl, inr, arith}
+use Rattle.std.proofs.Common.{◌≡◌, ◌≢◌, ◌⊎◌, ◌+◌, ◌-◌, ◌≤◌, ℕ, suc, Bool, true, false, List, [], ◌∷◌, ◌++◌, drop, length, map, slice_get, take, Option, Some, None, if◌then◌else◌, refl, sym, ap, subst, ◌∙◌, inl, inr, arith}
 use Rattle.std.specs.List.{AllByRecursion}
 use Rattle.std.proofs.lemmas.Bool.{false≢true}
 use Rattle.std.proofs.lemmas.List.{append-nil, length-map, map-append}
@@ -29,9 +29,10 @@ use Rattle.member_link.specs.Rows.MemberRows.{put_field_row}
 use Rattle.member_link.specs.Rows.Operands.{assignable_or_this, assignable_to, topmost, under}
 use Rattle.member_link.specs.Rows.Row.{stack_behind}
 use Rattle.member_link.specs.Signatures.{field_type}
-use Rattle.plan_flow.specs.PlanScope.{PlanScope, field_number, field_of}
+use Rattle.plan_flow.specs.PlanRows.{any_object}
+use Rattle.plan_flow.specs.PlanScope.{PlanScope, field_number, field_of, is_of_library}
 use Rattle.plan_flow.specs.PlanSlots.{changed, held, is_open, put_in}
-use Rattle.plan_flow.specs.PlanTable.{falls_on, held_from, held_locals, operand, put_field_row as plan_put}
+use Rattle.plan_flow.specs.PlanTable.{falls_on, held_from, held_locals, operand, operands_asked, positions, put_field_row as plan_put, value_put}
 use Rattle.plan_flow.specs.Written.Routes.{Route, RouteEdge, edge_by}
 use Rattle.plan_flow.specs.Written.Templates.{field_type_at, items_at, narrowing}
 use Rattle.plan_flow.specs.declared.edge.EdgeKind.TheVariants as edges
@@ -40,7 +41,7 @@ use Rattle.virtual_state.specs.declared.slot.Slot.{Slot}
 use Rattle.virtual_state.specs.declared.slot.Slot.TheVariants.{Plain, Virt, Unusable}
 use Rattle.written_types.proofs.FieldFits.{NotThis, fits_by_units}
 use Rattle.written_types.proofs.FieldPlaces.{FieldPlace, IsValue, field_place, field_unit_is, own_long, present_held, value_of}
-use Rattle.written_types.proofs.FieldReads.{FieldsNumbered, field_is, host_headers, named_in}
+use Rattle.written_types.proofs.FieldReads.{FieldsNumbered, field_is, host_headers, named_in, none_asked}
 use Rattle.written_types.proofs.FieldStores.{BothParts, StoredParts, UnitParts, both_parts, narrows, parts_room, stored_parts, unit_parts}
 use Rattle.written_types.proofs.FieldUnits.{EndsNarrow, UnitsAt, field_units_at, narrow_both, narrow_mapped, narrow_pairs, units_for}
 use Rattle.written_types.proofs.Given.{EdgesFit, EndsCarry, FitsState, Given, entries_in, locals_in}
@@ -119,6 +120,18 @@ module _ (w : Writing) (given : Given w) (b : Before w given) (fit : EdgesFit w 
 
   plan_field : field_of w.s class index ≡ Some field
   plan_field = field_is w class index r named ∙ linked
+
+  -- a field of the library would ask for its object
+  folder : is_of_library w.s field ≡ false
+  folder = by (is_of_library w.s field) refl where
+    by : (from_library : Bool) → is_of_library w.s field ≡ from_library → is_of_library w.s field ≡ false
+    by false is_library = is_library
+    by true is_library =
+        absurd (none_asked w given b 0 (any_object (operand b.point.typed 1)) site
+        (ap (λ (found : FlatInstr). slice_get (positions (plan_for w given b found)) 0) is
+        ∙ ap (λ (found : Option Reference). slice_get (positions (plan_put w.s b.point.typed found)) 0) plan_field
+        ∙ ap (λ (from_library : Bool). slice_get ((if from_library then operands_asked b.point.typed 2 else [])
+        ++ value_put (operand b.point.typed 1) (operand b.point.typed 0)) 0) is_library) virtual)
 
   two : TwoTypes (scope_for w given b i) (assignable_or_this (types.Object r.class)) (assignable_to (field_type r.desc)) (topmost 2 read_stack)
   two =
@@ -201,7 +214,7 @@ module _ (w : Writing) (given : Given w) (b : Before w given) (fit : EdgesFit w 
       by (inr this) = absurd (no_this (is_open_type w.s of_two) this)
 
     numbered : (place : ℕ) × (field_number w.s site field ≡ Some place)
-    numbered = numbers.number b.at class index site b.point r field b.here.there (inr is) named linked of_receiver
+    numbered = numbers.number b.at class index site b.point r field b.here.there (inr is) named linked of_receiver folder
 
     abbrev place : ℕ
     place = numbered.0

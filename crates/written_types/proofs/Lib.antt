@@ -5,6 +5,12 @@ mod Standing
 mod OperandRows
 mod StackRows
 mod SiteFields
+mod SiteSlots
+mod EdgesWritten
+mod FreshItems
+mod BlockOrder
+mod NullPoints
+mod FieldNumbers
 mod MemberRows
 mod CallRows
 mod RowTable
@@ -105,6 +111,8 @@ mod NewStarts
 mod MadeStates
 mod MakeCodes
 mod MakeWhole
+mod MadeBlocks
+mod Joined
 mod CarriedPoints
 mod CaughtTypes
 mod DeepStacks
@@ -112,3 +120,5 @@ mod EndingRows
 mod MakingConstants
 mod ConstructorTexts
 mod ConstructorTakes
+mod AvoidingWays
+mod WrittenEdges

@@ -45,12 +45,12 @@ use Rattle.written_types.specs.FitsTypes.{FitsRoutes, FitsTypes, is_reached}
 -- ---- lists side by side
 
 -- an edge of a plan, with the state behind it
-record LedEdge (plan : Plan) (P : Edge → Type 0) (made : MadeEdge) : Type 0 where
-  edge : Edge
-  leads : LeadsTo plan edge made
-  has_it : P edge
+pub record LedEdge (plan : Plan) (P : Edge → Type 0) (made : MadeEdge) : Type 0 where
+  pub edge : Edge
+  pub leads : LeadsTo plan edge made
+  pub has_it : P edge
 
-led_edge : (plan : Plan) (P : Edge → Type 0) (edges : List Edge) (all : List MadeEdge) → AllLead plan edges all → AllByRecursion P edges
+pub led_edge : (plan : Plan) (P : Edge → Type 0) (edges : List Edge) (all : List MadeEdge) → AllLead plan edges all → AllByRecursion P edges
     → (number : ℕ) (made : MadeEdge) → slice_get all number ≡ Some made
     → LedEdge plan P made
 led_edge plan P [] [] lead have number made is = absurd (none-some made is)

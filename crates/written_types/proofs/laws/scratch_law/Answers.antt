@@ -1,0 +1,5 @@
+use Rattle.written_types.proofs.WrittenEdges.{decided_written}
+use Rattle.written_types.proofs.laws.scratch_law.Goals as goal
+
+pub returns : goal.returns
+returns c = λ classes tree. tree
