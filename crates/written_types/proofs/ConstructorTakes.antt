@@ -29,8 +29,10 @@ use Rattle.flow_code.specs.declared.point.Site.{Site}
 use Rattle.member_link.specs.FieldConstructors.{HasFieldConstructor, constructor_descriptor}
 use Rattle.written_types.proofs.ConstructorTexts.{ReadsParameters, gives_none, takes}
 use Rattle.written_types.proofs.Given.{Given}
-use Rattle.written_types.proofs.MakingPlaces.{TakesFields}
+use Rattle.written_types.proofs.MakingConstants.{make_constants}
+use Rattle.written_types.proofs.MakingPlaces.{MakeConstants, TakesFields}
 use Rattle.written_types.proofs.Standing.{all_at}
+use Rattle.written_types.proofs.WrittenPool.{PoolLaws}
 use Rattle.written_types.specs.Writing.{Writing}
 
 -- ---- no class of the folder is java/lang/Object
@@ -105,3 +107,7 @@ module _ (w : Writing) (given : Given w) (reads : ReadsParameters) where
 
     spelled : w.constructor one.class ≡ constructor_descriptor (headers_of w.s.classes) one.class constructor.dimensions
     spelled = given.setting.constructors one.class constructor.dimensions constructor.has
+
+-- what make code names is there
+pub constants_there : (w : Writing) → Given w → PoolLaws → ReadsParameters → MakeConstants w
+constants_there w given laws reads = make_constants w given laws (takes_fields w given reads)
