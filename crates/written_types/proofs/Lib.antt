@@ -120,3 +120,6 @@ mod EndingRows
 mod MakingConstants
 mod AvoidingWays
 mod WrittenEdges
+mod LedItems
+mod OpenThrows
+mod AllEdges
