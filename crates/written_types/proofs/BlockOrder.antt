@@ -1,6 +1,7 @@
 -- The blocks of points stand in the order of their points, and pads behind them all.
 use Rattle.std.proofs.Common.{◌≡◌, ◌+◌, ◌<◌, ◌≤◌, ℕ, zero, suc, Bool, true, false, List, [], ◌∷◌, ◌++◌, length, slice_get, Option, Some, None, refl, sym, ap, subst, ◌∙◌, arith}
 use Rattle.std.specs.List.{AllByRecursion, flat_map}
+use Rattle.std.proofs.lemmas.List.{append_assoc}
 use Rattle.std.proofs.lemmas.Option.{none-some}
 use Rattle.flow_code.specs.declared.point.Point.{Point}
 use Rattle.plan_flow.specs.Laws.WrittenBlocks.{before_blocks, finished_block, pads_of}
@@ -145,13 +146,13 @@ next_ordered s at (Some edge) =
 
 point_ordered : (s : PlanScope) (at : ℕ) (point : Point) (route : Route) → Ordered (three at) (three (suc at)) (point_blocks s at point route)
 point_ordered s at point route =
-    both_ordered (three at) (suc (three at)) (three (suc at)) (before_blocks s at route)
-    ((instruction_block s at point route ∷ []) ++ next_block s at (edge_by route edges.Next)) (omega arith) (omega arith)
-    (made_ordered s (before_point at) at route.state route.made route.order None (three at) (suc (three at)) refl (omega arith) (omega arith))
-    (both_ordered (suc (three at)) (suc (suc (three at))) (three (suc at)) (instruction_block s at point route ∷ [])
+    both_ordered (three at) (suc (suc (three at))) (three (suc at)) (before_blocks s at route ++ (instruction_block s at point route ∷ []))
     (next_block s at (edge_by route edges.Next)) (omega arith) (omega arith)
-    (record { sorted = (tt, tt); within = (record { no_pad = refl; from = omega arith; to = omega arith }, tt) })
-    (next_ordered s at (edge_by route edges.Next)))
+    (both_ordered (three at) (suc (three at)) (suc (suc (three at))) (before_blocks s at route) (instruction_block s at point route ∷ []) (omega arith)
+    (omega arith)
+    (made_ordered s (before_point at) at route.state route.made route.order None (three at) (suc (three at)) refl (omega arith) (omega arith))
+    (record { sorted = (tt, tt); within = (record { no_pad = refl; from = omega arith; to = omega arith }, tt) }))
+    (next_ordered s at (edge_by route edges.Next))
 
 points_ordered : (s : PlanScope) (from : ℕ) (points : List Point) (routes : Routes)
     → Ordered (three from) (three (from + length points)) (of_reached (point_blocks s) from points routes)
@@ -243,9 +244,12 @@ all_before_pads (one ∷ ones) pads all = (before_pads one.of pads all, all_befo
 
 sorted_all : (s : PlanScope) (routes : Routes) → Sorted (blocks_of s routes)
 sorted_all s routes =
-    sorted_joined (of_reached (point_blocks s) 0 s.flat.points routes) (pads_of s routes) (points_ordered s 0 s.flat.points routes).sorted
+    subst Sorted
+    (sym (append_assoc (of_reached (point_blocks s) 0 s.flat.points routes) (of_reached (jump_pads s) 0 s.flat.points routes)
+    (of_reached (handler_pads s) 0 s.flat.points routes)))
+    (sorted_joined (of_reached (point_blocks s) 0 s.flat.points routes) (pads_of s routes) (points_ordered s 0 s.flat.points routes).sorted
     (sorted_pads (pads_of s routes) (all_pads s routes))
-    (all_before_pads (of_reached (point_blocks s) 0 s.flat.points routes) (pads_of s routes) (all_pads s routes))
+    (all_before_pads (of_reached (point_blocks s) 0 s.flat.points routes) (pads_of s routes) (all_pads s routes)))
 
 -- Of two blocks that are written the first one may stand before the second.
 pub in_order : (w : Writing) → Given w → (number later : ℕ) (one other : Finished) → slice_get w.blocks number ≡ Some one

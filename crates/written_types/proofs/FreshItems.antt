@@ -96,7 +96,7 @@ module _ (w : Writing) (given : Given w) (place : ℕ) where
   -- ---- down from an item
 
   -- nothing leads to a block that begins with an item
-  pub Quiet : ℕ → Type 0
+  abbrev pub Quiet : ℕ → Type 0
   Quiet number = (frame : Frame) → frame_of_item w.s.flat w.form w.blocks number ≡ Some frame → is_led_to (items_in w) number ≡ false
 
   -- what is stated for an item is the frame of the block that begins with it
@@ -118,7 +118,7 @@ module _ (w : Writing) (given : Given w) (place : ℕ) where
     by false same = refl
     by true same = absurd (none-some frame (sym same ∙ ap (stated_by true flow) there))
 
-  abbrev AllQuiet : ℕ → ℕ → Type 0
+  abbrev pub AllQuiet : ℕ → ℕ → Type 0
   AllQuiet low high = (number : ℕ) → low < number → number ≤ high → Quiet number
 
   quiet_from : (low high : ℕ) → Quiet (suc low) → AllQuiet (suc low) high → AllQuiet low high

@@ -6,6 +6,9 @@ mod OperandRows
 mod StackRows
 mod SiteFields
 mod SiteSlots
+mod NextBlocks
+mod FreshBlocks
+mod BlockPlaces
 mod EdgesWritten
 mod FreshItems
 mod BlockOrder

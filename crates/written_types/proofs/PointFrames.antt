@@ -75,7 +75,7 @@ sites_steady state number (site ∷ sites) =
     all_joined IsSteady (unit_types (is_present state.objects number) site.fields) (site_types_from state (suc number) sites)
     (site_steady (is_present state.objects number) site.fields) (sites_steady state (suc number) sites)
 
-rest_steady : (flat : FlatCode) (objects : List VObject) → AreSteady (rest_of flat objects)
+pub rest_steady : (flat : FlatCode) (objects : List VObject) → AreSteady (rest_of flat objects)
 rest_steady flat objects =
     all_joined IsSteady (site_types_from (record { slots = []; objects = objects }) 0 flat.sites)
     (replicate (length flat.sites) types.Top ++ replicate (greatest_depth flat.points) types.Top)
