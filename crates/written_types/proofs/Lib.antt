@@ -121,6 +121,8 @@ mod CaughtTypes
 mod DeepStacks
 mod EndingRows
 mod MakingConstants
+mod ConstructorTexts
+mod ConstructorTakes
 mod AvoidingWays
 mod WrittenEdges
 mod LedItems
