@@ -125,3 +125,6 @@ mod ConstructorTexts
 mod ConstructorTakes
 mod AvoidingWays
 mod WrittenEdges
+mod LedItems
+mod OpenThrows
+mod AllEdges
