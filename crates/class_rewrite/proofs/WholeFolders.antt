@@ -47,6 +47,7 @@ use Rattle.member_link.specs.Machine.Codes.{call_op, instr_op}
 use Rattle.member_link.specs.Machine.Programs.{Links, RunMethod}
 use Rattle.member_link.specs.References.{Reference}
 use Rattle.member_link.specs.RowScope.{RowScope}
+use Rattle.plan_flow.specs.Written.WrittenConstants.{code_needs}
 use Rattle.plan_flow.specs.Written.WrittenPrograms.{WrittenMethod, constructor_method, plan_scope}
 use Rattle.stackmap_emit.specs.FrameConstants.{table_needs}
 use Rattle.stackmap_emit.specs.PlacedFrames.{spelled_in}
@@ -142,7 +143,8 @@ module _ (laws : HaveLaws) (r : Rewriting) (files : List ClassFile) (w : IsFolde
   method_adds : (at : MethodAt) (pool : Constants) (v : Rewritten) → IsRewritten r at pool v → AddsNoHandles pool v.pool
   method_adds at pool v is =
       adds_through pool v.code_pool v.pool
-      (grow_none 64535 _ pool v.code_pool (code_none (plan_scope r.classes r.links v.one) r.constructor (short_items r v.one)) is.coded.grows)
+      (grow_none 64535 (code_needs (plan_scope r.classes r.links v.one) r.constructor (short_items r v.one)) pool v.code_pool
+      (code_none (plan_scope r.classes r.links v.one) r.constructor (short_items r v.one)) is.coded.grows)
       (by (nat_le 50 is.host.class.major) is.grows) where
         by : (b : Bool) → (if b then grow 64535 v.code_pool (table_needs v.stated) else Some v.code_pool) ≡ Some v.pool → AddsNoHandles v.code_pool v.pool
         by true e = grow_none 64535 (table_needs v.stated) v.code_pool v.pool (table_none v.stated) e
@@ -162,7 +164,8 @@ module _ (laws : HaveLaws) (r : Rewriting) (files : List ClassFile) (w : IsFolde
         by : {pool last : Constants} (added : List Method) → AddsMethods r w.written file pool last added → AddsNoHandles pool last
         by {pool} _ (adds_none none) = adds_nothing pool
         by {pool} {last} _ (adds_one made grows is_method) =
-            grow_none 65535 _ pool last (constructor_none (headers_of r.classes) r.constructor (header_of file).name) grows
+            grow_none 65535 (constructor_method_needs (headers_of r.classes) r.constructor (header_of file).name) pool last
+            (constructor_none (headers_of r.classes) r.constructor (header_of file).name) grows
 
   class_handles : (class : ℕ) (file also : ClassFile) → slice_get r.classes.folder class ≡ Some file → IsClassWritten r w.written w.s class file also
       → handles_in also.pool also.pool ≡ handles_in file.pool file.pool

@@ -44,7 +44,7 @@ use Rattle.member_link.specs.Machine.Replaced.{Replacement, field_cleared, map_n
 use Rattle.member_link.specs.References.{Reference}
 use Rattle.member_link.specs.RowScope.{RowScope}
 use Rattle.member_link.specs.Scope.{Scope, scope_at, scope_of}
-use Rattle.plan_flow.specs.PlanScope.{pool_of}
+use Rattle.plan_flow.specs.PlanScope.{PlanScope, pool_of}
 use Rattle.plan_flow.specs.Written.WrittenCode.{written_code, written_items}
 use Rattle.plan_flow.specs.Written.WrittenPrograms.{WrittenMethod, WrittenMethods, constructor_method, finished_of, plan_scope, written_body}
 use Rattle.type_rules.specs.Grown.{AreGrownHeaders, IsGrownClass, IsGrownHeader, IsGrownOver}
@@ -171,8 +171,11 @@ module _ {r : Rewriting} {files : List ClassFile} {w : IsFolderWritten r files} 
         (begins_through v.pool is.code_pool is.pool through (added_begins r w.written file is.code_pool is.pool is.added is.adds))) where
           behind : (n count : ℕ) → n < count → (gap : ℕ) × (count ≡ suc (n + gap))
           behind n zero less = absurd (omega (arith, less))
-          behind zero (suc count) less = (count, refl)
-          behind (suc n) (suc count) less = let rest = behind n count (omega (arith, less)) in (rest.0, ap suc rest.1)
+          behind zero (suc count) less = (count, omega arith)
+          behind (suc n) (suc count) less =
+              let rest = behind n count (omega (arith, less)) in
+              let same = rest.1 in
+              (rest.0, omega (arith, same))
 
     -- ---- a method
 
@@ -205,7 +208,7 @@ module _ {r : Rewriting} {files : List ClassFile} {w : IsFolderWritten r files} 
     method_written number method _ got less (is_rewritten {w = v} is_at) =
         let scope : scope_at r.classes (numbered number) ≡ scope_of before file method = rw (there, got) refl in
         by (code_of method.attrs) refl (sym scope ∙ is_at.is.is_host) where
-          s : _
+          s : PlanScope
           s = plan_scope r.classes r.links v.one
 
           by : (part : Option CodePart) → code_of method.attrs ≡ part → scope_of before file method ≡ Some is_at.is.host
@@ -279,7 +282,8 @@ module _ {r : Rewriting} {files : List ClassFile} {w : IsFolderWritten r files} 
         ap (λ (c : ClassFile). map runs_now c.methods) is.is
         ∙ map-append runs_now is.methods is.added
         ∙ ap (λ (front : List RunMethod). front ++ map runs_now is.added)
-        (methods_written zero file.methods is.methods is.are_methods (λ number method got. got) refl)
+        (methods_written zero file.methods is.methods is.are_methods
+        (λ number method got. subst (λ (n : ℕ). slice_get file.methods n ≡ Some method) (omega arith) got) (omega arith))
         ∙ ap (λ (back : List RunMethod). map_numbered (method_replaced w.s class) zero (map ran file.methods) ++ back)
         (added_written is.added is.before_constructors is.adds (sym pool_is))
 
@@ -320,10 +324,15 @@ module _ {r : Rewriting} {files : List ClassFile} {w : IsFolderWritten r files} 
           starts = starts_from also.pool zero also.fields;
           handles = handles_in also.pool also.pool;
         } in
+        let header : Header = record (header_of file) {
+          fields = map_numbered (field_cleared w.s class) zero (header_of file).fields;
+          methods = (header_of file).methods ++ map (λ (method : RunMethod). method.member) (w.s.added class);
+        } in
+        let methods : List RunMethod = map_numbered (method_replaced w.s class) zero (map ran file.methods) ++ w.s.added class in
         ap (λ (h : Header). to h (map runs_now also.methods)) header_is
-        ∙ ap (to _) all_methods
-        ∙ ap (λ (x : _). record (to _ _) { starts = x }) (known.starts file also is_file grows)
-        ∙ ap (λ (x : _). record (to _ _) { starts = starts_from file.pool zero file.fields; handles = x }) (known.handles class file also there is)
+        ∙ ap (to header) all_methods
+        ∙ ap (λ (x : _). record (to header methods) { starts = x }) (known.starts file also is_file grows)
+        ∙ ap (λ (x : _). record (to header methods) { starts = starts_from file.pool zero file.fields; handles = x }) (known.handles class file also there is)
 
   -- ---- all classes
 
@@ -345,4 +354,5 @@ module _ {r : Rewriting} {files : List ClassFile} {w : IsFolderWritten r files} 
   pub program_written : program_of (with_folder r.classes files) r.links ≡ replaced (program_of r.classes r.links) w.s
   program_written =
       ap (λ (classes : List RunClass). record { classes = classes; library = r.classes.library; links = r.links })
-      (classes_written zero r.classes.folder files w.classes (λ number file got. got))
+      (classes_written zero r.classes.folder files w.classes
+      (λ number file got. subst (λ (n : ℕ). slice_get r.classes.folder n ≡ Some file) (omega arith) got))

@@ -57,7 +57,7 @@ module _ (c : goal.After-programs_that_are_equal_run_equally) (r : Rewriting) (f
   ready : (at : MethodAt) (one : WrittenMethod) → w.written at ≡ Some one → IsReadyHost r at one
   ready at one is =
       let known = rewritten_host r files w at one is in
-      let there = subst (λ (x : MethodAt). scope_at r.classes x ≡ Some known.expanded.host.scope) known.expanded.own known.expanded.is_host.is_scope in
+      let there : scope_at r.classes at ≡ Some known.expanded.host.scope = known.expanded.is_host.is_scope in
       record {
         scope = known.expanded.host.scope;
         is_scope = there;
@@ -82,7 +82,7 @@ module _ (c : goal.After-programs_that_are_equal_run_equally) (r : Rewriting) (f
       subst (IsReadyFlat r.classes at) one.2
       (record { scope = known.scope; is_scope = known.is_scope; ready = known.code; sites = sites_are_news r files w ready at one.0 one.1 })
 
-  u : Setup
+  abbrev u : Setup
   u = record {
     classes = r.classes;
     links = r.links;
@@ -191,7 +191,7 @@ module _ (c : goal.After-programs_that_are_equal_run_equally) (r : Rewriting) (f
         grows = grows;
         more = [];
         has = sym (append-nil also.pool);
-        count = grow_count 65535 65535 _ pool also.pool grows (omega (arith, short)) (omega arith);
+        count = grow_count 65535 65535 (constructor_method_needs (headers_of r.classes) r.constructor (header_of file).name) pool also.pool grows (omega (arith, short)) (omega arith);
         method = is_method;
         code = ap code_of is_method.attrs;
       })
