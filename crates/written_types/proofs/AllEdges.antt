@@ -54,9 +54,11 @@ module _ (w : Writing) (given : Given w) (from : ℕ) (point : Point) (route : R
   row_of : (number : ℕ) (edge : RouteEdge) → slice_get route.edges number ≡ Some edge
       → (c : EdgeComes w from point route edge) × RowIs point (row_of_point w.s from point) c.row
   row_of number edge is =
-      let c = edge_comes w given from number point route edge there is_route is in
-      (c, all_at (RowIs point (row_of_point w.s from point)) (edges_of from point (row_of_point w.s from point)) c.number c.row
-      (rows_are w.s from point) c.there)
+      let c = edge_comes w given from number point route edge there is_route is in (
+        c,
+        all_at (RowIs point (row_of_point w.s from point)) (edges_of from point (row_of_point w.s from point)) c.number c.row
+            (rows_are w.s from point) c.there,
+      )
 
   opens : (edge : RouteEdge) (c : EdgeComes w from point route edge) → is_open (state_written route) c.row.guard ≡ true
   opens edge c =

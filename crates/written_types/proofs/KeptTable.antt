@@ -140,8 +140,40 @@ divide_numbers : OfNumbers divide_operations
 divide_numbers = (two_numbers, (two_numbers, tt))
 
 float_numbers : OfNumbers float_operations
-float_numbers = (two_numbers, (two_numbers, (one_number, (one_number, (one_number, (one_number, (one_number, (one_number, (one_number, (one_number, (one_number,
-    (one_number, (one_number, (one_number, (two_numbers, (two_numbers, tt))))))))))))))))
+float_numbers = (
+  two_numbers,
+  (
+    two_numbers,
+    (
+      one_number,
+      (
+        one_number,
+        (
+          one_number,
+          (
+            one_number,
+            (
+              one_number,
+              (
+                one_number,
+                (
+                  one_number,
+                  (
+                    one_number,
+                    (
+                      one_number,
+                      (one_number, (one_number, (one_number, (two_numbers, (two_numbers, tt))))),
+                    ),
+                  ),
+                ),
+              ),
+            ),
+          ),
+        ),
+      ),
+    ),
+  ),
+)
 
 -- ---- what is known of an instruction
 
@@ -254,9 +286,10 @@ module _ (w : Writing) (reached : ℕ → Bool) (f : Frame) (before : State) (re
     row : (p : PlanRow) → changed w.s before p.change ≡ [] → p.locals ≡ held_locals f → p.stack ≡ (moving f 2 []).stack
         → RowFollows w before rest f g p (flat_row (IfSame opcode target)) (row_of (scope_in w) g number (IfSame opcode target))
     row p still locals_are is =
-        without_access (jump_kept w reached f before rest g st known sc refl p (of_kind kinds.Ref ∷ of_kind kinds.Ref ∷ []) still locals_are is (tt, (tt, tt))
-        (inr (same_first w.s route (held before (operand f 1)) (held before (operand f 0)) none),
-        (inr (same_second w.s route (held before (operand f 1)) (held before (operand f 0)) none), tt))
+        without_access (jump_kept w reached f before rest g st known sc refl p (of_kind kinds.Ref ∷ of_kind kinds.Ref ∷ []) still locals_are is (tt, (tt, tt)) (
+          inr (same_first w.s route (held before (operand f 1)) (held before (operand f 0)) none),
+          (inr (same_second w.s route (held before (operand f 1)) (held before (operand f 0)) none), tt),
+        )
         (nat_le IF_ACMPEQ opcode && nat_le opcode IF_ACMPNE) holds.operands)
 
     by : (b : Bool) → (opcode == IF_ACMPEQ) ≡ b → Follow (IfSame opcode target)
@@ -302,8 +335,8 @@ module _ (w : Writing) (reached : ℕ → Bool) (f : Frame) (before : State) (re
         (reference_of w.pool (constant_at w.pool new)) (field_of w.s class index) meant.member
         (get_none w.s before (held before (operand f 0)) (found r is).0
         (subst (λ (x : Option Reference). get_template w.s before (held before (operand f 0)) x ≡ None) some none)) holds.operands) where
-      some : field_of w.s class index ≡ Some (found r is).0
-      some = field_is ∙ ap (option_and_then w.s.links.field) is ∙ (found r is).1
+          some : field_of w.s class index ≡ Some (found r is).0
+          some = field_is ∙ ap (option_and_then w.s.links.field) is ∙ (found r is).1
   instr_kept (PutField index) none asks meant found stands holds = by (reference_of old (constant_at old index)) refl where
     field_is : field_of w.s class index ≡ option_and_then w.s.links.field (reference_of old (constant_at old index))
     field_is = ap (λ (pool : Constants). option_and_then w.s.links.field (reference_of pool (constant_at pool index))) (same_pool w.s class)
@@ -313,19 +346,19 @@ module _ (w : Writing) (reached : ℕ → Bool) (f : Frame) (before : State) (re
     by (Some r) is =
         without_access (put_field_kept w reached f before rest g st known sc refl (reference_of old (constant_at old index))
         (reference_of w.pool (constant_at w.pool new)) (field_of w.s class index) meant.member value object holds.operands) where
-      some : field_of w.s class index ≡ Some (found r is).0
-      some = field_is ∙ ap (option_and_then w.s.links.field) is ∙ (found r is).1
+          some : field_of w.s class index ≡ Some (found r is).0
+          some = field_is ∙ ap (option_and_then w.s.links.field) is ∙ (found r is).1
 
-      object : IsNone before (operand f 1)
-      object =
-          put_object w.s before (operand f 1) (operand f 0) (found r is).0
-          (subst (λ (x : Option Reference). put_template w.s (held before (operand f 1)) (held before (operand f 0)) x ≡ None) some none)
+          object : IsNone before (operand f 1)
+          object =
+              put_object w.s before (operand f 1) (operand f 0) (found r is).0
+              (subst (λ (x : Option Reference). put_template w.s (held before (operand f 1)) (held before (operand f 0)) x ≡ None) some none)
 
-      asks_put : NoneAsked w.s before (put_field_row w.s f (Some (found r is).0))
-      asks_put = subst (λ (x : Option Reference). NoneAsked w.s before (put_field_row w.s f x)) some asks
+          asks_put : NoneAsked w.s before (put_field_row w.s f (Some (found r is).0))
+          asks_put = subst (λ (x : Option Reference). NoneAsked w.s before (put_field_row w.s f x)) some asks
 
-      value : IsNone before (operand f 0)
-      value = put_value w.s f before (found r is).0 object asks_put
+          value : IsNone before (operand f 0)
+          value = put_value w.s f before (found r is).0 object asks_put
   instr_kept (Invoke opcode index count) none asks meant found stands holds =
       subst (λ (pool : Constants). RowFollows w before rest f g (call_row f opcode (reference_of pool (constant_at pool index)))
       (flat_row (Invoke opcode index count)) (row_of (scope_in w) g number (Invoke opcode new count))) (sym (same_pool w.s class))
@@ -370,10 +403,12 @@ module _ (w : Writing) (reached : ℕ → Bool) (f : Frame) (before : State) (re
       (without_access (cast_kept w reached f before rest g st known sc refl (class_at old index) (class_at w.pool new) meant.class
       (nothing_none (held before (operand f 0)) none) holds.operands))
   instr_kept (InstanceOf index) none asks meant found stands holds =
-      gives_one w reached f before rest g st known sc refl (moving f 1 (plain_value ∷ [])) (initialised ∷ []) 1 types.Int refl refl refl refl tt (tt, tt)
-      (inr (instance_none w.s (held before (operand f 0)) found.0
-      (subst (λ (x : Option Name). instance_template w.s (held before (operand f 0)) x ≡ None)
-      (ap (λ (pool : Constants). class_at pool index) (same_pool w.s class) ∙ found.1) none)), tt) holds.operands
+      gives_one w reached f before rest g st known sc refl (moving f 1 (plain_value ∷ [])) (initialised ∷ []) 1 types.Int refl refl refl refl tt (tt, tt) (
+        inr (instance_none w.s (held before (operand f 0)) found.0
+            (subst (λ (x : Option Name). instance_template w.s (held before (operand f 0)) x ≡ None)
+            (ap (λ (pool : Constants). class_at pool index) (same_pool w.s class) ∙ found.1) none)),
+        tt,
+      ) holds.operands
   instr_kept Enter none asks meant found stands holds =
       gives_none w reached f before rest g st known sc refl (row_at w.s at f (Of class Enter)) (of_kind kinds.Ref ∷ []) 1 refl
       (monitor_still (nothing_none (held before (operand f 0)) none)) refl refl (tt, tt)

@@ -128,3 +128,4 @@ mod WrittenEdges
 mod LedItems
 mod OpenThrows
 mod AllEdges
+mod AddedConstants

@@ -47,7 +47,6 @@ topmost_are below tops count is = drop_left below tops (length (below ++ tops) -
 pub under_are : (below tops : List VType) (count : ℕ) → count ≡ length tops → under count (below ++ tops) ≡ below
 under_are below tops count is = take_left below tops (length (below ++ tops) - count) (let long = length-append below tops in omega (arith, long, is))
 
-
 -- one item, and what flows on
 pub one_step : (w : Writing) (number : ℕ) (one : WItem) (frame next : Frame)
     → ItemHolds w number one frame

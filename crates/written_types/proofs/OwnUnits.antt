@@ -241,7 +241,6 @@ own_cut w rest s (suc at) written all slots within have usable own =
       ]) where
         plain_item : by_item w (type_in there.type there.slot) ≡ by_item w there.type
         plain_item = ap (λ (slot : Slot). by_item w (type_in there.type slot)) (plain_if_wide s there.type there.slot there.has there.used wide)
-
       by false wide true also =
           record {
             long = rw (cut_at at all there.type false there.is_type wide) refl;

@@ -62,11 +62,11 @@ carries_both w number [] more frame middle goes last (carries_none other others)
       the_same a b e = e
 carries_both w number (first ∷ items) more frame middle goes last (carries_on other one others frame_too next goes_too holds flows more_of) is
     rest =
-      carries_on number first (items ++ more) frame next last holds flows
-      (carries_both w (suc number) items more next middle goes last more_of is
-      (subst (λ (n : ℕ). Carries w n more middle last) (the_same (number + suc (length items)) (suc number + length items) (omega arith)) rest)) where
-        the_same : (a b : ℕ) → a ≡ b → a ≡ b
-        the_same a b e = e
+    carries_on number first (items ++ more) frame next last holds flows
+    (carries_both w (suc number) items more next middle goes last more_of is
+    (subst (λ (n : ℕ). Carries w n more middle last) (the_same (number + suc (length items)) (suc number + length items) (omega arith)) rest)) where
+      the_same : (a b : ℕ) → a ≡ b → a ≡ b
+      the_same a b e = e
 carries_both w number (first ∷ []) more frame middle goes last (carries_away other one frame_too holds flows) is rest =
     absurd (none-some middle is)
 

@@ -103,7 +103,6 @@ module _ (w : Writing) (given : Given w) (fit : EdgesFit w given) (ends : EndsCa
     usable : Usable top_slots
     usable = all_dropped (λ (slot : Slot). is_unusable slot ≡ false) low_count slots (places w given b).usable
 
-
     have_tops : HaveTypes w.s tops top_slots
     have_tops = have_dropped w.s low_count read_stack slots (entries_have w given b)
 

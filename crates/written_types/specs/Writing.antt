@@ -10,7 +10,7 @@ use Rattle.class_model.specs.declared.frame.VType.TheVariants.{Top, Uninit, Unin
 use Rattle.class_tree.specs.Headers.{Name}
 use Rattle.making_code.specs.IndexedItems.{IndexedItem}
 use Rattle.making_code.specs.Items.{WItem}
-use Rattle.member_link.specs.Bodies.{BodyPoint, catch_frame, flows_on, frame_behind, item_targets, point_row}
+use Rattle.member_link.specs.Bodies.{Body, BodyPoint, catch_frame, flows_on, frame_behind, item_targets, point_row}
 use Rattle.member_link.specs.Machine.Replaced.{map_numbered}
 use Rattle.member_link.specs.RowScope.{RowScope}
 use Rattle.member_link.specs.Rows.Assigning.{IsFrameAssignableIn}
@@ -21,7 +21,7 @@ use Rattle.class_model.specs.Methods.{entry_of, home_of}
 use Rattle.flow_code.specs.WrittenUnits.{written_units}
 use Rattle.plan_flow.specs.PlanScope.{PlanScope}
 use Rattle.plan_flow.specs.Written.Finish.{Finished, is_empty}
-use Rattle.plan_flow.specs.Written.FramedCode.{frame_by_item, frame_had, frame_of_item, is_led_to, item_body, items_scope, stated_by}
+use Rattle.plan_flow.specs.Written.FramedCode.{body_of_items, frame_by_item, frame_had, frame_of_item, is_led_to, item_body, items_scope, stated_by}
 use Rattle.plan_flow.specs.Written.WrittenCode.{Form, block_items, written_items}
 use Rattle.plan_flow.specs.Written.WrittenConstants.{indexed_item, indexed_items}
 use Rattle.plan_flow.specs.Written.WrittenFrames.{written_frame}
@@ -57,6 +57,10 @@ point_in w number one =
 
 abbrev pub points_in : Writing → List BodyPoint
 points_in w = map_numbered (item_body w.pool (scope_in w)) zero (items_in w)
+
+-- the body that it is, where frames are stated
+abbrev pub body_in : Writing → (ℕ → Option Frame) → Body
+body_in w state = body_of_items w.host w.s.flat w.pool w.max_stack (items_in w) state
 
 -- ---- frames by the numbers of items
 
