@@ -106,10 +106,10 @@ widened : (low high lower higher : ℕ) (blocks : List Block) → lower ≤ low 
 widened low high lower higher [] less more all = tt
 widened low high lower higher (block ∷ blocks) less more all = (
   record {
-        no_pad = all.0.no_pad;
-        from = let at_least = all.0.from in omega (arith, less, at_least);
-        to = let at_most = all.0.to in omega (arith, more, at_most);
-      },
+    no_pad = all.0.no_pad;
+    from = let at_least = all.0.from in omega (arith, less, at_least);
+    to = let at_most = all.0.to in omega (arith, more, at_most);
+  },
   widened low high lower higher blocks less more all.1,
 )
 
