@@ -124,5 +124,10 @@ mod CaughtTypes
 mod DeepStacks
 mod EndingRows
 mod MakingConstants
+mod ConstructorTexts
+mod ConstructorTakes
 mod AvoidingWays
 mod WrittenEdges
+mod LedItems
+mod OpenThrows
+mod AllEdges

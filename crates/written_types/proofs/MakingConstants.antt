@@ -1,29 +1,21 @@
--- The constants that make code names are there, and the constructors of sites take the fields of their objects.
-use Rattle.std.proofs.Common.{◌≡◌, ◌⊎◌, ◌+◌, ◌≤◌, ◌++◌, ℕ, zero, suc, List, [], ◌∷◌, drop, length, map, replicate, slice_get, Option, Some, None, codes, refl, sym, ap, subst, ◌∙◌, inl, inr, arith}
-use Rattle.std.specs.List.{AllByRecursion, flat_map}
+-- The constants that make code names are there.
+use Rattle.std.proofs.Common.{◌≡◌, ◌⊎◌, ◌+◌, ◌++◌, ℕ, List, [], ◌∷◌, slice_get, Option, Some, None, refl, sym, ap, subst, ◌∙◌, inl, inr}
+use Rattle.std.specs.List.{flat_map}
 use Rattle.std.proofs.lemmas.Grind.{flat_map-append}
-use Rattle.std.proofs.lemmas.List.{append_assoc, length-append}
-use Rattle.std.proofs.lemmas.Option.{none-some, same_Some}
-use Rattle.class_model.specs.Descriptors.{field_type_text, parameters_of}
 use Rattle.class_model.specs.PoolChecks.{class_at}
-use Rattle.class_model.specs.declared.descriptor.FieldType.{FieldType}
-use Rattle.class_model.specs.declared.descriptor.FieldType.TheVariants.{Named}
 use Rattle.class_model.specs.declared.instr.Instr.{Instr}
-use Rattle.class_tree.specs.Headers.{Name, headers_of}
-use Rattle.expanded_code.specs.CandidateSites.{IsSite}
+use Rattle.class_tree.specs.Headers.{Name}
 use Rattle.flow_code.specs.declared.point.Site.{Site}
-use Rattle.making_code.specs.Constants.{constructor_needs, index_in, needs_class}
-use Rattle.making_code.specs.Items.{WInstr, WItem, carried, constructs, item, load, makes, plain, store}
+use Rattle.making_code.specs.Constants.{index_in, needs_class}
+use Rattle.class_model.specs.declared.instr.Instr.TheVariants.{Goto}
+use Rattle.making_code.specs.Items.{WInstr, WItem, ahead, carried, constructs, item, load, makes, plain, store}
 use Rattle.making_code.specs.Opposites.{opposite_instr}
-use Rattle.member_link.specs.FieldConstructors.{constructor_descriptor, field_types}
 use Rattle.plan_flow.specs.Written.Finish.{Finished, finished_items}
-use Rattle.plan_flow.specs.Written.WrittenCode.{Form, block_items, in_form, short, wide, widened, written_items}
-use Rattle.written_runs.specs.Laws.ConstructorTexts.{ReadsParameters, parameters_are}
+use Rattle.plan_flow.specs.Written.WrittenCode.{Form, over_goto, short, wide, widened, written_items}
 use Rattle.written_types.proofs.FinishedBlocks.{Between, InFirst, in_none, in_one, in_two}
 use Rattle.written_types.proofs.Given.{Given}
 use Rattle.written_types.proofs.ItemPlaces.{StandsAt}
 use Rattle.written_types.proofs.MakingPlaces.{MakeConstants, TakesFields}
-use Rattle.written_types.proofs.Standing.{all_at}
 use Rattle.written_types.proofs.WrittenPool.{PoolLaws, class_grown, constructor_grown, making_item}
 use Rattle.written_types.specs.Writing.{Writing}
 
@@ -54,10 +46,16 @@ in_widened one x left right making is = by one.instr refl where
     among (inr later) = no_plain other (ap (λ (y : WItem). y.instr) (in_one second x later.left right later.is).0 ∙ two_is)
 
   by : (instr : WInstr) → one.instr ≡ instr → x ≡ one
-  by (carried class instr) same = of_opposite (opposite_instr instr) refl where
-    of_opposite : (found : Option Instr) → opposite_instr instr ≡ found → x ≡ one
-    of_opposite None none = alone (rw (same, none) refl)
-    of_opposite (Some other) some = absurd (two _ _ class other _ refl refl (sym (rw (same, some) refl) ∙ is))
+  by (carried class instr) same = in_goto (opposite_instr instr) (sym of_form ∙ is) where
+    of_form : widened one ≡ over_goto one class (opposite_instr instr)
+    of_form = rw same refl
+
+    in_goto : (found : Option Instr) → over_goto one class found ≡ left ++ (x ∷ right) → x ≡ one
+    in_goto None all = (in_one one x left right all).0
+    in_goto (Some other) all =
+        absurd
+        (two (record { instr = carried class other; targets = ahead 2 ∷ []; catches = [] })
+        (record { instr = plain (Goto 0); targets = one.targets; catches = [] }) class other (Goto 0) refl refl all)
   by (plain instr) same = alone (rw same refl)
   by (load kind unit) same = alone (rw same refl)
   by (store kind unit) same = alone (rw same refl)
@@ -102,31 +100,13 @@ among_short wide blocks x left right making is =
 
 -- ---- the constructors of sites
 
-dropped : (front back : List ℕ) → drop (length front) (front ++ back) ≡ back
-dropped [] back = refl
-dropped (first ∷ front) back = dropped front back
-
-module _ (w : Writing) (given : Given w) (laws : PoolLaws) (reads : ReadsParameters) where
+module _ (w : Writing) (given : Given w) (laws : PoolLaws)
+    (takes : (number : ℕ) (one : Site) → slice_get w.s.flat.sites number ≡ Some one → TakesFields w one) where
   classes_named : (number : ℕ) (name : Name) → StandsAt w number (item (makes name)) → class_at w.pool (index_in w.pool (needs_class name)) ≡ Some name
   classes_named number name at =
       let among = among_short w.form w.blocks (item (makes name)) at.left at.right tt at.is in
       let here = making_item w given laws among.left among.right (item (makes name)) among.is in
       class_grown laws 64535 here.start here.middle w.pool name here.grows here.begins
-
-  takes_fields : (number : ℕ) (one : Site) → slice_get w.s.flat.sites number ≡ Some one → TakesFields w one
-  takes_fields number one there = record {
-    array = array;
-    parameters = desc_is_parameters;
-    no_result = refl;
-  } where
-    site : IsSite w.s.classes w.s.flat one
-    site = all_at (IsSite w.s.classes w.s.flat) w.s.flat.sites number one given.setting.sites.sites there
-
-    array : Name
-    array = []
-
-    desc_is_parameters : parameters_of (w.constructor one.class) ≡ one.fields ++ (Named array ∷ [])
-    desc_is_parameters = refl
 
   pub make_constants : MakeConstants w
   make_constants = record {
@@ -135,5 +115,5 @@ module _ (w : Writing) (given : Given w) (laws : PoolLaws) (reads : ReadsParamet
         let among = among_short w.form w.blocks (item (constructs name)) at.left at.right tt at.is in
         let here = making_item w given laws among.left among.right (item (constructs name)) among.is in
         constructor_grown laws 64535 here.start here.middle w.pool name (w.constructor name) here.grows here.begins;
-    parameters = takes_fields;
+    parameters = takes;
   }

@@ -57,7 +57,7 @@ among_taken P (suc count) zero (first ∷ all) item less is have = subst P (same
 among_taken P (suc count) (suc n) (first ∷ all) item less is have = among_taken P count n all item (omega (arith, less)) is have.1
 
 -- where one passes, one is found
-some_found : {A : Type 0} (test : A → Bool) (all : List A) (n : ℕ) (item : A) → slice_get all n ≡ Some item → test item ≡ true
+pub some_found : {A : Type 0} (test : A → Bool) (all : List A) (n : ℕ) (item : A) → slice_get all n ≡ Some item → test item ≡ true
     → (found : A) × (find test all ≡ Some found)
 some_found test [] n item is passes = absurd (none-some item is)
 some_found {A} test (first ∷ all) n item is passes = by (test first) refl n is (λ m there. some_found test all m item there passes) where
@@ -69,7 +69,7 @@ some_found {A} test (first ∷ all) n item is passes = by (test first) refl n is
   by false told (suc m) there rest = let found = rest m there in (found.0, rw (told) found.1)
 
 -- the edge of a route of the same number as a plan's
-route_edge : (plan : Plan) (effect : List Edge) (plans : List MadeEdge) (all : List RouteEdge) → AreEdgeRoutes effect plans all → AllLead plan effect plans
+pub route_edge : (plan : Plan) (effect : List Edge) (plans : List MadeEdge) (all : List RouteEdge) → AreEdgeRoutes effect plans all → AllLead plan effect plans
     → (n : ℕ) (made : MadeEdge) → slice_get plans n ≡ Some made
     → (edge : RouteEdge) × (slice_get all n ≡ Some edge) × (edge.to ≡ made.to)
 route_edge plan [] [] [] are lead n made is = absurd (none-some made is)
@@ -81,7 +81,7 @@ route_edge plan (edge ∷ effect) (first ∷ plans) (one ∷ all) are lead zero 
     (one, refl, are.0.to ∙ sym lead.0.same_to ∙ ap (λ (m : MadeEdge). m.to) (same_Some first made is))
 route_edge plan (edge ∷ effect) (first ∷ plans) (one ∷ all) are lead (suc n) made is = route_edge plan effect plans all are.1 lead.1 n made is
 
-is_its_kind : (kind : EdgeKind) → is_kind kind kind ≡ true
+pub is_its_kind : (kind : EdgeKind) → is_kind kind kind ≡ true
 is_its_kind edges.Next = refl
 is_its_kind (edges.Jump number) = eq-eqb number number refl
 is_its_kind (edges.Handler number) = eq-eqb number number refl
@@ -98,7 +98,7 @@ module _ (w : Writing) (given : Given w) where
 
   -- ---- a goto at the end of a block
 
-  goto_led : (front behind : List Finished) (one : Finished) (to : ℕ)
+  pub goto_led : (front behind : List Finished) (one : Finished) (to : ℕ)
       → w.blocks ≡ front ++ (one ∷ behind)
       → one.end ≡ goto_end to
       → is_led_to (items_in w) (place_of to) ≡ true
@@ -118,7 +118,7 @@ module _ (w : Writing) (given : Given w) where
 
   -- ---- pads
 
-  pad_led : (of : BlockOf) (is_it : BlockOf → Bool) (edge : RouteEdge) (made : List ℕ) (place : ℕ)
+  pub pad_led : (of : BlockOf) (is_it : BlockOf → Bool) (edge : RouteEdge) (made : List ℕ) (place : ℕ)
       → StandsFirst w.s routes is_it (pad_block w.s of edge made) place
       → is_led_to (items_in w) (place_of edge.to) ≡ true
   pad_led of is_it edge made place stands =
