@@ -8,6 +8,9 @@ mod SiteFields
 mod SiteSlots
 mod NextBlocks
 mod FreshBlocks
+mod LowPlaces
+mod LowBlocks
+mod OtherItems
 mod BlockPlaces
 mod EdgesWritten
 mod FreshItems
