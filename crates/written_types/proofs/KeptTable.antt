@@ -1,11 +1,10 @@
 -- The row of each instruction that is written as it is.
-use Rattle.std.proofs.Common.{◌≡◌, ◌≢◌, ◌⊎◌, ◌<◌, ℕ, zero, suc, Bool, true, false, List, [], ◌∷◌, ◌++◌, length, slice_get, Option, Some, None, if◌then◌else◌, IsTrue, refl, sym, ap, subst, ◌∙◌, inl, inr, arith}
-use Rattle.std.specs.Prelude.{◌==◌, ◌&&◌, ◌||◌, nat_le, option_and_then}
+use Rattle.std.proofs.Common.{◌≡◌, ◌≢◌, ℕ, Bool, true, false, List, [], ◌∷◌, ◌++◌, length, slice_get, Option, Some, None, if◌then◌else◌, refl, sym, ap, subst, ◌∙◌, inl, inr, arith}
+use Rattle.std.specs.Prelude.{◌==◌, ◌&&◌, nat_le, option_and_then}
 use Rattle.std.specs.List.{AllByRecursion, list_any}
 use Rattle.std.proofs.lemmas.Option.{none-some, same_Some}
 use Rattle.class_model.specs.Pool.{Constants, constant_at}
 use Rattle.class_model.specs.PoolChecks.{class_at}
-use Rattle.class_model.specs.declared.descriptor.Kind.{Kind}
 use Rattle.class_model.specs.declared.descriptor.Kind.TheVariants as kinds
 use Rattle.class_model.specs.declared.frame.Frame.{Frame}
 use Rattle.class_model.specs.declared.frame.VType.{VType}
@@ -15,25 +14,23 @@ use Rattle.class_model.specs.declared.instr.Instr.TheVariants.{Nop, Const, Ldc, 
 use Rattle.class_model.specs.declared.opcodes.TheConstants.{AALOAD, AASTORE, IALOAD, IASTORE, IFEQ, IFLE, IFNONNULL, IFNULL, IF_ACMPEQ, IF_ACMPNE, IF_ICMPEQ, IF_ICMPLE, INVOKESPECIAL}
 use Rattle.class_tree.specs.Headers.{Name}
 use Rattle.flow_code.specs.ReadTypes.{read_frame}
-use Rattle.flow_code.specs.declared.point.FlatInstr.{FlatInstr}
 use Rattle.flow_code.specs.declared.point.FlatInstr.TheVariants.{Of}
 use Rattle.member_link.specs.BodyTyping.{RowHolds}
 use Rattle.member_link.specs.Machine.CallSteps.{is_object_init}
-use Rattle.member_link.specs.Machine.Programs.{number_of_first}
 use Rattle.member_link.specs.References.{Reference}
 use Rattle.member_link.specs.RowScope.{RowScope}
 use Rattle.member_link.specs.Rows.ArithmeticRows.{Operation, divide_operations, float_operations, operation_in, pure_operations}
 use Rattle.member_link.specs.Rows.ArrayRows.{array_of, elements_from, primitive_array}
-use Rattle.member_link.specs.Rows.Operands.{AllFit, Need, initialised, of_kind, some_array, topmost}
+use Rattle.member_link.specs.Rows.Operands.{AllFit, initialised, of_kind, some_array, topmost}
 use Rattle.member_link.specs.Rows.Readings.{row_by}
 use Rattle.member_link.specs.Rows.Row.{Row}
 use Rattle.member_link.specs.Rows.Table.{row_of}
 use Rattle.member_link.specs.Signatures.{reference_of}
-use Rattle.plan_flow.specs.Must.{AsksFor, CannotBePut}
+use Rattle.plan_flow.specs.Must.{CannotBePut}
 use Rattle.plan_flow.specs.PlanRows.{PlanRow, Position, enter_monitor, leave_monitor, object_put_into, plain_value}
-use Rattle.plan_flow.specs.PlanScope.{PlanScope, field_of, member_of, pool_of, site_at}
+use Rattle.plan_flow.specs.PlanScope.{PlanScope, field_of, site_at}
 use Rattle.plan_flow.specs.PlanSlots.{changed, held, readable}
-use Rattle.plan_flow.specs.PlanTable.{call_row, cast_row, dynamic_row, get_field_row, held_locals, moving, null_row, operand, operands_asked, positions, put_field_row, row_at, same_row, throwing, value_stored}
+use Rattle.plan_flow.specs.PlanTable.{call_row, cast_row, dynamic_row, held_locals, moving, null_row, operand, operands_asked, put_field_row, row_at, same_row, throwing, value_stored}
 use Rattle.plan_flow.specs.Written.Routes.{Route}
 use Rattle.plan_flow.specs.Written.Templates.{get_template, init_template, instance_template, new_template, nothing_of, null_template, put_template, same_template, template}
 use Rattle.plan_flow.specs.Written.WrittenConstants.{with_index}
@@ -140,8 +137,40 @@ divide_numbers : OfNumbers divide_operations
 divide_numbers = (two_numbers, (two_numbers, tt))
 
 float_numbers : OfNumbers float_operations
-float_numbers = (two_numbers, (two_numbers, (one_number, (one_number, (one_number, (one_number, (one_number, (one_number, (one_number, (one_number, (one_number,
-    (one_number, (one_number, (one_number, (two_numbers, (two_numbers, tt))))))))))))))))
+float_numbers = (
+  two_numbers,
+  (
+    two_numbers,
+    (
+      one_number,
+      (
+        one_number,
+        (
+          one_number,
+          (
+            one_number,
+            (
+              one_number,
+              (
+                one_number,
+                (
+                  one_number,
+                  (
+                    one_number,
+                    (
+                      one_number,
+                      (one_number, (one_number, (one_number, (two_numbers, (two_numbers, tt))))),
+                    ),
+                  ),
+                ),
+              ),
+            ),
+          ),
+        ),
+      ),
+    ),
+  ),
+)
 
 -- ---- what is known of an instruction
 
@@ -254,9 +283,10 @@ module _ (w : Writing) (reached : ℕ → Bool) (f : Frame) (before : State) (re
     row : (p : PlanRow) → changed w.s before p.change ≡ [] → p.locals ≡ held_locals f → p.stack ≡ (moving f 2 []).stack
         → RowFollows w before rest f g p (flat_row (IfSame opcode target)) (row_of (scope_in w) g number (IfSame opcode target))
     row p still locals_are is =
-        without_access (jump_kept w reached f before rest g st known sc refl p (of_kind kinds.Ref ∷ of_kind kinds.Ref ∷ []) still locals_are is (tt, (tt, tt))
-        (inr (same_first w.s route (held before (operand f 1)) (held before (operand f 0)) none),
-        (inr (same_second w.s route (held before (operand f 1)) (held before (operand f 0)) none), tt))
+        without_access (jump_kept w reached f before rest g st known sc refl p (of_kind kinds.Ref ∷ of_kind kinds.Ref ∷ []) still locals_are is (tt, (tt, tt)) (
+          inr (same_first w.s route (held before (operand f 1)) (held before (operand f 0)) none),
+          (inr (same_second w.s route (held before (operand f 1)) (held before (operand f 0)) none), tt),
+        )
         (nat_le IF_ACMPEQ opcode && nat_le opcode IF_ACMPNE) holds.operands)
 
     by : (b : Bool) → (opcode == IF_ACMPEQ) ≡ b → Follow (IfSame opcode target)
@@ -302,8 +332,8 @@ module _ (w : Writing) (reached : ℕ → Bool) (f : Frame) (before : State) (re
         (reference_of w.pool (constant_at w.pool new)) (field_of w.s class index) meant.member
         (get_none w.s before (held before (operand f 0)) (found r is).0
         (subst (λ (x : Option Reference). get_template w.s before (held before (operand f 0)) x ≡ None) some none)) holds.operands) where
-      some : field_of w.s class index ≡ Some (found r is).0
-      some = field_is ∙ ap (option_and_then w.s.links.field) is ∙ (found r is).1
+          some : field_of w.s class index ≡ Some (found r is).0
+          some = field_is ∙ ap (option_and_then w.s.links.field) is ∙ (found r is).1
   instr_kept (PutField index) none asks meant found stands holds = by (reference_of old (constant_at old index)) refl where
     field_is : field_of w.s class index ≡ option_and_then w.s.links.field (reference_of old (constant_at old index))
     field_is = ap (λ (pool : Constants). option_and_then w.s.links.field (reference_of pool (constant_at pool index))) (same_pool w.s class)
@@ -313,19 +343,19 @@ module _ (w : Writing) (reached : ℕ → Bool) (f : Frame) (before : State) (re
     by (Some r) is =
         without_access (put_field_kept w reached f before rest g st known sc refl (reference_of old (constant_at old index))
         (reference_of w.pool (constant_at w.pool new)) (field_of w.s class index) meant.member value object holds.operands) where
-      some : field_of w.s class index ≡ Some (found r is).0
-      some = field_is ∙ ap (option_and_then w.s.links.field) is ∙ (found r is).1
+          some : field_of w.s class index ≡ Some (found r is).0
+          some = field_is ∙ ap (option_and_then w.s.links.field) is ∙ (found r is).1
 
-      object : IsNone before (operand f 1)
-      object =
-          put_object w.s before (operand f 1) (operand f 0) (found r is).0
-          (subst (λ (x : Option Reference). put_template w.s (held before (operand f 1)) (held before (operand f 0)) x ≡ None) some none)
+          object : IsNone before (operand f 1)
+          object =
+              put_object w.s before (operand f 1) (operand f 0) (found r is).0
+              (subst (λ (x : Option Reference). put_template w.s (held before (operand f 1)) (held before (operand f 0)) x ≡ None) some none)
 
-      asks_put : NoneAsked w.s before (put_field_row w.s f (Some (found r is).0))
-      asks_put = subst (λ (x : Option Reference). NoneAsked w.s before (put_field_row w.s f x)) some asks
+          asks_put : NoneAsked w.s before (put_field_row w.s f (Some (found r is).0))
+          asks_put = subst (λ (x : Option Reference). NoneAsked w.s before (put_field_row w.s f x)) some asks
 
-      value : IsNone before (operand f 0)
-      value = put_value w.s f before (found r is).0 object asks_put
+          value : IsNone before (operand f 0)
+          value = put_value w.s f before (found r is).0 object asks_put
   instr_kept (Invoke opcode index count) none asks meant found stands holds =
       subst (λ (pool : Constants). RowFollows w before rest f g (call_row f opcode (reference_of pool (constant_at pool index)))
       (flat_row (Invoke opcode index count)) (row_of (scope_in w) g number (Invoke opcode new count))) (sym (same_pool w.s class))
@@ -370,10 +400,12 @@ module _ (w : Writing) (reached : ℕ → Bool) (f : Frame) (before : State) (re
       (without_access (cast_kept w reached f before rest g st known sc refl (class_at old index) (class_at w.pool new) meant.class
       (nothing_none (held before (operand f 0)) none) holds.operands))
   instr_kept (InstanceOf index) none asks meant found stands holds =
-      gives_one w reached f before rest g st known sc refl (moving f 1 (plain_value ∷ [])) (initialised ∷ []) 1 types.Int refl refl refl refl tt (tt, tt)
-      (inr (instance_none w.s (held before (operand f 0)) found.0
-      (subst (λ (x : Option Name). instance_template w.s (held before (operand f 0)) x ≡ None)
-      (ap (λ (pool : Constants). class_at pool index) (same_pool w.s class) ∙ found.1) none)), tt) holds.operands
+      gives_one w reached f before rest g st known sc refl (moving f 1 (plain_value ∷ [])) (initialised ∷ []) 1 types.Int refl refl refl refl tt (tt, tt) (
+        inr (instance_none w.s (held before (operand f 0)) found.0
+            (subst (λ (x : Option Name). instance_template w.s (held before (operand f 0)) x ≡ None)
+            (ap (λ (pool : Constants). class_at pool index) (same_pool w.s class) ∙ found.1) none)),
+        tt,
+      ) holds.operands
   instr_kept Enter none asks meant found stands holds =
       gives_none w reached f before rest g st known sc refl (row_at w.s at f (Of class Enter)) (of_kind kinds.Ref ∷ []) 1 refl
       (monitor_still (nothing_none (held before (operand f 0)) none)) refl refl (tt, tt)

@@ -1,10 +1,10 @@
 -- The local units of the flat code as they are written: by number, and where some of them are set.
-use Rattle.std.proofs.Common.{◌≡◌, ◌≢◌, ◌⊎◌, ◌+◌, ◌<◌, ◌≤◌, ℕ, zero, suc, Bool, true, false, List, [], ◌∷◌, ◌++◌, length, map, slice_get, Option, Some, None, if◌then◌else◌, refl, sym, ap, subst, ◌∙◌, inl, inr, arith}
+use Rattle.std.proofs.Common.{◌≡◌, ◌≢◌, ◌+◌, ◌<◌, ◌≤◌, ℕ, zero, suc, Bool, true, false, List, [], ◌∷◌, ◌++◌, length, slice_get, Option, Some, None, if◌then◌else◌, refl, sym, ap, subst, ◌∙◌, inl, inr, arith}
 use Rattle.std.specs.Prelude.{slice_set}
 use Rattle.std.specs.List.{AllByRecursion}
 use Rattle.std.proofs.lemmas.List.{length-append, length-map}
 use Rattle.std.proofs.lemmas.Option.{none-some, same_Some}
-use Rattle.class_model.specs.Frames.{is_wide, units}
+use Rattle.class_model.specs.Frames.{is_wide}
 use Rattle.class_model.specs.declared.frame.VType.{VType}
 use Rattle.class_model.specs.declared.frame.VType.TheVariants as types
 use Rattle.member_link.specs.Rows.LocalRows.{cut_before, stored, with_units}
@@ -241,7 +241,6 @@ own_cut w rest s (suc at) written all slots within have usable own =
       ]) where
         plain_item : by_item w (type_in there.type there.slot) ≡ by_item w there.type
         plain_item = ap (λ (slot : Slot). by_item w (type_in there.type slot)) (plain_if_wide s there.type there.slot there.has there.used wide)
-
       by false wide true also =
           record {
             long = rw (cut_at at all there.type false there.is_type wide) refl;
