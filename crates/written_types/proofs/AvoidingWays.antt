@@ -1,14 +1,10 @@
 -- Ways of a plan that do not pass a point: along them no type is that of the uninitialised object of its new.
-use Rattle.std.proofs.Common.{◌≡◌, ◌≢◌, ◌⊎◌, ◌==◌, ℕ, Bool, true, false, not, List, Some, slice_get, refl, sym, ap, subst, ◌∙◌, inl, inr}
+use Rattle.std.proofs.Common.{◌≡◌, ◌≢◌, ◌⊎◌, ◌==◌, ℕ, Bool, true, false, not, Some, slice_get, refl, sym, ap, subst, ◌∙◌, inl, inr}
 use Rattle.std.proofs.lemmas.Bool.{eq-eqb, eqb-true, false≢true}
 use Rattle.std.proofs.lemmas.Option.{same_Some}
-use Rattle.std.specs.Prelude.{Option, is_some}
-use Rattle.class_model.specs.declared.instr.Instr.TheVariants.{New}
 use Rattle.class_tree.specs.Headers.{headers_of}
 use Rattle.flow_code.specs.FlatCode.{point_at}
-use Rattle.flow_code.specs.declared.point.FlatInstr.TheVariants.{Of}
 use Rattle.flow_code.specs.declared.point.Point.{Point}
-use Rattle.plan_flow.specs.Effect.{IsEffect}
 use Rattle.plan_flow.specs.Plans.{IsLedTo, MadeEdge, Plan, PlannedPoint, at_start, over_edge, planned, state_left}
 use Rattle.plan_flow.specs.declared.edge.Edge.{Edge}
 use Rattle.virtual_state.specs.Orders.{IsBelow}
@@ -19,8 +15,8 @@ use Rattle.written_types.proofs.Edges.{PointKnown, effect_fits}
 use Rattle.written_types.proofs.Given.{Given}
 use Rattle.written_types.proofs.SiteFields.{SitesKnown}
 use Rattle.written_types.proofs.Starts.{start_fits}
-use Rattle.written_types.proofs.Ways.{LedEdge, headers_are, led_edge, no_initialiser, point_known, sites}
-use Rattle.written_types.specs.FitsTypes.{FitsTypes, IsReachedNew}
+use Rattle.written_types.proofs.Ways.{headers_are, led_edge, no_initialiser, point_known, sites}
+use Rattle.written_types.specs.FitsTypes.{FitsTypes}
 use Rattle.written_types.specs.Writing.{Writing}
 
 -- a point is led to over edges of points that are other than this one

@@ -1,5 +1,5 @@
 -- Gotos, and comparisons of virtual objects, which are decided: their templates carry each frame.
-use Rattle.std.proofs.Common.{◌≡◌, ◌≢◌, ◌+◌, ◌-◌, ℕ, suc, Bool, true, false, List, [], ◌∷◌, ◌++◌, drop, length, map, slice_get, Some, None, refl, sym, ap, subst, ◌∙◌}
+use Rattle.std.proofs.Common.{◌≡◌, ◌≢◌, ◌-◌, ℕ, suc, Bool, true, false, List, [], ◌∷◌, ◌++◌, drop, length, map, slice_get, Some, None, refl, sym, ap, subst, ◌∙◌}
 use Rattle.std.specs.Prelude.{◌==◌, ◌&&◌, ◌||◌, nat_le, not}
 use Rattle.std.specs.List.{AllByRecursion}
 use Rattle.std.proofs.lemmas.Bool.{false≢true}
@@ -45,7 +45,7 @@ use Rattle.written_types.proofs.Placing.{IsMade}
 use Rattle.written_types.proofs.ShuffleOperands.{agree_same}
 use Rattle.written_types.proofs.SlotFrames.{by_top, by_wide}
 use Rattle.written_types.proofs.TemplateRows.{OneType, TwoTypes, as_many, holds_for, one_type, operands_are, plan_for, row_for, scope_for, two_types}
-use Rattle.written_types.proofs.Templates.{Before, By, Taken, agrees_behind, along, entries, jump_there, locals_stay, number, plan_row, read, row, state, taken}
+use Rattle.written_types.proofs.Templates.{Before, By, Taken, agrees_behind, along, entries, jump_there, locals_stay, number, plan_row, read, state, taken}
 use Rattle.written_types.specs.Writing.{AgreeIn, Agrees, BlockCarries, Carries, Writing, carries_none}
 
 -- ---- rows of comparisons

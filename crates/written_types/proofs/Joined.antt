@@ -1,9 +1,6 @@
 -- Each block of written code carries each frame with which it can begin: so frames type the whole, and there are such frames.
-use Rattle.std.proofs.Common.{◌≡◌, ◌≢◌, ◌+◌, ◌≤◌, ℕ, List, [], ◌∷◌, ◌++◌, length, Option, Some, None, slice_get, refl, sym, ap, subst, ◌∙◌}
+use Rattle.std.proofs.Common.{◌≡◌, ◌≤◌, ℕ, List, ◌∷◌, ◌++◌, length, Option, Some, None, refl}
 use Rattle.class_model.specs.declared.frame.Frame.{Frame}
-use Rattle.class_model.specs.declared.instr.Instr.{Instr}
-use Rattle.class_tree.specs.Headers.{headers_of}
-use Rattle.flow_code.specs.FlatCode.{point_at}
 use Rattle.flow_code.specs.declared.point.FlatInstr.{FlatInstr}
 use Rattle.flow_code.specs.declared.point.FlatInstr.TheVariants.{Of, NullTest}
 use Rattle.flow_code.specs.declared.point.Point.{Point}
@@ -44,7 +41,7 @@ use Rattle.written_types.proofs.Templates.{Before}
 use Rattle.written_types.proofs.TypedBodies.{AreThere, frames_are_there, frames_type}
 use Rattle.written_types.proofs.Ways.{sites}
 use Rattle.written_types.proofs.WrittenPool.{PoolLaws}
-use Rattle.written_types.specs.Writing.{Agrees, BlockCarries, IsFresh, Writing, body_in, comes, frame_in, had_in, items_in, points_in}
+use Rattle.written_types.specs.Writing.{Agrees, BlockCarries, IsFresh, Writing, body_in, frame_in, items_in, points_in}
 
 -- what laws of other crates say
 pub record LawsBelow : Type 0 where

@@ -1,5 +1,5 @@
 -- The block in which a frame is stated: where it begins, and its place among the blocks of points.
-use Rattle.std.proofs.Common.{◌≡◌, ◌≢◌, ◌≤◌, ℕ, suc, Bool, true, false, List, Some, sym, ap, subst, ◌∙◌, arith}
+use Rattle.std.proofs.Common.{◌≡◌, ◌≤◌, ℕ, suc, Bool, false, List, Some, sym, ap, subst, ◌∙◌, arith}
 use Rattle.std.proofs.lemmas.Bool.{false≢true}
 use Rattle.making_code.specs.StateFrames.{state_frame}
 use Rattle.plan_flow.specs.Plans.{Plan, PlannedPoint, planned}

@@ -1,15 +1,14 @@
 -- What constants mean that a pool has grown by: those of another pool mean the same in it, and in whatever it grows to.
-use Rattle.std.proofs.Common.{◌≡◌, ◌++◌, ℕ, List, [], ◌∷◌, slice_get, Option, Some, None, refl, sym, ap, subst, ◌∙◌}
-use Rattle.std.proofs.lemmas.Option.{none-some, same_Some}
+use Rattle.std.proofs.Common.{◌≡◌, ◌++◌, ℕ, List, [], ◌∷◌, Some, None, refl, sym, ap, subst, ◌∙◌}
 use Rattle.class_model.specs.Pool.{Constants, constant_at, entries_of}
 use Rattle.class_model.specs.PoolChecks.{class_at, descriptor_at, name_at, utf8_at}
 use Rattle.class_model.specs.declared.pool.Const.{Const}
 use Rattle.class_model.specs.declared.pool.Const.TheVariants.{Class, Double, Fieldref, Float, Integer, InterfaceMethodref, InvokeDynamic, Long, MethodHandle, MethodType, Methodref, NameAndType, String, Utf8}
 use Rattle.class_tree.specs.Headers.{Name}
-use Rattle.making_code.specs.Constants.{MemberKind, Need, class_index, class_needs, constant_of, grow, index_in, index_of, index_or_zero, last_need, member_needs, name_and_type_index, name_and_type_needs, needs_at, needs_class, needs_itself, needs_member, needs_name_and_type, needs_of_class, needs_of_reference, needs_of_string, needs_string, of_field, of_interface_method, of_method, reference_of_kind, string_needs, text_index}
+use Rattle.making_code.specs.Constants.{MemberKind, Need, class_index, class_needs, constant_of, grow, index_in, index_of, index_or_zero, member_needs, name_and_type_index, name_and_type_needs, needs_at, needs_class, needs_itself, needs_member, needs_name_and_type, needs_string, of_field, of_interface_method, of_method, reference_of_kind, string_needs, text_index}
 use Rattle.making_code.specs.IndexedMaking.{index_of_last}
-use Rattle.written_types.proofs.AddedConstants.{Compares, added_there, added_with, class_named, found_or_zero, grow_one, grow_split, index_stays, index_there}
-use Rattle.making_code.specs.Laws.GrownPools.{Begins, begins_itself, begins_through, grow_begins}
+use Rattle.written_types.proofs.AddedConstants.{Compares, added_with, class_named, found_or_zero, grow_one, grow_split, index_stays, index_there}
+use Rattle.making_code.specs.Laws.GrownPools.{Begins, grow_begins}
 
 -- ---- a constant stands in a pool
 

@@ -46,7 +46,7 @@ use Rattle.written_types.proofs.SlotFrames.{agree_at, as_read, by_top, read_slot
 use Rattle.written_types.proofs.SlotTypes.{item_before}
 use Rattle.written_types.proofs.TemplateEnds.{along_fits}
 use Rattle.written_types.proofs.TemplateRows.{holds_for, plan_for, row_for}
-use Rattle.written_types.proofs.Templates.{Before, By, Taken, agrees_behind, along, entries, locals_agree, locals_stay, next_there, number, places, read, row, state, taken}
+use Rattle.written_types.proofs.Templates.{Before, By, Taken, agrees_behind, along, entries, locals_agree, locals_stay, next_there, number, places, read, state, taken}
 use Rattle.written_types.specs.Writing.{AgreeIn, Agrees, BlockCarries, Carries, IsPlaced, ItemHolds, LeadsIn, Writing, carries_away, carries_on, point_in, scope_in}
 
 -- ---- lists

@@ -1,12 +1,12 @@
 -- The operands of pop, dup, swap and the like: what the written stack has of them, and of those that are given.
-use Rattle.std.proofs.Common.{◌≡◌, ◌+◌, ◌<◌, ℕ, zero, suc, Bool, true, false, List, [], ◌∷◌, ◌++◌, length, map, slice_get, Option, Some, refl, sym, ap, ◌∙◌, inl, inr, arith}
+use Rattle.std.proofs.Common.{◌≡◌, ◌<◌, ℕ, zero, suc, Bool, true, false, List, [], ◌∷◌, ◌++◌, length, map, slice_get, Option, Some, refl, sym, ap, ◌∙◌, inl, inr, arith}
 use Rattle.std.specs.Prelude.{not}
 use Rattle.std.specs.List.{AllByRecursion}
 use Rattle.std.proofs.lemmas.Bool.{and_parts, false≢true}
 use Rattle.class_model.specs.Frames.{depth, is_top, is_wide}
 use Rattle.class_model.specs.declared.frame.VType.{VType}
 use Rattle.class_model.specs.declared.frame.VType.TheVariants as types
-use Rattle.member_link.specs.Rows.ShuffleRows.{Width, has_width, have_widths, one, picked, two}
+use Rattle.member_link.specs.Rows.ShuffleRows.{Width, has_width, have_widths, one, picked}
 use Rattle.plan_flow.specs.PlanScope.{PlanScope}
 use Rattle.plan_flow.specs.PlanSlots.{readable}
 use Rattle.plan_flow.specs.Written.Templates.{Cell, cells_from}

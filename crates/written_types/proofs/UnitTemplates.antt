@@ -23,7 +23,6 @@ use Rattle.virtual_state.specs.States.{is_present}
 use Rattle.virtual_state.specs.declared.slot.VObject.{VObject}
 use Rattle.written_types.proofs.SlotFrames.{units_behind}
 use Rattle.written_types.proofs.FieldUnits.{bare, fields_long, units_for}
-use Rattle.written_types.proofs.Templates.{By}
 use Rattle.written_types.specs.Writing.{AgreeIn}
 
 -- ---- types of values
