@@ -6,7 +6,7 @@ use Rattle.std.proofs.lemmas.Option.{none-some, same_Some}
 use Rattle.class_model.specs.declared.frame.VType.{VType}
 use Rattle.class_model.specs.declared.frame.VType.TheVariants as types
 use Rattle.member_link.specs.Rows.Operands.{topmost, under}
-use Rattle.written_types.specs.Writing.{AgreeIn}
+use Rattle.written_types.specs.Inner.CarriedFrames.{AgreeIn}
 
 abbrev pub AgreeAt : VType → VType → Type 0
 AgreeAt type written = (written ≡ types.Top) ⊎ (type ≡ written)

@@ -19,7 +19,8 @@ use Rattle.written_types.proofs.CarriedBlocks.{block_starts}
 use Rattle.written_types.proofs.Given.{Given}
 use Rattle.written_types.proofs.NewItems.{below, compare}
 use Rattle.written_types.specs.FitsTypes.{FitsTypes, is_reached}
-use Rattle.written_types.specs.Writing.{Writing, frame_in}
+use Rattle.written_types.specs.Inner.CarriedFrames.{frame_in}
+use Rattle.written_types.specs.Writing.{Writing}
 
 -- ---- items of blocks
 

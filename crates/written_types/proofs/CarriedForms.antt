@@ -34,7 +34,8 @@ use Rattle.written_types.proofs.ItemRows.{jumping_falls, jumping_row, jumping_ta
 use Rattle.written_types.proofs.ReadyPoints.{FindsOne}
 use Rattle.written_types.proofs.RowTable.{IsGoing}
 use Rattle.written_types.proofs.WrittenPool.{PoolLaws}
-use Rattle.written_types.specs.Writing.{Agrees, Carries, ItemHolds, LeadsIn, RowFits, Writing, carries_away, carries_none, carries_on, point_in, scope_in}
+use Rattle.written_types.specs.Inner.CarriedFrames.{Agrees, Carries, ItemHolds, LeadsIn, RowFits, carries_away, carries_none, carries_on}
+use Rattle.written_types.specs.Writing.{Writing, point_in, scope_in}
 use Rattle.written_types.proofs.CarriedHolds.{kept, next_frame}
 use Rattle.written_types.proofs.CarriedItems.{targets_many}
 use Rattle.written_types.proofs.CarriedHolds.{falls_as, fits_next}

@@ -49,7 +49,8 @@ use Rattle.written_types.proofs.StandingFrames.{RowFollows, Stands, left_by_row}
 use Rattle.written_types.proofs.Ways.{headers_are, point_known, same_reached, sites}
 use Rattle.written_types.proofs.WrittenPool.{PoolLaws}
 use Rattle.written_types.specs.FitsTypes.{FitsTypes, IsReachedNew, is_reached}
-use Rattle.written_types.specs.Writing.{Agrees, RowFits, Writing, point_in, scope_in}
+use Rattle.written_types.specs.Inner.CarriedFrames.{Agrees, RowFits}
+use Rattle.written_types.specs.Writing.{Writing, point_in, scope_in}
 
 -- ---- what is known of each point
 

@@ -19,7 +19,8 @@ use Rattle.same_runs.specs.FlatBodies.{caught_class}
 use Rattle.written_types.proofs.Given.{EdgesFit, Given, TargetsStand, written_along}
 use Rattle.written_types.proofs.Placing.{leads_in}
 use Rattle.written_types.proofs.WrittenTypes.{IsSteady}
-use Rattle.written_types.specs.Writing.{Agrees, LeadsIn, Writing}
+use Rattle.written_types.specs.Inner.CarriedFrames.{Agrees, LeadsIn}
+use Rattle.written_types.specs.Writing.{Writing}
 
 pub caught_steady : (class : Option Name) → IsSteady (caught_type class)
 caught_steady None = tt

@@ -46,7 +46,8 @@ use Rattle.written_types.proofs.RouteEdges.{planned_route, written_is}
 use Rattle.written_types.proofs.RowTable.{IsGoing}
 use Rattle.written_types.proofs.WrittenPool.{PoolLaws}
 use Rattle.written_types.specs.FitsTypes.{is_reached}
-use Rattle.written_types.specs.Writing.{Agrees, ItemHolds, LeadsIn, Writing, point_in}
+use Rattle.written_types.specs.Inner.CarriedFrames.{Agrees, ItemHolds, LeadsIn}
+use Rattle.written_types.specs.Writing.{Writing, point_in}
 use Rattle.written_types.proofs.CarriedHolds.{next_frame, own, own_items}
 use Rattle.written_types.proofs.CarriedItems.{caught_steady, handlers_lead, targets_many}
 

@@ -37,7 +37,8 @@ use Rattle.written_types.proofs.OppositeRows.{opposite_falls, opposite_one}
 use Rattle.written_types.proofs.Placing.{block_carries, fits_before, goes_behind, items_and_end}
 use Rattle.written_types.proofs.ReadyPoints.{FindsOne}
 use Rattle.written_types.proofs.WrittenPool.{PoolLaws}
-use Rattle.written_types.specs.Writing.{Agrees, BlockCarries, Carries, IsFresh, LeadsIn, Writing, frame_in}
+use Rattle.written_types.specs.Inner.CarriedFrames.{Agrees, BlockCarries, Carries, IsFresh, LeadsIn, frame_in}
+use Rattle.written_types.specs.Writing.{Writing}
 
 -- ---- the number of its block
 

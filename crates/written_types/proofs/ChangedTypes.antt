@@ -19,7 +19,8 @@ use Rattle.virtual_state.specs.declared.slot.Slot.TheVariants.{Plain, Virt, Unus
 use Rattle.written_types.proofs.AgreeLists.{AgreeAt}
 use Rattle.written_types.proofs.WrittenTypes.{IsSteady, by_item, entry_types, item_top, own_types}
 use Rattle.written_types.specs.FitsTypes.{HasItsNew, IsReachedNew}
-use Rattle.written_types.specs.Writing.{AgreeIn, Writing, scope_in}
+use Rattle.written_types.specs.Inner.CarriedFrames.{AgreeIn}
+use Rattle.written_types.specs.Writing.{Writing, scope_in}
 
 -- ---- news that are written
 

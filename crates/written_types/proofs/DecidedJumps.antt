@@ -46,7 +46,8 @@ use Rattle.written_types.proofs.ShuffleOperands.{agree_same}
 use Rattle.written_types.proofs.SlotFrames.{by_top, by_wide}
 use Rattle.written_types.proofs.TemplateRows.{OneType, TwoTypes, as_many, holds_for, one_type, operands_are, plan_for, row_for, scope_for, two_types}
 use Rattle.written_types.proofs.Templates.{Before, By, Taken, agrees_behind, along, entries, jump_there, locals_stay, number, plan_row, read, state, taken}
-use Rattle.written_types.specs.Writing.{AgreeIn, Agrees, BlockCarries, Carries, Writing, carries_none}
+use Rattle.written_types.specs.Inner.CarriedFrames.{AgreeIn, Agrees, BlockCarries, Carries, carries_none}
+use Rattle.written_types.specs.Writing.{Writing}
 
 -- ---- rows of comparisons
 

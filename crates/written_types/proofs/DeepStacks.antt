@@ -14,7 +14,8 @@ use Rattle.member_link.specs.Rows.Row.{Row, row_frame, stack_behind}
 use Rattle.plan_flow.specs.Written.FramedCode.{depth_in, greatest_of}
 use Rattle.written_types.proofs.FramedBodies.{AreHad}
 use Rattle.written_types.proofs.ItemPlaces.{StandsAt, point_stands}
-use Rattle.written_types.specs.Writing.{IsDeepEnough, Writing, point_in, points_in}
+use Rattle.written_types.specs.Inner.CarriedFrames.{IsDeepEnough}
+use Rattle.written_types.specs.Writing.{Writing, point_in, points_in}
 
 -- ---- depths
 

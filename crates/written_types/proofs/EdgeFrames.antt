@@ -40,7 +40,8 @@ use Rattle.written_types.proofs.Arrivals.{types_there}
 use Rattle.written_types.proofs.Given.{FitsState, entries_in, locals_in, read_along, type_in, written_along, written_before}
 use Rattle.written_types.proofs.RouteEdges.{EdgeComes}
 use Rattle.written_types.specs.FitsTypes.{HaveTypes}
-use Rattle.written_types.specs.Writing.{Agrees, Writing}
+use Rattle.written_types.specs.Inner.CarriedFrames.{Agrees}
+use Rattle.written_types.specs.Writing.{Writing}
 
 -- ---- types that are assignable
 

@@ -35,7 +35,8 @@ use Rattle.written_types.proofs.Given.{CanMake, EdgeTarget, EdgesFit, FitsState,
 use Rattle.written_types.proofs.NewSources.{IsOld, NewIsLast, new_is_last}
 use Rattle.written_types.proofs.RouteEdges.{EdgeComes, edge_comes, edge_leads, edge_number, planned_route, written_is}
 use Rattle.written_types.specs.FitsTypes.{HaveTypes}
-use Rattle.written_types.specs.Writing.{Agrees, Writing}
+use Rattle.written_types.specs.Inner.CarriedFrames.{Agrees}
+use Rattle.written_types.specs.Writing.{Writing}
 
 -- ---- stack entries whose type is Top
 

@@ -21,7 +21,8 @@ use Rattle.plan_flow.specs.Written.WrittenCode.{Form, block_items, in_form, over
 use Rattle.plan_flow.specs.Written.WrittenFrames.{written_frame}
 use Rattle.written_types.proofs.AgreeingFrames.{agrees_with_itself}
 use Rattle.written_types.proofs.CarriedBlocks.{GoesOn}
-use Rattle.written_types.specs.Writing.{Agrees, BlockCarries, Carries, GoesBehind, IsFresh, Writing, carries_none, frame_in}
+use Rattle.written_types.specs.Inner.CarriedFrames.{Agrees, BlockCarries, Carries, GoesBehind, IsFresh, carries_none, frame_in}
+use Rattle.written_types.specs.Writing.{Writing}
 
 -- ---- what a block without items ends with
 

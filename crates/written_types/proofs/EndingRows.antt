@@ -29,7 +29,8 @@ use Rattle.plan_flow.specs.Written.FramedCode.{greatest_of}
 use Rattle.plan_flow.specs.Written.WrittenConstants.{indexed_item}
 use Rattle.written_types.proofs.DeepStacks.{GoesOrEnds, deep_enough}
 use Rattle.written_types.proofs.FramedBodies.{AreHad}
-use Rattle.written_types.specs.Writing.{IsDeepEnough, Writing, point_in, points_in, scope_in}
+use Rattle.written_types.specs.Inner.CarriedFrames.{IsDeepEnough}
+use Rattle.written_types.specs.Writing.{Writing, point_in, points_in, scope_in}
 
 abbrev Goes : Row → Type 0
 Goes row = row.goes_on ≡ true

@@ -21,7 +21,8 @@ use Rattle.written_types.proofs.BlockEnds.{goto_carries, nop_carries}
 use Rattle.written_types.proofs.BlockKinds.{BlockKind, blocks_after, finished, first_at, first_state, kind_of_block, makes_before_point, makes_on_next, none_in_handlers, none_in_jumps, of_instruction, of_pad}
 use Rattle.written_types.proofs.Given.{EdgesFit, EndCarries, EndsCarry, FitsState, Given, TargetsStand}
 use Rattle.written_types.proofs.Placing.{fits_before, items_and_end, leads_in}
-use Rattle.written_types.specs.Writing.{BlockCarries, Carries, GoesBehind, Writing, carries_none}
+use Rattle.written_types.specs.Inner.CarriedFrames.{BlockCarries, Carries, GoesBehind, carries_none}
+use Rattle.written_types.specs.Writing.{Writing}
 
 -- ---- an end without a goto
 

@@ -29,7 +29,8 @@ use Rattle.written_types.proofs.TemplateEnds.{along_fits}
 use Rattle.written_types.proofs.Templates.{Before, By, along, moved_slots, objects_behind, plan_row, row}
 use Rattle.written_types.proofs.UnitTemplates.{AssignedParts, assigned_both, assigned_parts, by_units, less_assigned, units_less, sites_long}
 use Rattle.written_types.specs.FitsTypes.{FitsTypes, is_reached}
-use Rattle.written_types.specs.Writing.{AgreeIn, Writing, scope_in}
+use Rattle.written_types.specs.Inner.CarriedFrames.{AgreeIn}
+use Rattle.written_types.specs.Writing.{Writing, scope_in}
 
 -- ---- what all field units have
 

@@ -48,7 +48,8 @@ use Rattle.written_types.proofs.TemplateEnds.{template_carries}
 use Rattle.written_types.proofs.TemplateRows.{OneType, as_many, holds_for, nothing_template, one_type, operand_slots, plan_for, row_for, scope_for}
 use Rattle.written_types.proofs.Templates.{Before, By, Taken, agrees_behind, along, entries, locals_stay, moved_slots, number, plan_row, read, row, state, taken}
 use Rattle.written_types.specs.FitsTypes.{HaveTypes, IsOfType}
-use Rattle.written_types.specs.Writing.{AgreeIn, BlockCarries, Carries, Writing, carries_none}
+use Rattle.written_types.specs.Inner.CarriedFrames.{AgreeIn, BlockCarries, Carries, carries_none}
+use Rattle.written_types.specs.Writing.{Writing}
 
 -- the member that a constant of a class refers to, as the typing of code reads it
 abbrev pub named_in : Writing → ℕ → ℕ → Option Reference

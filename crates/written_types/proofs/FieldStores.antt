@@ -26,7 +26,8 @@ use Rattle.written_types.proofs.ItemSteps.{const_carries, frame_of, pure_carries
 use Rattle.written_types.proofs.SlotFrames.{agree_long, agreeing_parts}
 use Rattle.written_types.proofs.StoredUnits.{Suits, cut_end, stored_is, suits_cut}
 use Rattle.written_types.proofs.UnitTemplates.{agree_assigned, assigned_both}
-use Rattle.written_types.specs.Writing.{AgreeIn, Carries, Writing}
+use Rattle.written_types.specs.Inner.CarriedFrames.{AgreeIn, Carries}
+use Rattle.written_types.specs.Writing.{Writing}
 
 -- ---- room for a value
 

@@ -56,7 +56,8 @@ use Rattle.written_types.proofs.TemplateRows.{TwoTypes, as_many, field_present, 
 use Rattle.written_types.proofs.Templates.{Before, By, Taken, entries, locals_agree, locals_stay, number, objects_behind, own_stays, plan_row, read, row, stack_along, state, taken, units_alike}
 use Rattle.written_types.proofs.UnitTemplates.{by_units}
 use Rattle.written_types.specs.FitsTypes.{HavePairs, HaveTypes, IsOfType}
-use Rattle.written_types.specs.Writing.{AgreeIn, BlockCarries, Carries, Writing, carries_none, scope_in}
+use Rattle.written_types.specs.Inner.CarriedFrames.{AgreeIn, BlockCarries, Carries, carries_none}
+use Rattle.written_types.specs.Writing.{Writing, scope_in}
 
 -- ---- the units before a store
 

@@ -16,7 +16,8 @@ use Rattle.plan_flow.specs.Written.WrittenCode.{block_items, written_items}
 use Rattle.plan_flow.specs.Written.WrittenConstants.{indexed_item}
 use Rattle.written_types.proofs.CarriedBlocks.{AllCarry, GoesOn, HoldFrom, PointHolds, ReachesFrame, block_starts, fits_next}
 use Rattle.written_types.proofs.ItemPlaces.{StandsAt, numbered_apart, numbered_long, point_stands, written_apart}
-use Rattle.written_types.specs.Writing.{body_in, FitsBefore, LeadsIn, Writing, comes, frame_in, had_in, items_in, point_in, points_in, scope_in, stated_in}
+use Rattle.written_types.specs.Inner.CarriedFrames.{FitsBefore, LeadsIn, comes, frame_in, had_in, stated_in}
+use Rattle.written_types.specs.Writing.{body_in, Writing, items_in, point_in, points_in, scope_in}
 
 -- ---- the frames are those that items have
 

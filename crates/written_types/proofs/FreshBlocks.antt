@@ -24,7 +24,8 @@ use Rattle.written_types.proofs.OtherRows.{Other, others_apart}
 use Rattle.written_types.proofs.SlotFrames.{slots_frame, state_is, units_behind}
 use Rattle.written_types.proofs.Standing.{all_joined}
 use Rattle.written_types.specs.FitsTypes.{is_reached}
-use Rattle.written_types.specs.Writing.{IsFresh, Writing, comes, had_in, items_in}
+use Rattle.written_types.specs.Inner.CarriedFrames.{IsFresh, comes, had_in}
+use Rattle.written_types.specs.Writing.{Writing, items_in}
 
 module _ (w : Writing) (given : Given w) (fit : EdgesFit w given) (edges : EdgesWritten w given) where
   abbrev plan : Plan

@@ -19,7 +19,8 @@ use Rattle.written_types.proofs.OtherRows.{Other, leaves_other}
 use Rattle.written_types.proofs.Starts.{host_new}
 use Rattle.written_types.proofs.Ways.{no_initialiser}
 use Rattle.written_types.specs.FitsTypes.{HasItsNew}
-use Rattle.written_types.specs.Writing.{Writing, comes, entry_in, flows_from, had_in, items_in, points_in, scope_in, stated_in}
+use Rattle.written_types.specs.Inner.CarriedFrames.{comes, flows_from, had_in, stated_in}
+use Rattle.written_types.specs.Writing.{Writing, entry_in, items_in, points_in, scope_in}
 
 -- ---- a frame without an object of an item
 

@@ -46,7 +46,8 @@ use Rattle.virtual_state.specs.declared.slot.Slot.TheVariants.{Plain, Virt, Unus
 use Rattle.virtual_state.specs.declared.slot.VObject.{VObject}
 use Rattle.written_types.specs.FitsTypes.{FitsRoutes, FitsTypes, is_reached}
 use Rattle.written_types.specs.Setting.{Setting}
-use Rattle.written_types.specs.Writing.{Agrees, Carries, GoesBehind, IsFresh, IsPlaced, Writing, scope_in}
+use Rattle.written_types.specs.Inner.CarriedFrames.{Agrees, Carries, GoesBehind, IsFresh, IsPlaced}
+use Rattle.written_types.specs.Writing.{Writing, scope_in}
 
 pub record Given (w : Writing) : Type 0 where
   pub setting : Setting w

@@ -54,7 +54,8 @@ use Rattle.written_types.proofs.TemplateEnds.{template_carries}
 use Rattle.written_types.proofs.TemplateRows.{OneType, as_many, holds_for, nothing_template, one_type, operand_slots, operands_are, plan_for, row_for, scope_for}
 use Rattle.written_types.proofs.Templates.{Before, By, Taken, agrees_behind, along, entries, locals_stay, number, plan_row, read, read_long, row, state, taken}
 use Rattle.written_types.specs.FitsTypes.{HaveTypes, IsOfType}
-use Rattle.written_types.specs.Writing.{AgreeIn, BlockCarries, Carries, Writing, carries_none}
+use Rattle.written_types.specs.Inner.CarriedFrames.{AgreeIn, BlockCarries, Carries, carries_none}
+use Rattle.written_types.specs.Writing.{Writing}
 
 -- what is popped
 init_items : (s : PlanScope) (at : ℕ) (point : Point) (state : State) (route : Route) (class opcode index count : ℕ) (r : Reference) (slot : Slot)

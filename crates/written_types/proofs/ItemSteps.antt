@@ -19,7 +19,8 @@ use Rattle.member_link.specs.Rows.ShuffleRows.{Form, Width, form_in, form_row, f
 use Rattle.written_types.proofs.BlockEnds.{topmost_none, under_none}
 use Rattle.written_types.proofs.SlotFrames.{topmost_is, under_is}
 use Rattle.written_types.proofs.Standing.{fit_long}
-use Rattle.written_types.specs.Writing.{Carries, RowFits, Writing, carries_on, scope_in}
+use Rattle.written_types.specs.Inner.CarriedFrames.{Carries, RowFits, carries_on}
+use Rattle.written_types.specs.Writing.{Writing, scope_in}
 
 abbrev pub frame_of : List VType → List VType → Frame
 frame_of locals stack = record { locals = locals; stack = stack }

@@ -41,7 +41,8 @@ use Rattle.written_types.proofs.Templates.{Before}
 use Rattle.written_types.proofs.TypedBodies.{AreThere, frames_are_there, frames_type}
 use Rattle.written_types.proofs.Ways.{sites}
 use Rattle.written_types.proofs.WrittenPool.{PoolLaws}
-use Rattle.written_types.specs.Writing.{Agrees, BlockCarries, IsFresh, Writing, body_in, frame_in, items_in, points_in}
+use Rattle.written_types.specs.Inner.CarriedFrames.{Agrees, BlockCarries, IsFresh, frame_in}
+use Rattle.written_types.specs.Writing.{Writing, body_in, items_in, points_in}
 
 -- what laws of other crates say
 pub record LawsBelow : Type 0 where

@@ -35,7 +35,8 @@ use Rattle.written_types.proofs.SlotFrames.{grouped}
 use Rattle.written_types.proofs.Standing.{all_joined}
 use Rattle.written_types.proofs.TemplateEnds.{made_items, template_carries}
 use Rattle.written_types.proofs.Templates.{Before, along, moved_slots, number, objects_behind, plan_row, read, row, state}
-use Rattle.written_types.specs.Writing.{Agrees, BlockCarries, Carries, IsFresh, Writing}
+use Rattle.written_types.specs.Inner.CarriedFrames.{Agrees, BlockCarries, Carries, IsFresh}
+use Rattle.written_types.specs.Writing.{Writing}
 
 -- ---- make code has no instruction of a class file
 

@@ -37,7 +37,8 @@ use Rattle.written_types.proofs.SiteFields.{SitesKnown}
 use Rattle.written_types.proofs.Standing.{all_at, all_dropped, all_taken, kept_locals, under_have}
 use Rattle.written_types.proofs.StandingFrames.{Cut, Follows, Stands, cut, held_same, moved, operands_fit}
 use Rattle.written_types.proofs.WrittenTypes.{by_item, entry_types, item_top, own_types, steady_item, written_joined}
-use Rattle.written_types.specs.Writing.{AgreeIn, Writing, scope_in}
+use Rattle.written_types.specs.Inner.CarriedFrames.{AgreeIn}
+use Rattle.written_types.specs.Writing.{Writing, scope_in}
 
 -- what the rows of a class's instructions read in the flat code
 abbrev pub flat_scope : Writing → ℕ → RowScope

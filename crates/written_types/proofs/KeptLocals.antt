@@ -35,7 +35,8 @@ use Rattle.written_types.proofs.StandingFrames.{Cut, Stands, cut, held_plain, mo
 use Rattle.written_types.proofs.TwoUnits.{room_of_wide}
 use Rattle.written_types.proofs.WrittenTypes.{by_item, entry_types, item_top, own_types}
 use Rattle.written_types.specs.FitsTypes.{HasItsNew}
-use Rattle.written_types.specs.Writing.{AgreeIn, Writing, scope_in}
+use Rattle.written_types.specs.Inner.CarriedFrames.{AgreeIn}
+use Rattle.written_types.specs.Writing.{Writing, scope_in}
 
 -- ---- lists
 

@@ -35,7 +35,8 @@ use Rattle.written_types.proofs.Standing.{all_at, all_dropped}
 use Rattle.written_types.proofs.StandingFrames.{Stands, held_plain, operands_fit}
 use Rattle.written_types.proofs.WrittenTypes.{IsSteady, by_item, entry_types, item_top}
 use Rattle.written_types.specs.FitsTypes.{HasItsNew}
-use Rattle.written_types.specs.Writing.{AgreeIn, Writing, scope_in}
+use Rattle.written_types.specs.Inner.CarriedFrames.{AgreeIn}
+use Rattle.written_types.specs.Writing.{Writing, scope_in}
 
 -- ---- types
 

@@ -35,7 +35,8 @@ use Rattle.written_types.proofs.PlainOperands.{IsBarred, IsNone, IsNumber, Sure,
 use Rattle.written_types.proofs.SiteFields.{SitesKnown}
 use Rattle.written_types.proofs.StandingFrames.{Cut, RowFollows, Stands, cut, fit_fewer, moved, operands_fit}
 use Rattle.written_types.proofs.WrittenTypes.{IsSteady, by_item, entry_types, item_top, steady_item}
-use Rattle.written_types.specs.Writing.{AgreeIn, Writing, scope_in}
+use Rattle.written_types.specs.Inner.CarriedFrames.{AgreeIn}
+use Rattle.written_types.specs.Writing.{Writing, scope_in}
 
 -- ---- types that are given
 

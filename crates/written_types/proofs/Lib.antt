@@ -126,7 +126,6 @@ mod EndingRows
 mod MakingConstants
 mod ConstructorTexts
 mod ConstructorTakes
-mod AvoidingWays
 mod WrittenEdges
 mod LedItems
 mod OpenThrows

@@ -27,7 +27,8 @@ use Rattle.written_types.proofs.NewItems.{NewBlock, below, compare, new_block}
 use Rattle.written_types.proofs.OtherRows.{Other}
 use Rattle.written_types.proofs.RouteEdges.{planned_route}
 use Rattle.written_types.specs.FitsTypes.{is_reached}
-use Rattle.written_types.specs.Writing.{Writing, frame_in, items_in}
+use Rattle.written_types.specs.Inner.CarriedFrames.{frame_in}
+use Rattle.written_types.specs.Writing.{Writing, items_in}
 
 -- ---- edges of plans
 

@@ -26,7 +26,8 @@ use Rattle.written_types.proofs.CarriedPoints.{Behind}
 use Rattle.written_types.proofs.EdgeTargets.{before_can_make, target_of}
 use Rattle.written_types.proofs.Given.{AtInstruction, CanMake, EndCarries, EndsCarry, FitsState, Given, IsOfNoNew, MakeCarries, MakesCarry, frame_at_state}
 use Rattle.written_types.proofs.Placing.{IsMade, block_carries, goes_behind, items_and_end, same_form}
-use Rattle.written_types.specs.Writing.{Agrees, BlockCarries, Carries, IsFresh, Writing, frame_in}
+use Rattle.written_types.specs.Inner.CarriedFrames.{Agrees, BlockCarries, Carries, IsFresh, frame_in}
+use Rattle.written_types.specs.Writing.{Writing}
 
 -- ---- make code has no instruction of a class file
 

@@ -26,7 +26,8 @@ use Rattle.written_types.proofs.Given.{Given, IsOfNoNew}
 use Rattle.written_types.proofs.NewStarts.{type_apart}
 use Rattle.written_types.proofs.UnitTypes.{field_region, own_region}
 use Rattle.written_types.specs.FitsTypes.{HasItsNew}
-use Rattle.written_types.specs.Writing.{AgreeIn, Writing}
+use Rattle.written_types.specs.Inner.CarriedFrames.{AgreeIn}
+use Rattle.written_types.specs.Writing.{Writing}
 
 -- ---- what each of a list is
 

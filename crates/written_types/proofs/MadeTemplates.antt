@@ -34,7 +34,8 @@ use Rattle.written_types.proofs.StillTemplates.{OneVirtual, one_virtual}
 use Rattle.written_types.proofs.TemplateEnds.{template_carries}
 use Rattle.written_types.proofs.TemplateRows.{holds_for, one_type, operands_are, plan_for, row_for, scope_for}
 use Rattle.written_types.proofs.Templates.{Before, By, Taken, agrees_behind, entries, entries_long, locals_stay, number, read, read_long, state, taken}
-use Rattle.written_types.specs.Writing.{AgreeIn, BlockCarries, Carries, Writing, carries_none}
+use Rattle.written_types.specs.Inner.CarriedFrames.{AgreeIn, BlockCarries, Carries, carries_none}
+use Rattle.written_types.specs.Writing.{Writing}
 
 -- what agrees with nothing is nothing
 pub agree_none : (top : List VType) → AgreeIn top [] → top ≡ []

@@ -26,7 +26,8 @@ use Rattle.written_types.proofs.MakingPlaces.{MakeConstants, NoneOf, PlacedFrom,
 use Rattle.written_types.proofs.MakingReload.{Reloaded, load_again}
 use Rattle.written_types.proofs.MakingStack.{SavedAll, save_all, saves_of, saves_types, saving}
 use Rattle.written_types.proofs.UnitTypes.{field_region, own_region}
-use Rattle.written_types.specs.Writing.{Carries, IsFresh, Writing}
+use Rattle.written_types.specs.Inner.CarriedFrames.{Carries, IsFresh}
+use Rattle.written_types.specs.Writing.{Writing}
 
 module _ (w : Writing) (given : Given w) (constants : MakeConstants w) (at : ℕ) (state : State) (made order : List ℕ)
     (can : CanMake w given at state made order) (front behind : List Finished) (one : Finished) (left right : List WItem) (number : ℕ) (frame : Frame)

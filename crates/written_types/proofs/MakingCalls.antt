@@ -25,7 +25,8 @@ use Rattle.member_link.specs.Rows.Row.{access_aside, row_frame}
 use Rattle.member_link.specs.Rows.ShuffleRows.{Form, form_in, form_row, forms_of, one, picked}
 use Rattle.member_link.specs.Signatures.{reference_of, result_of}
 use Rattle.written_types.proofs.MakingSteps.{one_step, topmost_are, under_are}
-use Rattle.written_types.specs.Writing.{Carries, RowFits, Writing, scope_in}
+use Rattle.written_types.specs.Inner.CarriedFrames.{Carries, RowFits}
+use Rattle.written_types.specs.Writing.{Writing, scope_in}
 
 -- ---- dup
 

@@ -35,7 +35,8 @@ use Rattle.written_types.proofs.Standing.{item_at}
 use Rattle.written_types.proofs.StoredLocals.{stored_is}
 use Rattle.written_types.proofs.UnitTypes.{UnitTypes, field_region, item_wide, own_region, paired_at}
 use Rattle.written_types.specs.FitsTypes.{HasFieldTypes, HasType, HaveTypes, HavePairs}
-use Rattle.written_types.specs.Writing.{Carries, Writing, carries_none}
+use Rattle.written_types.specs.Inner.CarriedFrames.{Carries, carries_none}
+use Rattle.written_types.specs.Writing.{Writing}
 
 -- no field's type is Top
 field_no_top : (type : FieldType) → verification_type type ≢ types.Top

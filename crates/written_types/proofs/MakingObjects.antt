@@ -46,7 +46,8 @@ use Rattle.written_types.proofs.Standing.{item_at}
 use Rattle.written_types.proofs.StoredLocals.{stored_is}
 use Rattle.written_types.proofs.UnitTypes.{UnitTypes, field_region, own_region}
 use Rattle.written_types.specs.FitsTypes.{HasType, HaveTypes}
-use Rattle.written_types.specs.Writing.{Carries, Writing, carries_none, scope_in}
+use Rattle.written_types.specs.Inner.CarriedFrames.{Carries, carries_none}
+use Rattle.written_types.specs.Writing.{Writing, scope_in}
 
 -- ---- one list behind another
 

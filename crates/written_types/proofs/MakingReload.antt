@@ -25,7 +25,8 @@ use Rattle.written_types.proofs.MakingStack.{depth_both, entries_by_item, entry_
 use Rattle.written_types.proofs.MakingSteps.{load_carries}
 use Rattle.written_types.proofs.NoThis.{NotThis}
 use Rattle.written_types.specs.FitsTypes.{HaveTypes, IsOfType}
-use Rattle.written_types.specs.Writing.{Carries, Writing, carries_none}
+use Rattle.written_types.specs.Inner.CarriedFrames.{Carries, carries_none}
+use Rattle.written_types.specs.Writing.{Writing}
 
 module _ (w : Writing) (sites : List ℕ) (headers_same : w.host.headers ≡ headers_of w.s.classes) where
   abbrev made : List Slot → List Slot

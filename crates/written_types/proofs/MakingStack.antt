@@ -31,7 +31,8 @@ use Rattle.written_types.proofs.NoThis.{NotThis}
 use Rattle.written_types.proofs.SlotTypes.{read_wide}
 use Rattle.written_types.proofs.StoredLocals.{stored_is, units_long}
 use Rattle.written_types.proofs.UnitTypes.{UnitTypes, item_wide}
-use Rattle.written_types.specs.Writing.{Carries, Writing, carries_none}
+use Rattle.written_types.specs.Inner.CarriedFrames.{Carries, carries_none}
+use Rattle.written_types.specs.Writing.{Writing}
 
 -- ---- kinds and units of entries
 

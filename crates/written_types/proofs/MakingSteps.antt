@@ -17,7 +17,8 @@ use Rattle.member_link.specs.Rows.LocalRows.{HasRoom, local_entry, stored}
 use Rattle.member_link.specs.Rows.Operands.{AllFit, IsOfKind, IsReference, of_kind, topmost, under}
 use Rattle.member_link.specs.Rows.Table.{without_older}
 use Rattle.written_types.proofs.BlockEnds.{topmost_none, under_none}
-use Rattle.written_types.specs.Writing.{Carries, ItemHolds, Writing, carries_none, carries_on, point_in, scope_in}
+use Rattle.written_types.specs.Inner.CarriedFrames.{Carries, ItemHolds, carries_none, carries_on}
+use Rattle.written_types.specs.Writing.{Writing, point_in, scope_in}
 
 -- ---- the topmost entries
 

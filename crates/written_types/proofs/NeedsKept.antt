@@ -14,7 +14,8 @@ use Rattle.member_link.specs.RowScope.{RowScope}
 use Rattle.member_link.specs.Rows.Operands.{AllFit, Fits, IsAmong, IsInitialised, IsNullOr, IsOfKind, IsUninitialised, Need, array_among, array_of_references, assignable_or_this, assignable_to, double, initialised, is_single, nothing, of_kind, single, some_array, uninitialised}
 use Rattle.written_types.proofs.AgreeLists.{AgreeAt}
 use Rattle.written_types.proofs.WrittenTypes.{IsSteady, by_item, item_assignable, item_top, steady_item}
-use Rattle.written_types.specs.Writing.{AgreeIn, Writing}
+use Rattle.written_types.specs.Inner.CarriedFrames.{AgreeIn}
+use Rattle.written_types.specs.Writing.{Writing}
 
 -- what is asked names no uninitialised object
 abbrev pub IsSteadyNeed : Need → Type 0

@@ -56,7 +56,8 @@ use Rattle.written_types.proofs.TemplateEnds.{fitting_template}
 use Rattle.written_types.proofs.TemplateRows.{plan_for, row_for}
 use Rattle.written_types.proofs.Templates.{Before, By, Taken, entries, moved_slots, number, objects_behind, own_stays, plan_row, read, row, stack_along, state, taken}
 use Rattle.written_types.proofs.UnitTemplates.{assigned_both, site_units_long}
-use Rattle.written_types.specs.Writing.{AgreeIn, BlockCarries, Writing, scope_in}
+use Rattle.written_types.specs.Inner.CarriedFrames.{AgreeIn, BlockCarries}
+use Rattle.written_types.specs.Writing.{Writing, scope_in}
 
 made_cleared : (site place : ℕ) (fields : List FieldType) → AllByRecursion IsMade (cleared_fields site place fields)
 made_cleared site place [] = tt

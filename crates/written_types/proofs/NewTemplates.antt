@@ -35,7 +35,8 @@ use Rattle.written_types.proofs.ItemSteps.{const_carries, frame_of, store_carrie
 use Rattle.written_types.proofs.SlotFrames.{take_front, units_behind}
 use Rattle.written_types.proofs.StoredUnits.{Suits, stored_all}
 use Rattle.written_types.proofs.UnitTemplates.{assigned_both, site_units_long}
-use Rattle.written_types.specs.Writing.{Carries, Writing, carries_none, scope_in}
+use Rattle.written_types.specs.Inner.CarriedFrames.{Carries, carries_none}
+use Rattle.written_types.specs.Writing.{Writing, scope_in}
 
 -- ---- field units of two states that differ in one site
 

@@ -27,7 +27,8 @@ use Rattle.written_types.proofs.EdgeTargets.{edges_fit}
 use Rattle.written_types.proofs.Given.{Given, frame_at_state}
 use Rattle.written_types.proofs.Standing.{all_joined}
 use Rattle.written_types.specs.FitsTypes.{FitsTypes, HasItsNew, is_reached}
-use Rattle.written_types.specs.Writing.{Writing, frame_in as frame_of_block}
+use Rattle.written_types.specs.Inner.CarriedFrames.{frame_in as frame_of_block}
+use Rattle.written_types.specs.Writing.{Writing}
 
 -- ---- types that are none
 

@@ -47,7 +47,8 @@ use Rattle.written_types.proofs.SlotTypes.{item_before}
 use Rattle.written_types.proofs.TemplateEnds.{along_fits}
 use Rattle.written_types.proofs.TemplateRows.{holds_for, plan_for, row_for}
 use Rattle.written_types.proofs.Templates.{Before, By, Taken, agrees_behind, along, entries, locals_agree, locals_stay, next_there, number, places, read, state, taken}
-use Rattle.written_types.specs.Writing.{AgreeIn, Agrees, BlockCarries, Carries, IsPlaced, ItemHolds, LeadsIn, Writing, carries_away, carries_on, point_in, scope_in}
+use Rattle.written_types.specs.Inner.CarriedFrames.{AgreeIn, Agrees, BlockCarries, Carries, IsPlaced, ItemHolds, LeadsIn, carries_away, carries_on}
+use Rattle.written_types.specs.Writing.{Writing, point_in, scope_in}
 
 -- ---- lists
 

@@ -18,7 +18,8 @@ use Rattle.written_types.proofs.SlotTypes.{item_before, not_wide}
 use Rattle.written_types.proofs.TwoUnits.{UnitsOf, one_unit, two_units, units_of}
 use Rattle.written_types.proofs.WrittenTypes.{by_item, own_types}
 use Rattle.written_types.specs.FitsTypes.{HasType, HaveTypes}
-use Rattle.written_types.specs.Writing.{AgreeIn, Writing}
+use Rattle.written_types.specs.Inner.CarriedFrames.{AgreeIn}
+use Rattle.written_types.specs.Writing.{Writing}
 
 -- ---- by number
 

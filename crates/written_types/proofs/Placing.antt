@@ -12,7 +12,8 @@ use Rattle.making_code.specs.StateFrames.{state_frame}
 use Rattle.plan_flow.specs.Written.WrittenCode.{Form, block_items, in_form, short, wide, widened}
 use Rattle.virtual_state.specs.States.{State}
 use Rattle.written_types.proofs.Given.{BeginsAt, ComesNext, EndCarries, FitsState, StandsFor, frame_at_state}
-use Rattle.written_types.specs.Writing.{BlockCarries, Carries, FitsBefore, GoesBehind, LeadsIn, Writing, carries_away, carries_none, carries_on, scope_in}
+use Rattle.written_types.specs.Inner.CarriedFrames.{BlockCarries, Carries, FitsBefore, GoesBehind, LeadsIn, carries_away, carries_none, carries_on}
+use Rattle.written_types.specs.Writing.{Writing, scope_in}
 
 -- ---- frames that fit
 

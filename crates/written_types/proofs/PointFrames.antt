@@ -31,7 +31,8 @@ use Rattle.written_types.proofs.Given.{entries_in, entries_with, frame_in_slots,
 use Rattle.written_types.proofs.Standing.{all_joined, item_of_dropped}
 use Rattle.written_types.proofs.StandingFrames.{Follows, Stands, held_same}
 use Rattle.written_types.proofs.WrittenTypes.{IsSteady, all_steady, by_item, own_types, steady_item}
-use Rattle.written_types.specs.Writing.{AgreeIn, Agrees, Writing}
+use Rattle.written_types.specs.Inner.CarriedFrames.{AgreeIn, Agrees}
+use Rattle.written_types.specs.Writing.{Writing}
 
 -- ---- units behind those of the flat code
 

@@ -18,7 +18,7 @@ use Rattle.written_types.proofs.ShuffleForms.{FitAll, Fits, and_fit, cells_of, c
 use Rattle.written_types.proofs.SlotFrames.{Usable}
 use Rattle.written_types.proofs.SlotTypes.{not_wide}
 use Rattle.written_types.specs.FitsTypes.{HaveTypes}
-use Rattle.written_types.specs.Writing.{AgreeIn}
+use Rattle.written_types.specs.Inner.CarriedFrames.{AgreeIn}
 
 -- ---- cells
 

@@ -37,7 +37,8 @@ use Rattle.written_types.proofs.TemplateEnds.{template_carries}
 use Rattle.written_types.proofs.Templates.{Before, Taken, agrees_behind, entries, entries_have, entries_long, have_dropped, locals_stay, number, places, plan_row, read, read_long, row, state, taken, typed, By, along, moved_slots}
 use Rattle.written_types.proofs.TopForms.{FormMoves, form_fits, form_moves, long_widths, moved}
 use Rattle.written_types.specs.FitsTypes.{HaveTypes}
-use Rattle.written_types.specs.Writing.{AgreeIn, Agrees, BlockCarries, Carries, Writing, carries_none}
+use Rattle.written_types.specs.Inner.CarriedFrames.{AgreeIn, Agrees, BlockCarries, Carries, carries_none}
+use Rattle.written_types.specs.Writing.{Writing}
 
 -- a form that is found is one of the forms
 found_checked : (P : Form → Type 0) (forms : List Form) (stack : List VType) (form : Form) → AllByRecursion P forms → form_in forms stack ≡ Some form

@@ -28,7 +28,7 @@ use Rattle.virtual_state.specs.declared.slot.Slot.TheVariants.{Plain, Virt, Unus
 use Rattle.virtual_state.specs.declared.slot.VObject.{VObject}
 use Rattle.written_types.proofs.AgreeingFrames.{is_a_top}
 use Rattle.written_types.proofs.Given.{entries_in, entries_with, frame_in_slots, locals_in, type_in}
-use Rattle.written_types.specs.Writing.{AgreeIn}
+use Rattle.written_types.specs.Inner.CarriedFrames.{AgreeIn}
 
 -- ---- frames in slots, with all units behind those of the method together
 

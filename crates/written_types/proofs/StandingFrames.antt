@@ -19,7 +19,8 @@ use Rattle.written_types.proofs.AgreeLists.{agree_joined, apart}
 use Rattle.written_types.proofs.NeedsKept.{AreSteady, all_agreeing}
 use Rattle.written_types.proofs.Standing.{Standing, fit_long}
 use Rattle.written_types.proofs.WrittenTypes.{ArePlain, IsSteady, by_item, entry_types, own_types, written_joined, written_plain}
-use Rattle.written_types.specs.Writing.{AgreeIn, RowFits, Writing, scope_in}
+use Rattle.written_types.specs.Inner.CarriedFrames.{AgreeIn, RowFits}
+use Rattle.written_types.specs.Writing.{Writing, scope_in}
 
 -- ---- what places hold
 

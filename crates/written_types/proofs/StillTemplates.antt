@@ -34,7 +34,8 @@ use Rattle.written_types.proofs.SlotTypes.{not_wide}
 use Rattle.written_types.proofs.TemplateRows.{OneType, as_many, depth_present, holds_for, less_cut, less_set, nothing_template, one_type, operand_slots, operands_are, plan_for, row_for, scope_for}
 use Rattle.written_types.proofs.Templates.{Before, By, along, entries, entries_have, have_dropped, held_locals_are, locals_agree, locals_stay, moved_slots, number, objects_behind, places, plan_row, read, state, units_alike}
 use Rattle.written_types.specs.FitsTypes.{HaveTypes, IsOfType}
-use Rattle.written_types.specs.Writing.{AgreeIn, BlockCarries, Writing}
+use Rattle.written_types.specs.Inner.CarriedFrames.{AgreeIn, BlockCarries}
+use Rattle.written_types.specs.Writing.{Writing}
 
 pub one_unit : (type : VType) → is_wide type ≡ false → units type ≡ type ∷ []
 one_unit types.Long narrow = absurd cc

@@ -12,7 +12,7 @@ use Rattle.member_link.specs.Assignability.{IsAssignable, from_null, of_names, t
 use Rattle.member_link.specs.Rows.FrameAssignability.{AreAssignable}
 use Rattle.member_link.specs.Rows.LocalRows.{cut_before, stored, with_units}
 use Rattle.written_types.proofs.FieldUnits.{EndsNarrow, narrow_right}
-use Rattle.written_types.specs.Writing.{AgreeIn}
+use Rattle.written_types.specs.Inner.CarriedFrames.{AgreeIn}
 
 -- ---- the unit before
 

@@ -47,7 +47,8 @@ use Rattle.written_types.proofs.StillTemplates.{cast_template, enter_template, l
 use Rattle.written_types.proofs.OperandRows.{Fit, no_operand}
 use Rattle.written_types.proofs.TemplateRows.{TwoTypes, as_many, holds_for, nothing_template, operands_are, plan_for, row_for, scope_for, two_types}
 use Rattle.written_types.proofs.Templates.{Before, locals_stay, number, read, state}
-use Rattle.written_types.specs.Writing.{BlockCarries, Writing}
+use Rattle.written_types.specs.Inner.CarriedFrames.{BlockCarries}
+use Rattle.written_types.specs.Writing.{Writing}
 
 module _ (w : Writing) (given : Given w) (fit : EdgesFit w given) (ends : EndsCarry w given) (makes : MakesCarry w given) (known : SitesKnown w.s)
     (numbers : FieldsNumbered w) (b : Before w given) (class : ℕ) where

@@ -15,7 +15,8 @@ use Rattle.plan_flow.specs.declared.edge.EdgeKind.TheVariants as edges
 use Rattle.written_types.proofs.Given.{EdgesFit, EndsCarry, Given, written_along}
 use Rattle.written_types.proofs.Placing.{IsMade, block_carries, goes_behind, same_form}
 use Rattle.written_types.proofs.SlotFrames.{grouped}
-use Rattle.written_types.specs.Writing.{Agrees, BlockCarries, Carries, Writing}
+use Rattle.written_types.specs.Inner.CarriedFrames.{Agrees, BlockCarries, Carries}
+use Rattle.written_types.specs.Writing.{Writing}
 use Rattle.written_types.proofs.Given.{FitsState}
 use Rattle.written_types.proofs.Templates.{Before, along, moved_slots, next_there, number, objects_behind, plan_row, read, row, state}
 

@@ -33,7 +33,8 @@ use Rattle.written_types.proofs.SlotFrames.{SayLess, get_is, read_slot, say_same
 use Rattle.written_types.proofs.Standing.{all_at, item_of_dropped}
 use Rattle.written_types.proofs.TemplateEnds.{template_carries}
 use Rattle.written_types.proofs.Templates.{Before, By, Taken, agrees_behind, along, entries, entries_long, moved_slots, number, places, plan_row, read, read_long, row, state, taken, typed}
-use Rattle.written_types.specs.Writing.{AgreeIn, Agrees, BlockCarries, Writing, carries_none}
+use Rattle.written_types.specs.Inner.CarriedFrames.{AgreeIn, Agrees, BlockCarries, carries_none}
+use Rattle.written_types.specs.Writing.{Writing}
 
 -- ---- operands that fit
 

@@ -42,7 +42,8 @@ use Rattle.written_types.proofs.ItemSteps.{frame_of}
 use Rattle.written_types.proofs.SlotFrames.{slots_frame, units_behind, AgreeingParts, UsablePlaces, agree_both, agreeing_parts, all_usable_read, as_long_taken, as_read, entries_both, held_slots, state_is, stack_parts, usable_places}
 use Rattle.written_types.proofs.Standing.{Standing, all_taken}
 use Rattle.written_types.specs.FitsTypes.{HaveTypes, is_reached}
-use Rattle.written_types.specs.Writing.{AgreeIn, Agrees, IsFresh, Writing, frame_in}
+use Rattle.written_types.specs.Inner.CarriedFrames.{AgreeIn, Agrees, IsFresh, frame_in}
+use Rattle.written_types.specs.Writing.{Writing}
 
 -- ---- units of fields by the sites that are present
 

@@ -23,7 +23,7 @@ use Rattle.virtual_state.specs.States.{is_present}
 use Rattle.virtual_state.specs.declared.slot.VObject.{VObject}
 use Rattle.written_types.proofs.SlotFrames.{units_behind}
 use Rattle.written_types.proofs.FieldUnits.{bare, fields_long, units_for}
-use Rattle.written_types.specs.Writing.{AgreeIn}
+use Rattle.written_types.specs.Inner.CarriedFrames.{AgreeIn}
 
 -- ---- types of values
 
