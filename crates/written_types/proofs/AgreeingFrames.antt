@@ -11,7 +11,7 @@ use Rattle.class_tree.specs.Headers.{Headers}
 use Rattle.making_code.specs.StateFrames.{differ, differs_in}
 use Rattle.member_link.specs.Assignability.{IsAssignable, from_null, of_names, to_same, to_top}
 use Rattle.member_link.specs.Rows.FrameAssignability.{AreAssignable, is_uninit_this}
-use Rattle.written_types.specs.Writing.{AgreeIn}
+use Rattle.written_types.specs.Inner.CarriedFrames.{AgreeIn}
 
 -- ---- lists of types
 

@@ -1,35 +1,32 @@
 -- All edges of a plan are written.
-use Rattle.std.proofs.Common.{◌≡◌, ◌≢◌, ◌+◌, ◌==◌, ◌&&◌, ℕ, zero, suc, Bool, true, false, List, [], ◌∷◌, ◌++◌, drop, length, take, slice_get, Option, Some, None, option_map, refl, sym, ap, subst, ◌∙◌, if◌then◌else◌, arith}
-use Rattle.std.proofs.lemmas.Bool.{eq-eqb, false≢true}
+use Rattle.std.proofs.Common.{◌≡◌, ◌+◌, ℕ, suc, Bool, true, false, List, [], ◌∷◌, ◌++◌, drop, take, slice_get, Some, refl, sym, ap, subst, ◌∙◌, arith}
+use Rattle.std.proofs.lemmas.Bool.{false≢true}
 use Rattle.std.proofs.lemmas.Option.{none-some, same_Some}
-use Rattle.class_model.specs.declared.instr.Instr.{Instr}
 use Rattle.flow_code.specs.FlatCode.{point_at}
 use Rattle.flow_code.specs.declared.handlers.FlatHandler.{FlatHandler}
 use Rattle.flow_code.specs.declared.point.FlatInstr.{FlatInstr}
 use Rattle.flow_code.specs.declared.point.FlatInstr.TheVariants.{Of, NullTest}
 use Rattle.flow_code.specs.declared.point.Point.{Point}
-use Rattle.making_code.specs.Items.{WItem}
-use Rattle.plan_flow.specs.Effect.{IsEffect}
-use Rattle.plan_flow.specs.Laws.RoutedPlans.{HasRoute, route_at}
+use Rattle.plan_flow.specs.Laws.RoutedPlans.{route_at}
 use Rattle.plan_flow.specs.Laws.WrittenBlocks.{split_at}
 use Rattle.plan_flow.specs.Laws.WrittenPads.{handler_pad_stands, jump_pad_stands}
 use Rattle.plan_flow.specs.Must.{row_of_point}
 use Rattle.plan_flow.specs.PlanRows.{Guard, RowEdge, where_plain}
 use Rattle.plan_flow.specs.PlanSlots.{held, is_open, is_plain}
 use Rattle.plan_flow.specs.PlanTable.{edges_of, row_at, targets_at}
-use Rattle.plan_flow.specs.Plans.{AllLead, MadeEdge, PlannedPoint, planned, state_left}
+use Rattle.plan_flow.specs.Plans.{AllLead, state_left}
 use Rattle.plan_flow.specs.Written.Blocks.{Block, handler_pad, instruction_block, is_decided, jump_pad, state_written}
-use Rattle.plan_flow.specs.Written.Finish.{Finished, begins_point}
+use Rattle.plan_flow.specs.Written.Finish.{begins_point}
 use Rattle.plan_flow.specs.Written.FramedCode.{is_led_to}
-use Rattle.plan_flow.specs.Written.Routes.{IsRoute, Route, RouteEdge, Routes, edge_by, is_kind}
-use Rattle.plan_flow.specs.Written.Templates.{as_it_is, items_at, null_test, template}
+use Rattle.plan_flow.specs.Written.Routes.{IsRoute, Route, RouteEdge, edge_by, is_kind}
+use Rattle.plan_flow.specs.Written.Templates.{null_test}
 use Rattle.plan_flow.specs.Written.WrittenCode.{is_handler_pad, is_jump_pad, start_of}
 use Rattle.plan_flow.specs.declared.edge.Edge.{Edge}
 use Rattle.plan_flow.specs.declared.edge.EdgeKind.{EdgeKind}
 use Rattle.plan_flow.specs.declared.edge.EdgeKind.TheVariants as edges
 use Rattle.virtual_state.specs.declared.slot.Slot.{Slot}
 use Rattle.virtual_state.specs.declared.slot.Slot.TheVariants.{Plain, Virt, Unusable}
-use Rattle.written_types.proofs.EdgesWritten.{EdgeWritten, EdgesWritten, goes_next, is_led, over_empties}
+use Rattle.written_types.proofs.EdgesWritten.{EdgeWritten, EdgesWritten, goes_next, is_led}
 use Rattle.written_types.proofs.Given.{Given}
 use Rattle.written_types.proofs.LedItems.{carried_handler_led, carried_jump_led, test_handler_led}
 use Rattle.written_types.proofs.NewItems.{OwnBlock, own_block}
@@ -54,9 +51,11 @@ module _ (w : Writing) (given : Given w) (from : ℕ) (point : Point) (route : R
   row_of : (number : ℕ) (edge : RouteEdge) → slice_get route.edges number ≡ Some edge
       → (c : EdgeComes w from point route edge) × RowIs point (row_of_point w.s from point) c.row
   row_of number edge is =
-      let c = edge_comes w given from number point route edge there is_route is in
-      (c, all_at (RowIs point (row_of_point w.s from point)) (edges_of from point (row_of_point w.s from point)) c.number c.row
-      (rows_are w.s from point) c.there)
+      let c = edge_comes w given from number point route edge there is_route is in (
+        c,
+        all_at (RowIs point (row_of_point w.s from point)) (edges_of from point (row_of_point w.s from point)) c.number c.row
+            (rows_are w.s from point) c.there,
+      )
 
   opens : (edge : RouteEdge) (c : EdgeComes w from point route edge) → is_open (state_written route) c.row.guard ≡ true
   opens edge c =

@@ -8,7 +8,8 @@ use Rattle.making_code.specs.Items.{WItem, item, plain, to_point}
 use Rattle.member_link.specs.Rows.Operands.{AllFit, topmost, under}
 use Rattle.plan_flow.specs.Written.Finish.{begins_point}
 use Rattle.plan_flow.specs.Written.WrittenCode.{start_of}
-use Rattle.written_types.specs.Writing.{Carries, ItemHolds, LeadsIn, Writing, carries_away, carries_none, carries_on, scope_in}
+use Rattle.written_types.specs.Inner.CarriedFrames.{Carries, ItemHolds, LeadsIn, carries_away, carries_none, carries_on}
+use Rattle.written_types.specs.Writing.{Writing, scope_in}
 
 none_dropped : (stack : List VType) (count : ℕ) → count ≡ length stack → drop count stack ≡ []
 none_dropped [] count is = rw (is) refl

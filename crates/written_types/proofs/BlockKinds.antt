@@ -1,15 +1,14 @@
 -- Which blocks there are, and which one comes behind each.
-use Rattle.std.proofs.Common.{◌≡◌, ◌⊎◌, ◌+◌, ℕ, suc, Bool, true, false, List, [], ◌∷◌, ◌++◌, drop, length, Option, Some, None, slice_get, refl, sym, ap, subst, ◌∙◌, inl, inr, arith}
-use Rattle.std.specs.List.{AllByRecursion, flat_map}
+use Rattle.std.proofs.Common.{◌≡◌, ◌⊎◌, ◌+◌, ℕ, suc, Bool, true, false, List, [], ◌∷◌, ◌++◌, drop, Option, Some, None, slice_get, refl, sym, ap, subst, ◌∙◌, inl, inr, arith}
+use Rattle.std.specs.List.{flat_map}
 use Rattle.std.proofs.lemmas.List.{append_assoc}
-use Rattle.std.proofs.lemmas.Option.{none-some, same_Some}
+use Rattle.std.proofs.lemmas.Option.{none-some}
 use Rattle.flow_code.specs.FlatCode.{FlatCode, point_at}
 use Rattle.flow_code.specs.declared.point.Point.{Point}
-use Rattle.plan_flow.specs.Laws.RoutedPlans.{HasRoute, route_at}
-use Rattle.plan_flow.specs.Laws.WrittenBlocks.{begins_with_first, blocks_behind, first_block, holds_of_both, made_next, next_part, pads_of}
+use Rattle.plan_flow.specs.Laws.WrittenBlocks.{begins_with_first, first_block, holds_of_both, made_next, next_part, pads_of}
 use Rattle.plan_flow.specs.Laws.WrittenPads.{AreNone, none_of_reached, pad_block}
 use Rattle.plan_flow.specs.PlanScope.{PlanScope}
-use Rattle.plan_flow.specs.Written.Blocks.{Block, BlockOf, before_point, blocks_of, handler_pad, handler_pad_of, handler_pads, instruction_block, is_decided, jump_pad, jump_pad_of, jump_pads, make_block, making, next_block, of_point, of_reached, on_next_edge, point_blocks, state_written}
+use Rattle.plan_flow.specs.Written.Blocks.{Block, BlockOf, before_point, blocks_of, handler_pad, handler_pad_of, handler_pads, instruction_block, is_decided, jump_pad, jump_pad_of, jump_pads, make_block, making, next_block, of_reached, on_next_edge, point_blocks, state_written}
 use Rattle.plan_flow.specs.Written.Finish.{Finished, begins_point, end_of, finish}
 use Rattle.plan_flow.specs.Written.Routes.{Route, RouteEdge, Routes, edge_by}
 use Rattle.plan_flow.specs.declared.edge.EdgeKind.{EdgeKind}
@@ -19,7 +18,7 @@ use Rattle.virtual_state.specs.Sites.{has}
 use Rattle.virtual_state.specs.States.{State}
 use Rattle.virtual_state.specs.Without.{without}
 use Rattle.written_types.proofs.FinishedBlocks.{Between, FinishedAt, InFirst, OfPoint, finished_at, in_none, in_one, in_two, of_some_point}
-use Rattle.written_types.proofs.Given.{AtInstruction, BeginsAt, ComesNext, EdgeTarget, EdgesFit, Given}
+use Rattle.written_types.proofs.Given.{AtInstruction, ComesNext, EdgeTarget, EdgesFit, Given}
 use Rattle.written_types.proofs.RouteEdges.{edge_comes, edge_number, next_to}
 use Rattle.written_types.specs.Writing.{Writing}
 

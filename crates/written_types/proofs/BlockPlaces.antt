@@ -1,15 +1,13 @@
 -- Which block begins with an item, and where the first block of a point stands.
-use Rattle.std.proofs.Common.{◌≡◌, ◌≢◌, ◌⊎◌, ◌==◌, ◌+◌, ◌<◌, ◌≤◌, ℕ, zero, suc, Bool, true, false, List, [], ◌∷◌, ◌++◌, drop, length, slice_get, take, Option, Some, None, option_map, if◌then◌else◌, refl, sym, ap, subst, ◌∙◌, inl, inr, arith}
+use Rattle.std.proofs.Common.{◌≡◌, ◌⊎◌, ◌==◌, ◌+◌, ◌<◌, ◌≤◌, ℕ, zero, suc, Bool, true, false, List, [], ◌∷◌, drop, length, slice_get, take, Option, Some, None, option_map, if◌then◌else◌, refl, sym, ap, subst, ◌∙◌, inl, inr, arith}
 use Rattle.std.specs.List.{AllByRecursion}
 use Rattle.std.proofs.lemmas.Bool.{eqb-true, false≢true}
 use Rattle.std.proofs.lemmas.List.{length-append}
 use Rattle.std.proofs.lemmas.Option.{none-some, same_Some}
 use Rattle.class_model.specs.declared.frame.Frame.{Frame}
-use Rattle.flow_code.specs.declared.point.Point.{Point}
 use Rattle.making_code.specs.Items.{WItem}
-use Rattle.plan_flow.specs.Laws.WrittenBlocks.{IsFirstOf, block_finished, blocks_left, first_begins, first_block, first_item, first_of, item_behind, next_starts, split_at, starts_at, take_left}
+use Rattle.plan_flow.specs.Laws.WrittenBlocks.{IsFirstOf, block_finished, blocks_left, first_begins, first_block, first_item, first_of, next_starts, split_at, starts_at}
 use Rattle.plan_flow.specs.Laws.WrittenPads.{none_finished}
-use Rattle.plan_flow.specs.PlanScope.{PlanScope}
 use Rattle.plan_flow.specs.Written.Blocks.{Block, BlockOf, before_point, blocks_of, handler_pad, jump_pad, of_point, on_next_edge}
 use Rattle.plan_flow.specs.Written.Finish.{Finished, begins_point, end_of, finish, is_empty}
 use Rattle.plan_flow.specs.Written.FramedCode.{block_from, frame_by_item, frame_of_item}
@@ -21,7 +19,8 @@ use Rattle.written_types.proofs.CarriedBlocks.{block_starts}
 use Rattle.written_types.proofs.Given.{Given}
 use Rattle.written_types.proofs.NewItems.{below, compare}
 use Rattle.written_types.specs.FitsTypes.{FitsTypes, is_reached}
-use Rattle.written_types.specs.Writing.{Writing, frame_in}
+use Rattle.written_types.specs.Inner.CarriedFrames.{frame_in}
+use Rattle.written_types.specs.Writing.{Writing}
 
 -- ---- items of blocks
 

@@ -15,7 +15,8 @@ use Rattle.plan_flow.specs.Written.WrittenCode.{block_items, written_items}
 use Rattle.plan_flow.specs.Written.WrittenFrames.{written_frame}
 use Rattle.written_types.proofs.AgreeingFrames.{agrees_with_itself, keeps_no_this, no_differs, none_differ_agree, none_differ_assignable}
 use Rattle.written_types.proofs.ItemPlaces.{StandsAt, block_at, none_inside, point_stands, written_apart}
-use Rattle.written_types.specs.Writing.{Agrees, BlockCarries, Carries, FitsBefore, GoesBehind, IsFresh, ItemHolds, Writing, carries_away, carries_none, carries_on, comes, entry_in, flows_from, frame_in, had_in, items_in, point_in, scope_in, stated_in}
+use Rattle.written_types.specs.Inner.CarriedFrames.{Agrees, BlockCarries, Carries, FitsBefore, GoesBehind, IsFresh, ItemHolds, carries_away, carries_none, carries_on, comes, flows_from, frame_in, had_in, stated_in}
+use Rattle.written_types.specs.Writing.{Writing, entry_in, items_in, point_in, scope_in}
 
 -- ---- what is proved of blocks, apart from each other
 

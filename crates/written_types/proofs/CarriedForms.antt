@@ -1,69 +1,45 @@
 -- The items of an instruction that is written as it is carry each frame to the block behind, in both forms.
-use Rattle.std.proofs.Common.{◌≡◌, ◌≢◌, ◌+◌, ◌++◌, ℕ, zero, suc, Bool, true, false, List, [], ◌∷◌, length, map, slice_get, Option, Some, None, if◌then◌else◌, refl, sym, ap, subst, ◌∙◌, arith}
+use Rattle.std.proofs.Common.{◌≡◌, ◌≢◌, ◌+◌, ℕ, suc, Bool, true, false, List, [], ◌∷◌, length, map, slice_get, Option, Some, None, if◌then◌else◌, refl, sym, ap, subst, ◌∙◌, arith}
 use Rattle.std.specs.List.{AllByRecursion}
 use Rattle.std.proofs.lemmas.List.{append-nil, length-map}
-use Rattle.std.proofs.lemmas.Option.{none-some, same_Some}
 use Rattle.class_model.specs.Instructions.{targets}
 use Rattle.class_model.specs.declared.frame.Frame.{Frame}
 use Rattle.class_model.specs.declared.frame.VType.{VType}
 use Rattle.class_model.specs.declared.frame.VType.TheVariants as types
 use Rattle.class_model.specs.declared.instr.Instr.{Instr}
 use Rattle.class_model.specs.declared.instr.Instr.TheVariants.{Goto}
-use Rattle.class_tree.specs.Headers.{Name}
 use Rattle.flow_code.specs.FlatCode.{point_at}
-use Rattle.flow_code.specs.ReadTypes.{read_frame}
-use Rattle.flow_code.specs.declared.handlers.FlatHandler.{FlatHandler}
 use Rattle.flow_code.specs.declared.point.FlatInstr.TheVariants.{Of}
 use Rattle.flow_code.specs.declared.point.Point.{Point}
-use Rattle.making_code.specs.Items.{WCatch, WItem, ahead, carried, plain, to_handler_pad, to_point}
+use Rattle.making_code.specs.Items.{WItem, ahead, carried, plain}
 use Rattle.making_code.specs.Opposites.{opposite_instr}
-use Rattle.member_link.specs.Bodies.{BodyCatch, catch_frame, caught_type, falls_through, flows_on, frame_behind, point_row}
+use Rattle.member_link.specs.Bodies.{falls_through, flows_on, frame_behind, point_row}
 use Rattle.member_link.specs.Rows.Operands.{AllFit, under}
 use Rattle.member_link.specs.Rows.Row.{access_aside, row_frame}
 use Rattle.member_link.specs.Rows.Table.{row_of}
-use Rattle.plan_flow.specs.Effect.{IsEffectIn}
-use Rattle.plan_flow.specs.Laws.OpenEdges.{jump_edge, next_edge}
-use Rattle.plan_flow.specs.Laws.RoutedPlans.{IsRouteOf}
-use Rattle.plan_flow.specs.Laws.WrittenBlocks.{first_item}
-use Rattle.plan_flow.specs.PlanSlots.{slots_from}
-use Rattle.plan_flow.specs.PlanTable.{held_locals, row_at}
-use Rattle.plan_flow.specs.Plans.{state_left}
-use Rattle.plan_flow.specs.Written.Blocks.{is_decided, state_written}
-use Rattle.plan_flow.specs.Written.Finish.{end_items}
-use Rattle.plan_flow.specs.Written.FramedCode.{body_catch, caught_name, frame_by_item}
-use Rattle.plan_flow.specs.Written.Routes.{AreEdgeRoutes, Route, RouteEdge, edge_by}
-use Rattle.plan_flow.specs.Written.Templates.{catches_at, catches_from, jump_target, jump_targets, template, to_or_pad}
-use Rattle.plan_flow.specs.Written.WrittenCode.{jumping_to, short, target_number, written_items}
-use Rattle.plan_flow.specs.Written.WrittenConstants.{carried_instr, catch_index}
-use Rattle.plan_flow.specs.declared.edge.Edge.{Edge}
+use Rattle.plan_flow.specs.Written.Blocks.{state_written}
+use Rattle.plan_flow.specs.Written.FramedCode.{frame_by_item}
+use Rattle.plan_flow.specs.Written.Routes.{Route, RouteEdge, edge_by}
+use Rattle.plan_flow.specs.Written.Templates.{jump_targets, template}
+use Rattle.plan_flow.specs.Written.WrittenCode.{jumping_to, target_number}
+use Rattle.plan_flow.specs.Written.WrittenConstants.{carried_instr}
 use Rattle.plan_flow.specs.declared.edge.EdgeKind.TheVariants as edges
-use Rattle.same_runs.specs.FlatBodies.{caught_class}
 use Rattle.virtual_state.specs.States.{State}
-use Rattle.virtual_state.specs.declared.slot.Slot.TheVariants.{Plain}
 use Rattle.written_types.proofs.BlockEnds.{topmost_none, under_none}
-use Rattle.written_types.proofs.CarriedGuards.{opens_jump, opens_next}
-use Rattle.written_types.proofs.CarriedHolds.{behind_is, carried_item, fits_jump, index, row_holds, row_is, stands}
-use Rattle.written_types.proofs.CarriedWays.{goes_on, jumps_on, not_decided}
-use Rattle.written_types.proofs.CaughtNames.{IsCaught, caught_same}
+use Rattle.written_types.proofs.CarriedHolds.{behind_is, carried_item, index, row_is}
+use Rattle.written_types.proofs.CarriedWays.{goes_on}
 use Rattle.written_types.proofs.ChangedTypes.{new_item}
-use Rattle.written_types.proofs.Given.{EdgesFit, FitsState, Given, StandsFor, TargetsStand, caught_at, frame_in_slots, written_along, written_before}
-use Rattle.written_types.proofs.ItemRows.{index_targets, jumping_falls, jumping_row, jumping_targets}
-use Rattle.written_types.proofs.NewItems.{own_block}
-use Rattle.written_types.proofs.NewsApart.{ItemIn, first_of_block}
-use Rattle.written_types.proofs.Placing.{leads_in}
-use Rattle.written_types.proofs.PointFrames.{agrees_caught, rest_of}
+use Rattle.written_types.proofs.Given.{EdgesFit, FitsState, Given, TargetsStand, written_before}
+use Rattle.written_types.proofs.ItemRows.{jumping_falls, jumping_row, jumping_targets}
 use Rattle.written_types.proofs.ReadyPoints.{FindsOne}
-use Rattle.written_types.proofs.RouteEdges.{planned_route, written_is}
 use Rattle.written_types.proofs.RowTable.{IsGoing}
-use Rattle.written_types.proofs.StandingFrames.{left_by_row}
 use Rattle.written_types.proofs.WrittenPool.{PoolLaws}
-use Rattle.written_types.proofs.WrittenTypes.{IsSteady}
-use Rattle.written_types.specs.FitsTypes.{is_reached}
-use Rattle.written_types.specs.Writing.{Agrees, Carries, ItemHolds, LeadsIn, RowFits, Writing, carries_away, carries_none, carries_on, point_in, scope_in}
-use Rattle.written_types.proofs.CarriedHolds.{kept, next_frame, own, own_item, own_items, written_own}
-use Rattle.written_types.proofs.CarriedItems.{caught_steady, handlers_lead, targets_many}
+use Rattle.written_types.specs.Inner.CarriedFrames.{Agrees, Carries, ItemHolds, LeadsIn, RowFits, carries_away, carries_none, carries_on}
+use Rattle.written_types.specs.Writing.{Writing, point_in, scope_in}
+use Rattle.written_types.proofs.CarriedHolds.{kept, next_frame}
+use Rattle.written_types.proofs.CarriedItems.{targets_many}
 use Rattle.written_types.proofs.CarriedHolds.{falls_as, fits_next}
-use Rattle.written_types.proofs.CarriedLeads.{handlers_here, item_holds, jumps_lead, next_found}
+use Rattle.written_types.proofs.CarriedLeads.{item_holds, jumps_lead, next_found}
 use Rattle.written_types.proofs.OppositeRows.{opposite_carried, opposite_falls, opposite_jumps, same_row}
 
 module _ (w : Writing) (given : Given w) (laws : PoolLaws) (one : FindsOne) (fit : EdgesFit w given) (stand : TargetsStand w given) (at : ℕ) (base : Point)

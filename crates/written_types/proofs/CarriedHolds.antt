@@ -1,12 +1,9 @@
 -- The item of an instruction that is written as it is holds of the frame before it, and what is behind it agrees with what comes along its edges.
-use Rattle.std.proofs.Common.{◌≡◌, ◌≢◌, ◌⊎◌, ◌+◌, ◌++◌, ℕ, zero, suc, Bool, true, false, List, [], ◌∷◌, length, map, slice_get, Option, Some, None, is_some, if◌then◌else◌, refl, sym, ap, subst, ◌∙◌, inl, inr, arith}
+use Rattle.std.proofs.Common.{◌≡◌, ◌≢◌, ◌++◌, ℕ, Bool, true, false, List, [], ◌∷◌, map, slice_get, Some, None, is_some, if◌then◌else◌, refl, sym, ap, subst, ◌∙◌, inl}
 use Rattle.std.specs.List.{AllByRecursion}
-use Rattle.std.proofs.lemmas.Bool.{false≢true}
-use Rattle.std.proofs.lemmas.List.{length-map}
-use Rattle.std.proofs.lemmas.Option.{none-some, same_Some}
+use Rattle.std.proofs.lemmas.Option.{same_Some}
 use Rattle.class_model.specs.Instructions.{targets}
 use Rattle.class_model.specs.declared.frame.Frame.{Frame}
-use Rattle.class_model.specs.declared.frame.VType.{VType}
 use Rattle.class_model.specs.declared.frame.VType.TheVariants as types
 use Rattle.class_model.specs.declared.instr.Instr.{Instr}
 use Rattle.class_model.specs.declared.instr.Instr.TheVariants.{New}
@@ -21,17 +18,15 @@ use Rattle.member_link.specs.Bodies.{falls_through, flows_on, frame_behind, poin
 use Rattle.member_link.specs.Rows.Row.{Row, access_aside, row_frame}
 use Rattle.member_link.specs.Rows.Table.{row_of}
 use Rattle.member_link.specs.Scope.{is_init}
-use Rattle.plan_flow.specs.PlanRows.{PlanRow}
 use Rattle.plan_flow.specs.PlanSlots.{slots_from}
 use Rattle.plan_flow.specs.PlanTable.{row_at}
-use Rattle.plan_flow.specs.Plans.{planned, state_left}
+use Rattle.plan_flow.specs.Plans.{planned}
 use Rattle.plan_flow.specs.Written.Blocks.{Block, state_written}
 use Rattle.plan_flow.specs.Written.FramedCode.{frame_by_item}
 use Rattle.plan_flow.specs.Written.Routes.{Route, RouteEdge, edge_by}
 use Rattle.plan_flow.specs.Written.Templates.{catches_at, jump_targets, template}
-use Rattle.plan_flow.specs.Written.WrittenCode.{jumping_to, target_number}
+use Rattle.plan_flow.specs.Written.WrittenCode.{target_number}
 use Rattle.plan_flow.specs.Written.WrittenConstants.{carried_instr, with_index}
-use Rattle.plan_flow.specs.declared.edge.EdgeKind.{EdgeKind}
 use Rattle.plan_flow.specs.declared.edge.EdgeKind.TheVariants as edges
 use Rattle.virtual_state.specs.States.{State}
 use Rattle.virtual_state.specs.declared.slot.VObject.{VObject}
@@ -41,7 +36,7 @@ use Rattle.written_types.proofs.Edges.{PointKnown}
 use Rattle.written_types.proofs.Given.{EdgesFit, FitsState, Given, frame_in_slots, written_along, written_before}
 use Rattle.written_types.proofs.IndexedPoints.{Indexed}
 use Rattle.written_types.proofs.ItemRows.{index_falls, jumping_falls, jumping_row}
-use Rattle.written_types.proofs.KeptTable.{NewHere, StandsNew, flat_row, instr_kept}
+use Rattle.written_types.proofs.KeptTable.{StandsNew, flat_row, instr_kept}
 use Rattle.written_types.proofs.NewItems.{OwnBlock, own_block}
 use Rattle.written_types.proofs.NewsApart.{indexed_at, news_stand, ready_at}
 use Rattle.written_types.proofs.ChangedTypes.{new_item}
@@ -54,7 +49,8 @@ use Rattle.written_types.proofs.StandingFrames.{RowFollows, Stands, left_by_row}
 use Rattle.written_types.proofs.Ways.{headers_are, point_known, same_reached, sites}
 use Rattle.written_types.proofs.WrittenPool.{PoolLaws}
 use Rattle.written_types.specs.FitsTypes.{FitsTypes, IsReachedNew, is_reached}
-use Rattle.written_types.specs.Writing.{Agrees, RowFits, Writing, point_in, scope_in}
+use Rattle.written_types.specs.Inner.CarriedFrames.{Agrees, RowFits}
+use Rattle.written_types.specs.Writing.{Writing, point_in, scope_in}
 
 -- ---- what is known of each point
 

@@ -1,54 +1,26 @@
 -- Where the item of an instruction that is written as it is leads: to its targets and to its handlers.
-use Rattle.std.proofs.Common.{◌≡◌, ◌≢◌, ◌+◌, ◌++◌, ℕ, zero, suc, Bool, true, false, List, [], ◌∷◌, length, map, slice_get, Option, Some, None, if◌then◌else◌, refl, sym, ap, subst, ◌∙◌, arith}
+use Rattle.std.proofs.Common.{◌≡◌, ◌+◌, ℕ, suc, List, [], ◌∷◌, length, map, slice_get, Option, Some, None, refl, sym, ap, subst, ◌∙◌, arith}
 use Rattle.std.specs.List.{AllByRecursion}
-use Rattle.std.proofs.lemmas.List.{length-map}
-use Rattle.std.proofs.lemmas.Option.{none-some, same_Some}
-use Rattle.class_model.specs.Instructions.{targets}
 use Rattle.class_model.specs.declared.frame.Frame.{Frame}
-use Rattle.class_model.specs.declared.frame.VType.{VType}
-use Rattle.class_model.specs.declared.frame.VType.TheVariants as types
-use Rattle.class_model.specs.declared.instr.Instr.{Instr}
 use Rattle.class_tree.specs.Headers.{Name}
 use Rattle.flow_code.specs.FlatCode.{point_at}
-use Rattle.flow_code.specs.ReadTypes.{read_frame}
 use Rattle.flow_code.specs.declared.handlers.FlatHandler.{FlatHandler}
-use Rattle.flow_code.specs.declared.point.FlatInstr.TheVariants.{Of}
 use Rattle.flow_code.specs.declared.point.Point.{Point}
-use Rattle.making_code.specs.Items.{WCatch, WItem, to_handler_pad, to_point}
-use Rattle.member_link.specs.Bodies.{BodyCatch, catch_frame, caught_type, frame_behind}
-use Rattle.plan_flow.specs.Effect.{IsEffectIn}
-use Rattle.plan_flow.specs.Laws.OpenEdges.{jump_edge, next_edge}
-use Rattle.plan_flow.specs.Laws.RoutedPlans.{IsRouteOf}
-use Rattle.plan_flow.specs.Plans.{state_left}
-use Rattle.plan_flow.specs.Written.Blocks.{is_decided, state_written}
+use Rattle.making_code.specs.Items.{WCatch, to_handler_pad, to_point}
+use Rattle.member_link.specs.Bodies.{BodyCatch, catch_frame, caught_type}
+use Rattle.plan_flow.specs.Written.Blocks.{state_written}
 use Rattle.plan_flow.specs.Written.FramedCode.{body_catch, caught_name, frame_by_item}
-use Rattle.plan_flow.specs.Written.Routes.{AreEdgeRoutes, Route, RouteEdge, edge_by}
-use Rattle.plan_flow.specs.Written.Templates.{catches_at, catches_from, jump_target, jump_targets, template, to_or_pad}
-use Rattle.plan_flow.specs.Written.WrittenCode.{jumping_to, short, target_number, written_items}
-use Rattle.plan_flow.specs.Written.WrittenConstants.{carried_instr, catch_index}
-use Rattle.plan_flow.specs.declared.edge.Edge.{Edge}
+use Rattle.plan_flow.specs.Written.Routes.{Route, RouteEdge, edge_by}
+use Rattle.plan_flow.specs.Written.Templates.{catches_from, jump_targets, to_or_pad}
+use Rattle.plan_flow.specs.Written.WrittenCode.{target_number}
+use Rattle.plan_flow.specs.Written.WrittenConstants.{catch_index}
 use Rattle.plan_flow.specs.declared.edge.EdgeKind.TheVariants as edges
 use Rattle.same_runs.specs.FlatBodies.{caught_class}
-use Rattle.virtual_state.specs.States.{State}
-use Rattle.written_types.proofs.CarriedGuards.{opens_jump, opens_next}
-use Rattle.written_types.proofs.CarriedHolds.{behind_is, carried_item, fits_jump, index, row_holds, stands}
-use Rattle.written_types.proofs.CarriedWays.{goes_on, jumps_on, not_decided}
-use Rattle.written_types.proofs.CaughtNames.{IsCaught, caught_same}
-use Rattle.written_types.proofs.ChangedTypes.{new_item}
-use Rattle.written_types.proofs.Given.{EdgesFit, FitsState, Given, StandsFor, TargetsStand, frame_in_slots, written_along, written_before}
-use Rattle.written_types.proofs.ItemRows.{index_targets, jumping_targets}
-use Rattle.written_types.proofs.NewItems.{own_block}
-use Rattle.written_types.proofs.NewsApart.{ItemIn, first_of_block}
+use Rattle.written_types.proofs.Given.{EdgesFit, Given, TargetsStand, written_along}
 use Rattle.written_types.proofs.Placing.{leads_in}
-use Rattle.written_types.proofs.PointFrames.{agrees_caught, rest_of}
-use Rattle.written_types.proofs.ReadyPoints.{FindsOne}
-use Rattle.written_types.proofs.RouteEdges.{planned_route, written_is}
-use Rattle.written_types.proofs.RowTable.{IsGoing}
-use Rattle.written_types.proofs.StandingFrames.{left_by_row}
-use Rattle.written_types.proofs.WrittenPool.{PoolLaws}
 use Rattle.written_types.proofs.WrittenTypes.{IsSteady}
-use Rattle.written_types.specs.FitsTypes.{is_reached}
-use Rattle.written_types.specs.Writing.{Agrees, ItemHolds, LeadsIn, Writing, point_in, scope_in}
+use Rattle.written_types.specs.Inner.CarriedFrames.{Agrees, LeadsIn}
+use Rattle.written_types.specs.Writing.{Writing}
 
 pub caught_steady : (class : Option Name) → IsSteady (caught_type class)
 caught_steady None = tt

@@ -1,12 +1,9 @@
 -- The block of an instruction that is written as it is carries each frame with which it can begin to the block behind it.
-use Rattle.std.proofs.Common.{◌≡◌, ◌≢◌, ◌+◌, ◌≤◌, ◌<◌, ◌++◌, ℕ, zero, suc, Bool, true, false, List, [], ◌∷◌, drop, length, slice_get, take, Option, Some, None, if◌then◌else◌, refl, sym, ap, subst, ◌∙◌, inl, arith}
-use Rattle.std.specs.List.{AllByRecursion, flat_map}
+use Rattle.std.proofs.Common.{◌≡◌, ◌≢◌, ◌+◌, ◌<◌, ◌++◌, ℕ, suc, Bool, true, false, List, [], ◌∷◌, length, slice_get, take, Option, Some, None, refl, sym, ap, subst, ◌∙◌, arith}
+use Rattle.std.specs.List.{AllByRecursion}
 use Rattle.std.proofs.lemmas.Bool.{true≢false}
 use Rattle.std.proofs.lemmas.List.{append_assoc, length-append}
-use Rattle.std.proofs.lemmas.Option.{none-some, same_Some}
-use Rattle.class_model.specs.Instructions.{targets}
 use Rattle.class_model.specs.declared.frame.Frame.{Frame}
-use Rattle.class_model.specs.declared.frame.VType.{VType}
 use Rattle.class_model.specs.declared.frame.VType.TheVariants as types
 use Rattle.class_model.specs.declared.instr.Instr.{Instr}
 use Rattle.flow_code.specs.FlatCode.{FlatCode, point_at}
@@ -18,13 +15,12 @@ use Rattle.making_code.specs.Opposites.{opposite_instr}
 use Rattle.making_code.specs.StateFrames.{state_frame}
 use Rattle.member_link.specs.Bodies.{falls_through}
 use Rattle.plan_flow.specs.Laws.WrittenBlocks.{before_blocks, behind_own, blocks_left, first_item, own_number, pads_of, split_own, take_left}
-use Rattle.plan_flow.specs.PlanScope.{PlanScope}
-use Rattle.plan_flow.specs.Written.Blocks.{Block, blocks_of, instruction_block, leaves_to, next_block, state_written}
+use Rattle.plan_flow.specs.Written.Blocks.{Block, blocks_of, instruction_block, next_block, state_written}
 use Rattle.plan_flow.specs.Written.Finish.{End, Finished, end_items, finish, is_empty, no_end}
 use Rattle.plan_flow.specs.Written.FramedCode.{frame_by_item}
 use Rattle.plan_flow.specs.Written.Routes.{Route, RouteEdge, edge_by}
-use Rattle.plan_flow.specs.Written.Templates.{items_at, template}
-use Rattle.plan_flow.specs.Written.WrittenCode.{Form, block_items, in_form, short, wide, widened, written_items}
+use Rattle.plan_flow.specs.Written.Templates.{template}
+use Rattle.plan_flow.specs.Written.WrittenCode.{Form, block_items, in_form, short, wide, written_items}
 use Rattle.plan_flow.specs.declared.edge.EdgeKind.TheVariants as edges
 use Rattle.written_types.proofs.BlockKinds.{blocks_after}
 use Rattle.written_types.proofs.CarriedForms.{carries_one, carries_over, ends_one, fits_behind, goto, next, over}
@@ -34,14 +30,15 @@ use Rattle.written_types.proofs.ChangedTypes.{new_item}
 use Rattle.written_types.proofs.EdgeFrames.{before_is}
 use Rattle.written_types.proofs.Ends.{ends_away, ends_carry}
 use Rattle.written_types.proofs.FinishedBlocks.{finished_at}
-use Rattle.written_types.proofs.Given.{AtInstruction, ComesNext, EdgesFit, EndsCarry, FitsState, Given, TargetsStand, written_before}
+use Rattle.written_types.proofs.Given.{AtInstruction, ComesNext, EdgesFit, FitsState, Given, TargetsStand, written_before}
 use Rattle.written_types.proofs.ItemPlaces.{written_apart}
-use Rattle.written_types.proofs.NewItems.{OwnBlock, own_block, own_place}
+use Rattle.written_types.proofs.NewItems.{own_block, own_place}
 use Rattle.written_types.proofs.OppositeRows.{opposite_falls, opposite_one}
 use Rattle.written_types.proofs.Placing.{block_carries, fits_before, goes_behind, items_and_end}
 use Rattle.written_types.proofs.ReadyPoints.{FindsOne}
 use Rattle.written_types.proofs.WrittenPool.{PoolLaws}
-use Rattle.written_types.specs.Writing.{Agrees, BlockCarries, Carries, IsFresh, LeadsIn, Writing, frame_in}
+use Rattle.written_types.specs.Inner.CarriedFrames.{Agrees, BlockCarries, Carries, IsFresh, LeadsIn, frame_in}
+use Rattle.written_types.specs.Writing.{Writing}
 
 -- ---- the number of its block
 

@@ -1,40 +1,26 @@
 -- Where an instruction that is written as it is goes, and what it names.
-use Rattle.std.proofs.Common.{◌≡◌, ◌⊎◌, ℕ, zero, suc, Bool, true, false, List, [], ◌∷◌, slice_get, Option, Some, None, option_and_then, if◌then◌else◌, refl, sym, ap, subst, ◌∙◌, inl, inr}
-use Rattle.std.specs.Prelude.{◌==◌, ◌||◌}
-use Rattle.std.proofs.lemmas.Option.{none-some, same_Some}
+use Rattle.std.proofs.Common.{◌≡◌, ℕ, true, false, slice_get, Some, None, sym, ap, ◌∙◌}
+use Rattle.std.proofs.lemmas.Option.{none-some}
 use Rattle.class_model.specs.Instructions.{targets}
-use Rattle.class_model.specs.Pool.{Constants, constant_at}
-use Rattle.class_model.specs.PoolChecks.{class_at, descriptor_at}
-use Rattle.class_model.specs.declared.descriptor.Kind.{Kind}
-use Rattle.class_model.specs.declared.frame.Frame.{Frame}
+use Rattle.class_model.specs.Pool.{Constants}
+use Rattle.class_model.specs.PoolChecks.{class_at}
 use Rattle.class_model.specs.declared.instr.Instr.{Instr}
 use Rattle.class_model.specs.declared.instr.Instr.TheVariants.{Nop, Const, Ldc, Ldc2, Load, Store, Iinc, ArrayLoad, ArrayStore, Shuffle, Pure, Divide, FloatAsk, If, If2, IfSame, IfNull, Goto, Table, Lookup, Return, GetStatic, PutStatic, GetField, PutField, Invoke, Dynamic, New, NewArray, NewRefArray, NewMulti, Length, Throw, Cast, InstanceOf, Enter, Leave}
-use Rattle.class_model.specs.declared.opcodes.TheConstants.{IFNULL, IF_ACMPEQ}
-use Rattle.class_model.specs.declared.pool.Const.{Const as Constant}
-use Rattle.class_model.specs.declared.pool.Const.TheVariants as consts
-use Rattle.class_tree.specs.Headers.{Classes, Name, headers_of}
+use Rattle.class_tree.specs.Headers.{headers_of}
 use Rattle.class_tree.specs.Trees.{IsTree}
 use Rattle.flow_code.specs.declared.point.FlatInstr.TheVariants.{Of}
 use Rattle.flow_code.specs.declared.point.Point.{Point}
 use Rattle.member_link.specs.Bodies.{falls_through}
-use Rattle.member_link.specs.Machine.CallSteps.{is_object_init}
 use Rattle.member_link.specs.Machine.Links.{AreLinksOf}
-use Rattle.member_link.specs.References.{Reference}
-use Rattle.plan_flow.specs.PlanScope.{PlanScope, field_of, member_of, pool_of, site_at}
-use Rattle.plan_flow.specs.PlanSlots.{held, is_open}
-use Rattle.plan_flow.specs.PlanTable.{call_row, cast_row, dynamic_row, get_field_row, new_row, null_row, operand, put_field_row, row_at, same_row}
-use Rattle.plan_flow.specs.Written.Blocks.{is_decided, leaves_to, state_written}
+use Rattle.plan_flow.specs.PlanScope.{PlanScope}
+use Rattle.plan_flow.specs.Written.Blocks.{is_decided, state_written}
 use Rattle.plan_flow.specs.Written.Routes.{Route}
-use Rattle.plan_flow.specs.Written.Templates.{is_folded, is_virtual, template}
+use Rattle.plan_flow.specs.Written.Templates.{is_folded, template}
 use Rattle.same_runs.specs.Flats.{pool_of as flat_pool}
 use Rattle.same_runs.specs.ReadyCode.{IsReadyInstr}
-use Rattle.virtual_state.specs.States.{State}
-use Rattle.virtual_state.specs.declared.slot.Slot.{Slot}
-use Rattle.virtual_state.specs.declared.slot.Slot.TheVariants.{Plain, Virt, Unusable}
-use Rattle.written_types.proofs.KeptTable.{IsFound, null_none, same_first, same_second}
+use Rattle.written_types.proofs.KeptTable.{IsFound}
 use Rattle.written_types.proofs.ReadyPoints.{FindsOne, class_there, get_found, put_found, same_file}
 use Rattle.written_types.proofs.RowTable.{CallsObjectInit, IsGoing}
-use Rattle.written_types.proofs.StandingFrames.{held_plain}
 use Rattle.written_types.proofs.CarriedGuards.{folds_nothing}
 
 -- the block of the instruction goes on to the one behind it

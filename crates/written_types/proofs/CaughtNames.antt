@@ -1,22 +1,19 @@
 -- The classes that handlers catch are named in the pool of written code, at an index that is not 0.
-use Rattle.std.proofs.Common.{◌≡◌, ◌≢◌, ◌+◌, ◌++◌, ◌==◌, ℕ, zero, suc, Bool, true, false, cond, List, [], ◌∷◌, length, map, slice_get, Option, Some, None, Ok, Err, Result, option_and_then, if◌then◌else◌, refl, sym, ap, subst, ◌∙◌}
+use Rattle.std.proofs.Common.{◌≡◌, ◌++◌, ◌==◌, ℕ, Bool, true, false, cond, List, [], ◌∷◌, length, slice_get, Option, Some, None, Ok, Err, if◌then◌else◌, refl, sym, ap, subst, ◌∙◌}
 use Rattle.std.specs.List.{AllByRecursion}
 use Rattle.std.proofs.lemmas.Bool.{eqb-true}
-use Rattle.std.proofs.lemmas.Option.{none-some, same_Some}
+use Rattle.std.proofs.lemmas.Option.{none-some}
 use Rattle.std.proofs.lemmas.List.{append_assoc}
-use Rattle.class_model.specs.Checks.{Fault, fault, ◌>>=◌}
-use Rattle.class_model.specs.ClassOf.{ClassOf}
-use Rattle.class_model.specs.Cutting.{Cut, Rest, Version, attr_at, body_at, class_file_at, counted_at, entries_at, field_at, method_at, pool_at, u2_at}
+use Rattle.class_model.specs.Checks.{Fault, fault}
+use Rattle.class_model.specs.Cutting.{Rest, Version, attr_at, class_file_at, counted_at, entries_at, field_at, method_at, pool_at, u2_at}
 use Rattle.class_model.specs.Laws.Cuts.{bind_ok, same_done}
-use Rattle.class_model.specs.Pool.{Constants, constant_at}
+use Rattle.class_model.specs.Pool.{Constants}
 use Rattle.class_model.specs.PoolChecks.{class_at}
 use Rattle.class_model.specs.declared.class_file.ClassFile.{ClassFile}
 use Rattle.class_model.specs.declared.fault.FileRule.TheVariants as rules
 use Rattle.class_tree.specs.Headers.{IsClassFile, Name}
-use Rattle.class_tree.specs.Names.{throwable}
 use Rattle.making_code.specs.Constants.{index_in, needs_class}
 use Rattle.making_code.specs.Items.{WCatch, WItem}
-use Rattle.making_code.specs.Laws.GrownPools.{Begins}
 use Rattle.plan_flow.specs.PlanScope.{pool_of}
 use Rattle.plan_flow.specs.Written.FramedCode.{caught_name}
 use Rattle.plan_flow.specs.Written.WrittenCode.{short, written_items}

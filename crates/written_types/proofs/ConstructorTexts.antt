@@ -1,6 +1,6 @@
 -- The text of a field constructor's descriptor spells the types of the fields and an array behind them, and no result. It is as Laws
 -- ConstructorTexts of written_runs, which is no crate below this one.
-use Rattle.std.proofs.Common.{◌≡◌, ◌+◌, true, false, map, IfSome, IsSome, inr, ◌-◌, ◌≤◌, ◌++◌, not, ℕ, List, [], ◌∷◌, codes, length, replicate, reverse, slice_get, Option, Some, None, option_map, refl, sym, ap, subst, ◌∙◌, append-nil, arith}
+use Rattle.std.proofs.Common.{◌≡◌, ◌+◌, map, IfSome, IsSome, inr, ◌≤◌, ◌++◌, not, ℕ, List, [], ◌∷◌, codes, length, replicate, reverse, slice_get, Option, Some, None, option_map, refl, sym, ap, subst, ◌∙◌, append-nil, arith}
 use Rattle.std.specs.List.{AllByRecursion, flat_map}
 use Rattle.std.proofs.lemmas.List.{append_assoc}
 use Rattle.std.proofs.lemmas.List.Sums.{sum_by-append}

@@ -1,11 +1,11 @@
 -- Gotos, and comparisons of virtual objects, which are decided: their templates carry each frame.
-use Rattle.std.proofs.Common.{◌≡◌, ◌≢◌, ◌⊎◌, ◌+◌, ◌-◌, ◌≤◌, ℕ, suc, Bool, true, false, List, [], ◌∷◌, ◌++◌, drop, length, map, slice_get, take, Option, Some, None, refl, sym, ap, subst, ◌∙◌, inl, inr, arith}
-use Rattle.std.specs.Prelude.{◌==◌, ◌&&◌, ◌||◌, nat_le, not, if◌then◌else◌}
+use Rattle.std.proofs.Common.{◌≡◌, ◌≢◌, ◌-◌, ℕ, suc, Bool, true, false, List, [], ◌∷◌, ◌++◌, drop, length, map, slice_get, Some, None, refl, sym, ap, subst, ◌∙◌}
+use Rattle.std.specs.Prelude.{◌==◌, ◌&&◌, ◌||◌, nat_le, not}
 use Rattle.std.specs.List.{AllByRecursion}
-use Rattle.std.proofs.lemmas.Bool.{and_parts, false≢true}
+use Rattle.std.proofs.lemmas.Bool.{false≢true}
 use Rattle.std.proofs.lemmas.List.{append-nil}
 use Rattle.std.proofs.lemmas.Option.{none-some, same_Some}
-use Rattle.class_model.specs.Frames.{is_top, is_wide}
+use Rattle.class_model.specs.Frames.{is_top}
 use Rattle.class_model.specs.declared.descriptor.Kind.TheVariants as kinds
 use Rattle.class_model.specs.declared.frame.Frame.{Frame}
 use Rattle.class_model.specs.declared.frame.VType.{VType}
@@ -17,18 +17,18 @@ use Rattle.flow_code.specs.declared.point.FlatInstr.{FlatInstr}
 use Rattle.flow_code.specs.declared.point.FlatInstr.TheVariants.{Of}
 use Rattle.flow_code.specs.declared.point.Point.{Point}
 use Rattle.flow_code.specs.FlatCode.{point_at}
-use Rattle.making_code.specs.Items.{WInstr, WItem, item, plain}
-use Rattle.member_link.specs.Rows.Operands.{IsOfKind, Need, of_kind, topmost, under}
-use Rattle.member_link.specs.Rows.Row.{Row, stack_behind}
+use Rattle.making_code.specs.Items.{WInstr, item, plain}
+use Rattle.member_link.specs.Rows.Operands.{IsOfKind, of_kind, topmost}
+use Rattle.member_link.specs.Rows.Row.{stack_behind}
 use Rattle.member_link.specs.Rows.ShuffleRows.{has_width, one as narrow}
 use Rattle.member_link.specs.Rows.Table.{jump_row}
 use Rattle.plan_flow.specs.PlanRows.{Change, PlanRow, no_change}
 use Rattle.plan_flow.specs.PlanSlots.{changed, held, is_open, may_be_same, may_differ}
-use Rattle.plan_flow.specs.PlanTable.{falls_on, held_from, held_locals, moving, null_row, operand, same_row, targets_at}
-use Rattle.plan_flow.specs.Written.Blocks.{is_decided, of_point}
+use Rattle.plan_flow.specs.PlanTable.{falls_on, held_locals, moving, null_row, operand, same_row, targets_at}
+use Rattle.plan_flow.specs.Written.Blocks.{of_point}
 use Rattle.plan_flow.specs.Written.FramedCode.{frame_by_item}
-use Rattle.plan_flow.specs.Written.Routes.{RouteEdge, edge_by}
-use Rattle.plan_flow.specs.Written.Templates.{is_virtual, items_at, made_on_jump, pop_if_plain}
+use Rattle.plan_flow.specs.Written.Routes.{edge_by}
+use Rattle.plan_flow.specs.Written.Templates.{is_virtual, pop_if_plain}
 use Rattle.plan_flow.specs.declared.edge.EdgeKind.TheVariants as edges
 use Rattle.virtual_state.specs.States.{State, is_present}
 use Rattle.virtual_state.specs.declared.slot.Slot.{Slot}
@@ -44,9 +44,10 @@ use Rattle.written_types.proofs.OperandRows.{Fit, no_operand}
 use Rattle.written_types.proofs.Placing.{IsMade}
 use Rattle.written_types.proofs.ShuffleOperands.{agree_same}
 use Rattle.written_types.proofs.SlotFrames.{by_top, by_wide}
-use Rattle.written_types.proofs.TemplateRows.{OneType, TwoTypes, as_many, holds_for, one_type, operand_slots, operands_are, plan_for, row_for, scope_for, two_types}
-use Rattle.written_types.proofs.Templates.{Before, By, Taken, agrees_behind, along, entries, jump_there, locals_stay, number, plan_row, read, row, state, taken}
-use Rattle.written_types.specs.Writing.{AgreeIn, Agrees, BlockCarries, Carries, Writing, carries_none}
+use Rattle.written_types.proofs.TemplateRows.{OneType, TwoTypes, as_many, holds_for, one_type, operands_are, plan_for, row_for, scope_for, two_types}
+use Rattle.written_types.proofs.Templates.{Before, By, Taken, agrees_behind, along, entries, jump_there, locals_stay, number, plan_row, read, state, taken}
+use Rattle.written_types.specs.Inner.CarriedFrames.{AgreeIn, Agrees, BlockCarries, Carries, carries_none}
+use Rattle.written_types.specs.Writing.{Writing}
 
 -- ---- rows of comparisons
 

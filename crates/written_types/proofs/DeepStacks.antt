@@ -1,27 +1,21 @@
 -- The greatest depth of the frames before and behind items bounds the stack behind each item.
-use Rattle.std.proofs.Common.{◌≡◌, ◌+◌, ◌-◌, ◌≤◌, ◌==◌, ◌⊎◌, inl, inr, ℕ, zero, suc, max, Bool, true, false, List, [], ◌∷◌, ◌++◌, length, map, slice_get, take, drop, Option, Some, None, if◌then◌else◌, refl, sym, ap, subst, ◌∙◌, arith}
-use Rattle.std.specs.Prelude.{◌&&◌, bytes_eq, nat_le}
+use Rattle.std.proofs.Common.{◌≡◌, ◌+◌, ◌-◌, ◌≤◌, ◌⊎◌, inl, inr, ℕ, zero, suc, max, Bool, true, List, [], ◌∷◌, ◌++◌, length, slice_get, take, drop, Option, Some, None, if◌then◌else◌, refl, sym, ap, subst, ◌∙◌, arith}
 use Rattle.std.specs.List.{flat_map}
 use Rattle.std.proofs.lemmas.Grind.{flat_map-append}
 use Rattle.std.proofs.lemmas.List.{append-nil, length-append, take-append-drop}
 use Rattle.std.proofs.lemmas.Option.{none-some, same_Some}
 use Rattle.class_model.specs.Frames.{depth, units}
-use Rattle.class_model.specs.Pool.{constant_at}
-use Rattle.class_model.specs.PoolChecks.{descriptor_at}
 use Rattle.class_model.specs.declared.frame.Frame.{Frame}
 use Rattle.class_model.specs.declared.frame.VType.{VType}
-use Rattle.class_model.specs.declared.instr.Instr.{Instr}
-use Rattle.class_model.specs.declared.instr.Instr.TheVariants.{Return, Throw}
 use Rattle.making_code.specs.Items.{WItem}
-use Rattle.member_link.specs.Bodies.{BodyPoint, frame_behind, item_row, point_row}
-use Rattle.member_link.specs.RowScope.{RowScope}
+use Rattle.member_link.specs.Bodies.{BodyPoint, frame_behind, point_row}
 use Rattle.member_link.specs.Rows.Operands.{under}
-use Rattle.member_link.specs.Rows.Row.{Row, access_aside, row_frame, stack_behind}
+use Rattle.member_link.specs.Rows.Row.{Row, row_frame, stack_behind}
 use Rattle.plan_flow.specs.Written.FramedCode.{depth_in, greatest_of}
-use Rattle.plan_flow.specs.Written.WrittenCode.{written_items}
 use Rattle.written_types.proofs.FramedBodies.{AreHad}
 use Rattle.written_types.proofs.ItemPlaces.{StandsAt, point_stands}
-use Rattle.written_types.specs.Writing.{IsDeepEnough, Writing, comes, had_in, point_in, points_in}
+use Rattle.written_types.specs.Inner.CarriedFrames.{IsDeepEnough}
+use Rattle.written_types.specs.Writing.{Writing, point_in, points_in}
 
 -- ---- depths
 

@@ -30,19 +30,18 @@ use Rattle.plan_flow.specs.Written.Finish.{Finished}
 use Rattle.plan_flow.specs.Written.FramedCode.{type_by_item}
 use Rattle.plan_flow.specs.Written.Routes.{Route, RouteEdge}
 use Rattle.plan_flow.specs.Written.WrittenCode.{Form}
-use Rattle.virtual_state.specs.Laws.Objects.{present_found}
 use Rattle.virtual_state.specs.Making.{IsStateOf}
-use Rattle.virtual_state.specs.States.{State, is_present, object_of}
+use Rattle.virtual_state.specs.States.{State, is_present}
 use Rattle.virtual_state.specs.declared.slot.Slot.{Slot}
 use Rattle.virtual_state.specs.declared.slot.Slot.TheVariants.{Plain, Virt, Unusable}
 use Rattle.virtual_state.specs.declared.slot.VObject.{VObject}
 use Rattle.written_types.proofs.AgreeingFrames.{agreeing_assignable, assignable_to_itself, keeps_no_this}
 use Rattle.written_types.proofs.Arrivals.{types_there}
-use Rattle.written_types.proofs.EdgeRows.{ComesAlong}
-use Rattle.written_types.proofs.Given.{FitsState, entries_in, frame_at_state, locals_in, read_along, type_in, written_along, written_before}
+use Rattle.written_types.proofs.Given.{FitsState, entries_in, locals_in, read_along, type_in, written_along, written_before}
 use Rattle.written_types.proofs.RouteEdges.{EdgeComes}
 use Rattle.written_types.specs.FitsTypes.{HaveTypes}
-use Rattle.written_types.specs.Writing.{Agrees, Writing}
+use Rattle.written_types.specs.Inner.CarriedFrames.{Agrees}
+use Rattle.written_types.specs.Writing.{Writing}
 
 -- ---- types that are assignable
 

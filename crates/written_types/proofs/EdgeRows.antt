@@ -16,7 +16,6 @@ use Rattle.plan_flow.specs.PlanScope.{PlanScope}
 use Rattle.plan_flow.specs.PlanSlots.{edge_locals, edge_stack, slots_from}
 use Rattle.plan_flow.specs.PlanTable.{edges_of, falls_on, handler_edges, jump_edges, next_edges, targets_at, thrown_edges}
 use Rattle.plan_flow.specs.declared.edge.EdgeKind.{EdgeKind}
-use Rattle.plan_flow.specs.declared.edge.EdgeKind.TheVariants as kinds
 use Rattle.same_runs.specs.FlatBodies.{caught_class}
 use Rattle.same_runs.specs.Flats.{flat_item}
 use Rattle.same_runs.specs.TypedFlats.{MayGoToPoint, read_row}

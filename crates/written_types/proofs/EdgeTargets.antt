@@ -1,7 +1,7 @@
 -- Where each edge leads: to a reached point whose state is the one behind the edge, without the objects that are made on it; and these can be made.
-use Rattle.std.proofs.Common.{◌≡◌, ◌+◌, ◌==◌, ◌||◌, ℕ, suc, Bool, true, false, List, [], ◌∷◌, ◌++◌, drop, length, map, Option, Some, None, IsTrue, IsFalse, slice_get, refl, sym, ap, subst, ◌∙◌, if◌then◌else◌, arith}
-use Rattle.std.specs.List.{AllByRecursion, list_any}
-use Rattle.std.proofs.lemmas.Bool.{eq-eqb, eqb-true, false≢true}
+use Rattle.std.proofs.Common.{◌≡◌, ◌||◌, ℕ, suc, Bool, true, false, List, [], ◌∷◌, drop, length, map, Option, Some, None, IsTrue, slice_get, refl, sym, ap, subst, ◌∙◌}
+use Rattle.std.specs.List.{list_any}
+use Rattle.std.proofs.lemmas.Bool.{eq-eqb, false≢true}
 use Rattle.class_model.specs.Frames.{is_top}
 use Rattle.class_model.specs.declared.frame.Frame.{Frame}
 use Rattle.class_model.specs.declared.frame.VType.{VType}
@@ -14,19 +14,18 @@ use Rattle.making_code.specs.MakeOrder.{IsMakeOrder}
 use Rattle.member_link.specs.Rows.FrameAssignability.{AreAssignable, IsFrameAssignable}
 use Rattle.plan_flow.specs.Laws.RoutedPlans.{IsRouteOf, route_at}
 use Rattle.plan_flow.specs.Must.{IsMust, IsMustIn, IsMustOf, beneath, row_of_point}
-use Rattle.plan_flow.specs.PlanRows.{Change, Source, enter_monitor, from_field, from_new, from_place, leave_monitor, new_object, no_change, plain_value, put_field}
+use Rattle.plan_flow.specs.PlanRows.{Change, Source, from_field, from_new, from_place, plain_value}
 use Rattle.plan_flow.specs.PlanScope.{PlanScope, field_number, local_types, stack_types}
 use Rattle.plan_flow.specs.PlanSlots.{beneath_top, edge_locals, edge_stack, field_held, field_in, field_of_slot, fit_stack, held, readable, slot_from, slots_from, stack_slots}
 use Rattle.plan_flow.specs.Plans.{IsMadeIn}
 use Rattle.plan_flow.specs.Written.Blocks.{state_written}
 use Rattle.plan_flow.specs.Written.FramedCode.{frame_by_item}
-use Rattle.plan_flow.specs.Written.Routes.{IsRoute, Route, RouteEdge, edge_by}
+use Rattle.plan_flow.specs.Written.Routes.{Route, RouteEdge, edge_by}
 use Rattle.plan_flow.specs.declared.edge.EdgeKind.{EdgeKind}
 use Rattle.plan_flow.specs.declared.edge.EdgeKind.TheVariants as edges
 use Rattle.virtual_state.specs.Laws.Removals.{without_is_state}
 use Rattle.virtual_state.specs.Sites.{has}
 use Rattle.virtual_state.specs.States.{IsState, State, is_present, is_virtual, names, object_of}
-use Rattle.virtual_state.specs.Without.{without}
 use Rattle.virtual_state.specs.declared.slot.Slot.{Slot}
 use Rattle.virtual_state.specs.declared.slot.Slot.TheVariants.{Plain, Virt, Unusable}
 use Rattle.virtual_state.specs.declared.slot.VObject.{VObject}
@@ -36,7 +35,8 @@ use Rattle.written_types.proofs.Given.{CanMake, EdgeTarget, EdgesFit, FitsState,
 use Rattle.written_types.proofs.NewSources.{IsOld, NewIsLast, new_is_last}
 use Rattle.written_types.proofs.RouteEdges.{EdgeComes, edge_comes, edge_leads, edge_number, planned_route, written_is}
 use Rattle.written_types.specs.FitsTypes.{HaveTypes}
-use Rattle.written_types.specs.Writing.{Agrees, Writing}
+use Rattle.written_types.specs.Inner.CarriedFrames.{Agrees}
+use Rattle.written_types.specs.Writing.{Writing}
 
 -- ---- stack entries whose type is Top
 

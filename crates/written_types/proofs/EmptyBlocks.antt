@@ -1,7 +1,7 @@
 -- Behind a block without items stands one from whose frame its own does not differ, and both are as long.
-use Rattle.std.proofs.Common.{◌≡◌, ◌≢◌, ◌+◌, ◌≤◌, ◌<◌, ℕ, suc, Bool, true, false, List, [], ◌∷◌, ◌++◌, drop, length, map, slice_get, Option, Some, None, refl, sym, ap, subst, ◌∙◌, inl, inr, arith}
+use Rattle.std.proofs.Common.{◌≡◌, ◌≢◌, ℕ, suc, Bool, true, false, List, [], ◌∷◌, ◌++◌, drop, length, map, slice_get, Option, Some, None, refl, sym, ap, subst, ◌∙◌, inl, inr, arith}
 use Rattle.std.specs.List.{AllByRecursion, flat_map}
-use Rattle.std.proofs.lemmas.Bool.{false≢true, true≢false}
+use Rattle.std.proofs.lemmas.Bool.{false≢true}
 use Rattle.std.proofs.lemmas.List.{append_assoc, length-map}
 use Rattle.std.proofs.lemmas.Option.{same_Some}
 use Rattle.class_model.specs.declared.frame.Frame.{Frame}
@@ -21,7 +21,8 @@ use Rattle.plan_flow.specs.Written.WrittenCode.{Form, block_items, in_form, over
 use Rattle.plan_flow.specs.Written.WrittenFrames.{written_frame}
 use Rattle.written_types.proofs.AgreeingFrames.{agrees_with_itself}
 use Rattle.written_types.proofs.CarriedBlocks.{GoesOn}
-use Rattle.written_types.specs.Writing.{Agrees, BlockCarries, Carries, GoesBehind, IsFresh, Writing, carries_away, carries_none, carries_on, frame_in}
+use Rattle.written_types.specs.Inner.CarriedFrames.{Agrees, BlockCarries, Carries, GoesBehind, IsFresh, carries_none, frame_in}
+use Rattle.written_types.specs.Writing.{Writing}
 
 -- ---- what a block without items ends with
 

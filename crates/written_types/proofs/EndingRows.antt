@@ -1,14 +1,13 @@
 -- The rows behind which control does not go on give nothing: those of returns and of athrow.
-use Rattle.std.proofs.Common.{◌≡◌, ◌≤◌, ◌⊎◌, inl, inr, ℕ, Bool, true, false, List, [], ◌∷◌, Option, Some, None, refl, sym, ap, subst}
+use Rattle.std.proofs.Common.{◌≡◌, ◌≤◌, inl, inr, ℕ, Bool, true, false, List, Option, Some, None, refl, sym, subst}
 use Rattle.std.specs.Prelude.{◌==◌, ◌&&◌, bytes_eq, nat_le}
 use Rattle.class_model.specs.Names.{init}
 use Rattle.class_model.specs.Pool.{constant_at}
 use Rattle.class_model.specs.PoolChecks.{class_at, descriptor_at}
-use Rattle.class_model.specs.declared.descriptor.Kind.{Kind}
 use Rattle.class_model.specs.declared.frame.Frame.{Frame}
 use Rattle.class_model.specs.declared.frame.VType.{VType}
 use Rattle.class_model.specs.declared.instr.Instr.{Instr}
-use Rattle.class_model.specs.declared.instr.Instr.TheVariants.{Nop, Const, Ldc, Ldc2, Load, Store, Iinc, ArrayLoad, ArrayStore, Shuffle, Pure, Divide, FloatAsk, If, If2, IfSame, IfNull, Goto, Table, Lookup, Return, GetStatic, PutStatic, GetField, PutField, Invoke, Dynamic, New, NewArray, NewRefArray, NewMulti, Length, Throw, Cast, InstanceOf, Enter, Leave}
+use Rattle.class_model.specs.declared.instr.Instr.TheVariants.{Ldc, Ldc2, ArrayLoad, ArrayStore, Shuffle, Pure, Divide, FloatAsk, If, If2, IfSame, IfNull, Return, GetStatic, PutStatic, GetField, PutField, Invoke, Dynamic, NewArray, NewRefArray, NewMulti, Throw, Cast}
 use Rattle.class_model.specs.declared.opcodes.TheConstants.{AALOAD, AASTORE, IALOAD, IASTORE, IFEQ, IFLE, IFNONNULL, IFNULL, IF_ACMPEQ, IF_ACMPNE, IF_ICMPEQ, IF_ICMPLE, INVOKESPECIAL, INVOKESTATIC}
 use Rattle.class_model.specs.declared.pool.Const.{Const as Constant}
 use Rattle.class_model.specs.declared.pool.Const.TheVariants as consts
@@ -22,15 +21,16 @@ use Rattle.member_link.specs.Rows.ArrayRows.{Elements, array_of, elements_from, 
 use Rattle.member_link.specs.Rows.LocalRows.{const_row, type_of_const}
 use Rattle.member_link.specs.Rows.MemberRows.{call_row, dynamic_row, get_field_row, get_static_row, init_row, put_field_row, put_static_row, special_row}
 use Rattle.member_link.specs.Rows.Operands.{Need}
-use Rattle.member_link.specs.Rows.Row.{Row, access_aside, either, no_row, plain}
+use Rattle.member_link.specs.Rows.Row.{Row, access_aside, either}
 use Rattle.member_link.specs.Rows.ShuffleRows.{Form, form_in, form_row, forms_of}
 use Rattle.member_link.specs.Rows.Table.{cast_row, jump_row, row_of}
 use Rattle.member_link.specs.Signatures.{reference_of}
 use Rattle.plan_flow.specs.Written.FramedCode.{greatest_of}
 use Rattle.plan_flow.specs.Written.WrittenConstants.{indexed_item}
-use Rattle.written_types.proofs.DeepStacks.{Ends, GoesOrEnds, deep_enough}
+use Rattle.written_types.proofs.DeepStacks.{GoesOrEnds, deep_enough}
 use Rattle.written_types.proofs.FramedBodies.{AreHad}
-use Rattle.written_types.specs.Writing.{IsDeepEnough, Writing, point_in, points_in, scope_in}
+use Rattle.written_types.specs.Inner.CarriedFrames.{IsDeepEnough}
+use Rattle.written_types.specs.Writing.{Writing, point_in, points_in, scope_in}
 
 abbrev Goes : Row → Type 0
 Goes row = row.goes_on ≡ true

@@ -1,29 +1,28 @@
 -- What a block ends with carries a frame on: to the point that the block goes to, or to the block behind it.
-use Rattle.std.proofs.Common.{◌≡◌, ◌≢◌, ◌⊎◌, ◌+◌, ◌==◌, ℕ, zero, suc, Bool, true, false, List, [], ◌∷◌, ◌++◌, drop, length, Option, Some, None, slice_get, refl, sym, ap, subst, ◌∙◌, inl, inr, if◌then◌else◌, arith}
-use Rattle.std.specs.List.{AllByRecursion, flat_map}
+use Rattle.std.proofs.Common.{◌≡◌, ◌+◌, ◌==◌, ℕ, zero, suc, Bool, true, false, List, [], ◌∷◌, ◌++◌, drop, Option, Some, None, slice_get, refl, sym, ap, subst, ◌∙◌, inl, inr, if◌then◌else◌, arith}
 use Rattle.std.proofs.lemmas.Bool.{eqb-true, false≢true}
 use Rattle.std.proofs.lemmas.List.{append-nil, append_assoc}
 use Rattle.std.proofs.lemmas.Option.{none-some, same_Some}
 use Rattle.class_model.specs.declared.frame.Frame.{Frame}
-use Rattle.flow_code.specs.FlatCode.{FlatCode, point_at}
+use Rattle.flow_code.specs.FlatCode.{FlatCode}
 use Rattle.flow_code.specs.declared.point.Point.{Point}
 use Rattle.making_code.specs.Items.{WItem}
 use Rattle.making_code.specs.StateFrames.{differ}
-use Rattle.plan_flow.specs.Laws.WrittenBlocks.{begins_with_first, blocks_behind, first_begins, first_block, holds_of_both, pads_of}
+use Rattle.plan_flow.specs.Laws.WrittenBlocks.{begins_with_first, blocks_behind, first_block, holds_of_both, pads_of}
 use Rattle.plan_flow.specs.Laws.WrittenPads.{AreNone, comes_nowhere}
 use Rattle.plan_flow.specs.PlanScope.{PlanScope}
 use Rattle.plan_flow.specs.Written.Blocks.{Block, before_point, handler_pads, instruction_block, jump_pads, make_block, next_block, of_reached, on_next_edge, point_blocks}
 use Rattle.plan_flow.specs.Written.Finish.{End, Finished, begins_point, comes_to, empty_end, end_items, end_of, finish, finished_items, goto_end, is_empty, no_end, nop_end}
 use Rattle.plan_flow.specs.Written.Routes.{Route, RouteEdge, Routes, edge_by}
-use Rattle.plan_flow.specs.Written.WrittenCode.{Form, block_items, in_form, short, start_of, wide}
+use Rattle.plan_flow.specs.Written.WrittenCode.{Form, block_items, in_form, short, wide}
 use Rattle.plan_flow.specs.Written.WrittenFrames.{written_frame}
 use Rattle.plan_flow.specs.declared.edge.EdgeKind.TheVariants as edges
-use Rattle.virtual_state.specs.States.{State}
 use Rattle.written_types.proofs.BlockEnds.{goto_carries, nop_carries}
 use Rattle.written_types.proofs.BlockKinds.{BlockKind, blocks_after, finished, first_at, first_state, kind_of_block, makes_before_point, makes_on_next, none_in_handlers, none_in_jumps, of_instruction, of_pad}
-use Rattle.written_types.proofs.Given.{AtInstruction, BeginsAt, ComesNext, EdgesFit, EndCarries, EndsCarry, FitsState, Given, TargetsStand}
+use Rattle.written_types.proofs.Given.{EdgesFit, EndCarries, EndsCarry, FitsState, Given, TargetsStand}
 use Rattle.written_types.proofs.Placing.{fits_before, items_and_end, leads_in}
-use Rattle.written_types.specs.Writing.{BlockCarries, Carries, GoesBehind, Writing, carries_none}
+use Rattle.written_types.specs.Inner.CarriedFrames.{BlockCarries, Carries, GoesBehind, carries_none}
+use Rattle.written_types.specs.Writing.{Writing}
 
 -- ---- an end without a goto
 

@@ -1,5 +1,5 @@
 -- The frame that the code begins with fits its first block.
-use Rattle.std.proofs.Common.{◌≡◌, ◌≢◌, ◌+◌, ◌-◌, ◌≤◌, ℕ, zero, suc, Bool, true, false, List, [], ◌∷◌, ◌++◌, drop, length, map, replicate, Option, Some, None, slice_get, refl, sym, ap, subst, ◌∙◌, if◌then◌else◌, arith}
+use Rattle.std.proofs.Common.{◌≡◌, ◌+◌, ◌-◌, ℕ, zero, suc, Bool, true, false, List, [], ◌∷◌, ◌++◌, drop, length, map, replicate, Option, Some, None, slice_get, refl, sym, ap, subst, ◌∙◌, if◌then◌else◌, arith}
 use Rattle.std.specs.List.{AllByRecursion}
 use Rattle.std.proofs.lemmas.Bool.{false≢true}
 use Rattle.std.proofs.lemmas.List.{append_assoc, length-append, length-replicate}
@@ -19,19 +19,16 @@ use Rattle.flow_code.specs.declared.point.Site.{Site}
 use Rattle.making_code.specs.StateFrames.{entry_types_from, frame_in, local_types_from, site_types_from, type_of_slot}
 use Rattle.member_link.specs.Assignability.{IsAssignable, from_null, of_names, to_same, to_top}
 use Rattle.member_link.specs.Rows.FrameAssignability.{AreAssignable, IsFrameAssignable}
-use Rattle.member_link.specs.Scope.{Scope}
 use Rattle.plan_flow.specs.Laws.RoutedPlans.{HasRoute, route_at}
 use Rattle.plan_flow.specs.Laws.WrittenBlocks.{block_finished, first_block, first_of}
 use Rattle.plan_flow.specs.PlanScope.{PlanScope, local_types, stack_types}
 use Rattle.plan_flow.specs.PlanSlots.{fit_locals, fit_stack}
 use Rattle.plan_flow.specs.Plans.{state_without_sites}
-use Rattle.plan_flow.specs.Written.Blocks.{Block, blocks_of}
+use Rattle.plan_flow.specs.Written.Blocks.{blocks_of}
 use Rattle.plan_flow.specs.Written.Finish.{Finished, end_of, finish}
 use Rattle.plan_flow.specs.Written.FramedCode.{type_by_item}
-use Rattle.plan_flow.specs.Written.Routes.{Route}
 use Rattle.plan_flow.specs.Written.WrittenCode.{Form}
 use Rattle.same_runs.specs.FlatBodies.{flat_entry}
-use Rattle.virtual_state.specs.States.{State}
 use Rattle.virtual_state.specs.declared.slot.Slot.{Slot}
 use Rattle.virtual_state.specs.declared.slot.Slot.TheVariants.{Plain, Unusable}
 use Rattle.written_types.proofs.AgreeingFrames.{keeps_no_this}

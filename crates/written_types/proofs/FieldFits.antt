@@ -1,7 +1,7 @@
 -- Frames whose field units may stand for what comes along an edge, but need not agree with it.
-use Rattle.std.proofs.Common.{◌≡◌, ◌≢◌, ◌+◌, ℕ, zero, suc, Bool, true, false, List, [], ◌∷◌, ◌++◌, drop, length, map, replicate, Option, Some, None, refl, sym, ap, subst, ◌∙◌, arith}
+use Rattle.std.proofs.Common.{◌≡◌, ◌≢◌, ℕ, zero, suc, Bool, true, false, List, [], ◌∷◌, ◌++◌, length, map, replicate, Some, refl, sym, ap, subst, ◌∙◌, arith}
 use Rattle.std.specs.List.{AllByRecursion, flat_map}
-use Rattle.std.proofs.lemmas.List.{append_assoc, length-append, length-map, map-append}
+use Rattle.std.proofs.lemmas.List.{length-append, map-append}
 use Rattle.class_model.specs.declared.descriptor.FieldType.{FieldType}
 use Rattle.class_model.specs.declared.descriptor.FieldType.TheVariants as field_types
 use Rattle.class_model.specs.declared.frame.Frame.{Frame}
@@ -9,14 +9,12 @@ use Rattle.class_model.specs.declared.frame.VType.{VType}
 use Rattle.class_model.specs.declared.frame.VType.TheVariants as types
 use Rattle.class_model.specs.Descriptors.{parameter_units}
 use Rattle.class_tree.specs.Headers.{Headers}
-use Rattle.flow_code.specs.FlatCode.{FlatCode, point_at}
+use Rattle.flow_code.specs.FlatCode.{FlatCode}
 use Rattle.flow_code.specs.ReadTypes.{read_frame}
 use Rattle.flow_code.specs.WrittenUnits.{greatest_depth}
-use Rattle.flow_code.specs.declared.point.Point.{Point}
 use Rattle.flow_code.specs.declared.point.Site.{Site}
 use Rattle.making_code.specs.StateFrames.{field_types as types_of_fields, site_types_from}
 use Rattle.member_link.specs.Rows.FrameAssignability.{AreAssignable}
-use Rattle.plan_flow.specs.Written.FramedCode.{frame_by_item}
 use Rattle.plan_flow.specs.Written.Routes.{RouteEdge, edge_by}
 use Rattle.plan_flow.specs.declared.edge.EdgeKind.TheVariants as edges
 use Rattle.virtual_state.specs.States.{is_present}
@@ -25,13 +23,14 @@ use Rattle.written_types.proofs.AgreeingFrames.{agrees_with_itself, keeps_no_thi
 use Rattle.written_types.proofs.FieldUnits.{bare, units_for}
 use Rattle.written_types.proofs.Given.{EdgeTarget, EdgesFit, EndsCarry, FitsState, Given, frame_at_state, locals_in}
 use Rattle.written_types.proofs.ItemSteps.{frame_of}
-use Rattle.written_types.proofs.SlotFrames.{agree_both, agree_long, slots_frame, state_is, units_behind}
+use Rattle.written_types.proofs.SlotFrames.{agree_both, state_is, units_behind}
 use Rattle.written_types.proofs.Standing.{all_joined}
 use Rattle.written_types.proofs.TemplateEnds.{along_fits}
 use Rattle.written_types.proofs.Templates.{Before, By, along, moved_slots, objects_behind, plan_row, row}
 use Rattle.written_types.proofs.UnitTemplates.{AssignedParts, assigned_both, assigned_parts, by_units, less_assigned, units_less, sites_long}
 use Rattle.written_types.specs.FitsTypes.{FitsTypes, is_reached}
-use Rattle.written_types.specs.Writing.{AgreeIn, Agrees, Writing, scope_in}
+use Rattle.written_types.specs.Inner.CarriedFrames.{AgreeIn}
+use Rattle.written_types.specs.Writing.{Writing, scope_in}
 
 -- ---- what all field units have
 

@@ -1,5 +1,5 @@
 -- A getfield or putfield of a virtual object names a field of a class of the folder, which has a number among those of the object.
-use Rattle.std.proofs.Common.{◌≡◌, ◌⊎◌, ◌+◌, ◌++◌, ℕ, Bool, true, false, List, [], ◌∷◌, length, map, slice_get, Option, Some, None, IsSome, IsTrue, IsFalse, is_some, option_and_then, option_map, refl, sym, ap, subst, ◌∙◌, inl, inr}
+use Rattle.std.proofs.Common.{◌≡◌, ◌⊎◌, ◌+◌, ◌++◌, ℕ, Bool, true, false, List, [], ◌∷◌, length, map, Option, Some, None, IsTrue, is_some, option_and_then, option_map, refl, sym, ap, subst, ◌∙◌, inl, inr}
 use Rattle.std.specs.Prelude.{◌&&◌, ◌||◌, bytes_eq, not, if◌then◌else◌}
 use Rattle.std.specs.List.{AllByRecursion}
 use Rattle.std.proofs.lemmas.Bool.{false≢true}
@@ -23,14 +23,13 @@ use Rattle.class_model.specs.declared.instr.Instr.{Instr}
 use Rattle.class_model.specs.declared.instr.Instr.TheVariants.{GetField, PutField}
 use Rattle.class_model.specs.declared.pool.Const.{Const}
 use Rattle.class_model.specs.declared.pool.Const.TheVariants.{Class, Double, Fieldref, Float, Integer, InterfaceMethodref, InvokeDynamic, Long, MethodHandle, MethodType, Methodref, NameAndType, String, Utf8}
-use Rattle.class_tree.specs.Headers.{Classes, Headers, IsClassFile, IsThere, Name, class_named, headers_of, named}
+use Rattle.class_tree.specs.Headers.{Headers, IsClassFile, IsThere, Name, class_named, headers_of, named}
 use Rattle.class_tree.specs.Hierarchy.{IsHierarchy}
-use Rattle.class_tree.specs.Laws.Above.{below_more, class_above_interface, class_decides, hierarchy_is_rooted, hierarchy_is_sound, low_is_there, there_is_no_array}
+use Rattle.class_tree.specs.Laws.Above.{below_more, class_above_interface, class_decides, hierarchy_is_rooted, hierarchy_is_sound, there_is_no_array}
 use Rattle.class_tree.specs.Laws.Arrays.{is_array_of}
-use Rattle.class_tree.specs.Laws.Headers.{class_there, same_class}
+use Rattle.class_tree.specs.Laws.Headers.{same_class}
 use Rattle.class_tree.specs.Names.{is_interface, object}
 use Rattle.class_tree.specs.Subtype.{IsArray, IsBelow}
-use Rattle.class_tree.specs.Trees.{IsTree}
 use Rattle.flow_code.specs.FlatCode.{point_at}
 use Rattle.flow_code.specs.declared.point.FlatInstr.TheVariants.{Of}
 use Rattle.flow_code.specs.declared.point.Point.{Point}

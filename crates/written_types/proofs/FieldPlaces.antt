@@ -1,12 +1,12 @@
 -- The unit of a field of a virtual object: its type there, and which values it may hold.
-use Rattle.std.proofs.Common.{◌≡◌, ◌≢◌, ◌⊎◌, ◌+◌, ◌≤◌, ℕ, zero, suc, Bool, true, false, List, [], ◌∷◌, ◌++◌, length, map, slice_get, take, Option, Some, None, IsTrue, option_map, refl, sym, ap, subst, ◌∙◌, inl, inr, arith}
-use Rattle.std.specs.List.{AllByRecursion, list_any}
+use Rattle.std.proofs.Common.{◌≡◌, ◌≢◌, ◌+◌, ◌≤◌, ℕ, zero, suc, Bool, true, false, List, [], ◌∷◌, ◌++◌, length, map, slice_get, take, Option, Some, None, option_map, refl, sym, ap, subst, ◌∙◌, arith}
+use Rattle.std.specs.List.{list_any}
 use Rattle.std.proofs.lemmas.Bool.{eq-eqb, false≢true}
 use Rattle.std.proofs.lemmas.List.{length-map}
 use Rattle.std.proofs.lemmas.Option.{none-some, same_Some, slice_get-map}
 use Rattle.class_model.specs.Code.{verification_type}
 use Rattle.class_model.specs.Descriptors.{kind_of, parameter_units, type_of}
-use Rattle.class_model.specs.Frames.{is_top, is_wide, units}
+use Rattle.class_model.specs.Frames.{is_top, units}
 use Rattle.class_model.specs.declared.descriptor.FieldType.{FieldType}
 use Rattle.class_model.specs.declared.descriptor.FieldType.TheVariants as field_types
 use Rattle.class_model.specs.declared.frame.VType.{VType}
@@ -26,7 +26,7 @@ use Rattle.plan_flow.specs.PlanSlots.{held, readable}
 use Rattle.plan_flow.specs.Written.Finish.{Finished}
 use Rattle.plan_flow.specs.Written.FramedCode.{type_by_item}
 use Rattle.plan_flow.specs.Written.WrittenCode.{Form}
-use Rattle.virtual_state.specs.States.{State, is_present, is_virtual, names}
+use Rattle.virtual_state.specs.States.{is_present, is_virtual, names}
 use Rattle.virtual_state.specs.declared.slot.Slot.{Slot}
 use Rattle.virtual_state.specs.declared.slot.Slot.TheVariants.{Plain, Virt, Unusable}
 use Rattle.written_types.proofs.EdgeTargets.{written_state}
@@ -37,7 +37,7 @@ use Rattle.written_types.proofs.SlotFrames.{agree_at, units_behind}
 use Rattle.written_types.proofs.SlotTypes.{item_behind}
 use Rattle.written_types.proofs.Standing.{all_at}
 use Rattle.written_types.proofs.Templates.{Before, By, locals_agree, places, read, state}
-use Rattle.written_types.specs.Writing.{AgreeIn, Writing}
+use Rattle.written_types.specs.Writing.{Writing}
 
 -- ---- values of declared types
 

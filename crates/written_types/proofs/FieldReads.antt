@@ -1,8 +1,7 @@
 -- A getfield of a virtual object: its field's unit is loaded, or nothing is written where the field holds a virtual object.
-use Rattle.std.proofs.Common.{◌≡◌, ◌⊎◌, ◌+◌, ◌-◌, ◌≤◌, ℕ, suc, Bool, true, false, List, [], ◌∷◌, ◌++◌, drop, length, map, slice_get, Option, Some, None, option_and_then, if◌then◌else◌, refl, sym, ap, subst, ◌∙◌, inl, inr, arith}
+use Rattle.std.proofs.Common.{◌≡◌, ◌⊎◌, ◌-◌, ℕ, suc, Bool, true, false, List, [], ◌∷◌, ◌++◌, length, map, slice_get, Option, Some, option_and_then, if◌then◌else◌, refl, sym, ap, subst, ◌∙◌, inl}
 use Rattle.std.proofs.lemmas.Bool.{false≢true}
 use Rattle.std.proofs.lemmas.List.{append-nil}
-use Rattle.std.proofs.lemmas.Option.{none-some}
 use Rattle.class_model.specs.Code.{verification_type}
 use Rattle.class_model.specs.Descriptors.{kind_of, type_of}
 use Rattle.class_model.specs.Pool.{Constants, constant_at}
@@ -14,7 +13,7 @@ use Rattle.class_model.specs.declared.instr.Instr.TheVariants.{GetField, PutFiel
 use Rattle.class_tree.specs.Headers.{Headers, headers_of}
 use Rattle.flow_code.specs.declared.point.FlatInstr.{FlatInstr}
 use Rattle.flow_code.specs.declared.point.FlatInstr.TheVariants.{Of}
-use Rattle.making_code.specs.Items.{WInstr, item, load}
+use Rattle.making_code.specs.Items.{item, load}
 use Rattle.making_code.specs.Units.{field_unit, fields_at}
 use Rattle.flow_code.specs.FlatCode.{point_at}
 use Rattle.flow_code.specs.declared.point.Point.{Point}
@@ -26,11 +25,10 @@ use Rattle.member_link.specs.Rows.Row.{stack_behind}
 use Rattle.member_link.specs.Signatures.{field_type, reference_of}
 use Rattle.plan_flow.specs.Must.{AsksFor}
 use Rattle.plan_flow.specs.PlanRows.{Position, any_object, from_field, no_change}
-use Rattle.plan_flow.specs.PlanScope.{field_number, field_of, is_of_library, pool_of}
+use Rattle.plan_flow.specs.PlanScope.{field_number, field_of, is_of_library}
 use Rattle.plan_flow.specs.PlanSlots.{changed, field_held, field_of_slot, held, is_open}
 use Rattle.plan_flow.specs.PlanTable.{falls_on, get_field_row as plan_get, held_from, operand, operands_asked, positions}
-use Rattle.plan_flow.specs.Written.FramedCode.{frame_by_item}
-use Rattle.plan_flow.specs.Written.Templates.{field_type_at, items_at}
+use Rattle.plan_flow.specs.Written.Templates.{field_type_at}
 use Rattle.same_runs.specs.Flats.{pool_of as flat_pool}
 use Rattle.virtual_state.specs.States.{State, is_present, is_unusable}
 use Rattle.virtual_state.specs.declared.slot.Slot.{Slot}
@@ -40,7 +38,7 @@ use Rattle.written_types.proofs.CarriedHolds.{known_at}
 use Rattle.written_types.proofs.FieldPlaces.{FieldPlace, IsValue, declared_value, field_local, field_place, present_held}
 use Rattle.written_types.proofs.Given.{EdgesFit, EndsCarry, Given, entries_in}
 use Rattle.written_types.proofs.ItemSteps.{frame_of, load_carries}
-use Rattle.written_types.proofs.OperandRows.{Fit, no_operand}
+use Rattle.written_types.proofs.OperandRows.{Fit}
 use Rattle.written_types.proofs.RowTable.{same_pool}
 use Rattle.written_types.proofs.SiteFields.{SitesKnown, linked_desc}
 use Rattle.written_types.proofs.SlotTypes.{assigned_slot, sources_usable}
@@ -50,7 +48,8 @@ use Rattle.written_types.proofs.TemplateEnds.{template_carries}
 use Rattle.written_types.proofs.TemplateRows.{OneType, as_many, holds_for, nothing_template, one_type, operand_slots, plan_for, row_for, scope_for}
 use Rattle.written_types.proofs.Templates.{Before, By, Taken, agrees_behind, along, entries, locals_stay, moved_slots, number, plan_row, read, row, state, taken}
 use Rattle.written_types.specs.FitsTypes.{HaveTypes, IsOfType}
-use Rattle.written_types.specs.Writing.{AgreeIn, Agrees, BlockCarries, Carries, Writing, carries_none, scope_in}
+use Rattle.written_types.specs.Inner.CarriedFrames.{AgreeIn, BlockCarries, Carries, carries_none}
+use Rattle.written_types.specs.Writing.{Writing}
 
 -- the member that a constant of a class refers to, as the typing of code reads it
 abbrev pub named_in : Writing → ℕ → ℕ → Option Reference

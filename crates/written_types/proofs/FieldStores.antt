@@ -1,14 +1,11 @@
 -- Stores to the unit of a field: the frame behind, by parts that suit what comes along.
-use Rattle.std.proofs.Common.{◌≡◌, ◌≢◌, ◌⊎◌, ◌+◌, ◌≤◌, ℕ, zero, suc, Bool, true, false, List, [], ◌∷◌, ◌++◌, length, map, pos, slice_get, take, Option, Some, None, refl, sym, ap, subst, ◌∙◌, inl, inr, arith}
-use Rattle.std.specs.List.{AllByRecursion}
-use Rattle.std.proofs.lemmas.Bool.{false≢true}
-use Rattle.std.proofs.lemmas.List.{append_assoc, length-append, length-map, map-append}
+use Rattle.std.proofs.Common.{◌≡◌, ◌+◌, ◌≤◌, ℕ, suc, true, List, [], ◌∷◌, ◌++◌, length, map, pos, Option, Some, refl, sym, ap, subst, ◌∙◌, arith}
+use Rattle.std.proofs.lemmas.List.{append_assoc, length-append}
 use Rattle.class_model.specs.Code.{verification_type}
-use Rattle.class_model.specs.Descriptors.{kind_of, parameter_units}
-use Rattle.class_model.specs.Frames.{is_wide, units}
+use Rattle.class_model.specs.Descriptors.{kind_of}
+use Rattle.class_model.specs.Frames.{units}
 use Rattle.class_model.specs.declared.descriptor.FieldType.{FieldType}
 use Rattle.class_model.specs.declared.descriptor.FieldType.TheVariants as field_types
-use Rattle.class_model.specs.declared.descriptor.Kind.{Kind}
 use Rattle.class_model.specs.declared.descriptor.Kind.TheVariants as kinds
 use Rattle.class_model.specs.declared.frame.Frame.{Frame}
 use Rattle.class_model.specs.declared.frame.VType.{VType}
@@ -17,20 +14,20 @@ use Rattle.class_model.specs.declared.instr.Imm.TheVariants as imms
 use Rattle.class_model.specs.declared.instr.Instr.TheVariants.{Const, Pure}
 use Rattle.class_model.specs.declared.opcodes.TheConstants.{IADD, ISUB, IMUL, ISHL, ISHR, IUSHR, IOR, IXOR, INEG, I2B, I2C, I2S, IAND}
 use Rattle.class_tree.specs.Headers.{Headers}
-use Rattle.making_code.specs.Items.{WInstr, WItem, item, plain, store}
-use Rattle.making_code.specs.Units.{field_unit, unit_number}
+use Rattle.making_code.specs.Items.{WItem, item, plain}
 use Rattle.member_link.specs.Rows.ArithmeticRows.{Operation, operation_in, pure_operations}
 use Rattle.member_link.specs.Rows.FrameAssignability.{AreAssignable}
 use Rattle.member_link.specs.Rows.LocalRows.{HasRoom, stored}
 use Rattle.plan_flow.specs.Written.Templates.{narrowing}
-use Rattle.written_types.proofs.FieldFits.{NotThis, assigned_long}
+use Rattle.written_types.proofs.FieldFits.{assigned_long}
 use Rattle.written_types.proofs.FieldPlaces.{IsValue, is_number_type}
 use Rattle.written_types.proofs.FieldUnits.{EndsNarrow, units_for}
 use Rattle.written_types.proofs.ItemSteps.{const_carries, frame_of, pure_carries}
-use Rattle.written_types.proofs.SlotFrames.{AgreeingParts, agree_long, agreeing_parts}
+use Rattle.written_types.proofs.SlotFrames.{agree_long, agreeing_parts}
 use Rattle.written_types.proofs.StoredUnits.{Suits, cut_end, stored_is, suits_cut}
 use Rattle.written_types.proofs.UnitTemplates.{agree_assigned, assigned_both}
-use Rattle.written_types.specs.Writing.{AgreeIn, Carries, Writing, scope_in}
+use Rattle.written_types.specs.Inner.CarriedFrames.{AgreeIn, Carries}
+use Rattle.written_types.specs.Writing.{Writing}
 
 -- ---- room for a value
 

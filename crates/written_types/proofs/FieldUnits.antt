@@ -1,13 +1,12 @@
 -- The units of fields among the local units: where those of a field stand, and lists of units that end in no long or double.
-use Rattle.std.proofs.Common.{◌≡◌, ◌≢◌, ◌+◌, ℕ, zero, suc, Bool, true, false, List, [], ◌∷◌, ◌++◌, length, map, replicate, slice_get, take, Option, Some, None, IsTrue, refl, sym, ap, subst, ◌∙◌, inl, inr, arith}
-use Rattle.std.specs.List.{AllByRecursion, flat_map}
-use Rattle.std.proofs.lemmas.Bool.{false≢true}
+use Rattle.std.proofs.Common.{◌≡◌, ◌+◌, ℕ, zero, suc, Bool, true, false, List, [], ◌∷◌, ◌++◌, length, map, replicate, slice_get, take, Some, refl, sym, ap, ◌∙◌, arith}
+use Rattle.std.specs.List.{flat_map}
 use Rattle.std.proofs.lemmas.List.{append_assoc, length-append, length-replicate}
 use Rattle.std.proofs.lemmas.List.Sums.{sum_by-cons}
 use Rattle.std.proofs.lemmas.Option.{none-some, same_Some}
 use Rattle.class_model.specs.Code.{verification_type}
 use Rattle.class_model.specs.Descriptors.{kind_of, parameter_units, units_of}
-use Rattle.class_model.specs.Frames.{is_top, is_wide, units}
+use Rattle.class_model.specs.Frames.{is_wide, units}
 use Rattle.class_model.specs.declared.descriptor.FieldType.{FieldType}
 use Rattle.class_model.specs.declared.descriptor.FieldType.TheVariants as field_types
 use Rattle.class_model.specs.declared.frame.VType.{VType}
@@ -19,7 +18,7 @@ use Rattle.making_code.specs.StateFrames.{field_types as types_of_fields, site_t
 use Rattle.virtual_state.specs.States.{State, is_present}
 use Rattle.virtual_state.specs.declared.slot.VObject.{VObject}
 use Rattle.written_types.proofs.SlotFrames.{units_behind}
-use Rattle.written_types.specs.FitsTypes.{BeginsWithTop, HavePairs}
+use Rattle.written_types.specs.FitsTypes.{HavePairs}
 
 -- ---- lists that end in no long or double
 

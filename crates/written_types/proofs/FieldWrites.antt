@@ -1,19 +1,16 @@
 -- A putfield into a virtual object: its field's unit is set, or nothing is written where a virtual object is put.
-use Rattle.std.proofs.Common.{◌≡◌, ◌≢◌, ◌⊎◌, ◌+◌, ◌-◌, ◌≤◌, ℕ, suc, Bool, true, false, List, [], ◌∷◌, ◌++◌, drop, length, map, slice_get, take, Option, Some, None, if◌then◌else◌, refl, sym, ap, subst, ◌∙◌, inl, inr, arith}
+use Rattle.std.proofs.Common.{◌≡◌, ◌⊎◌, ◌+◌, ◌-◌, ◌≤◌, ℕ, suc, Bool, true, false, List, [], ◌∷◌, ◌++◌, drop, length, map, slice_get, take, Option, Some, if◌then◌else◌, refl, sym, ap, subst, ◌∙◌, inl, inr, arith}
 use Rattle.std.specs.List.{AllByRecursion}
-use Rattle.std.proofs.lemmas.Bool.{false≢true}
 use Rattle.std.proofs.lemmas.List.{append-nil, length-map, map-append}
 use Rattle.std.proofs.lemmas.Option.{same_Some}
-use Rattle.class_model.specs.Code.{verification_type}
 use Rattle.class_model.specs.Descriptors.{kind_of, parameter_units, type_of}
-use Rattle.class_model.specs.Frames.{is_top}
 use Rattle.class_model.specs.declared.descriptor.FieldType.{FieldType}
 use Rattle.class_model.specs.declared.descriptor.FieldType.TheVariants as field_types
 use Rattle.class_model.specs.declared.frame.Frame.{Frame}
 use Rattle.class_model.specs.declared.frame.VType.{VType}
 use Rattle.class_model.specs.declared.frame.VType.TheVariants as types
 use Rattle.class_model.specs.declared.instr.Instr.TheVariants.{PutField}
-use Rattle.class_tree.specs.Headers.{Headers, headers_of}
+use Rattle.class_tree.specs.Headers.{Headers}
 use Rattle.flow_code.specs.ReadTypes.{read_type}
 use Rattle.flow_code.specs.WrittenUnits.{field_units}
 use Rattle.flow_code.specs.declared.point.FlatInstr.{FlatInstr}
@@ -38,11 +35,11 @@ use Rattle.plan_flow.specs.Written.Templates.{field_type_at, items_at, narrowing
 use Rattle.plan_flow.specs.declared.edge.EdgeKind.TheVariants as edges
 use Rattle.virtual_state.specs.States.{State, is_present}
 use Rattle.virtual_state.specs.declared.slot.Slot.{Slot}
-use Rattle.virtual_state.specs.declared.slot.Slot.TheVariants.{Plain, Virt, Unusable}
+use Rattle.virtual_state.specs.declared.slot.Slot.TheVariants.{Plain, Virt}
 use Rattle.written_types.proofs.FieldFits.{NotThis, fits_by_units}
 use Rattle.written_types.proofs.FieldPlaces.{FieldPlace, IsValue, field_place, field_unit_is, own_long, present_held, value_of}
 use Rattle.written_types.proofs.FieldReads.{FieldsNumbered, field_is, host_headers, named_in, none_asked}
-use Rattle.written_types.proofs.FieldStores.{BothParts, StoredParts, UnitParts, both_parts, narrows, parts_room, stored_parts, unit_parts}
+use Rattle.written_types.proofs.FieldStores.{BothParts, UnitParts, both_parts, narrows, parts_room, stored_parts, unit_parts}
 use Rattle.written_types.proofs.FieldUnits.{EndsNarrow, UnitsAt, field_units_at, narrow_both, narrow_mapped, narrow_pairs, units_for}
 use Rattle.written_types.proofs.Given.{EdgesFit, EndsCarry, FitsState, Given, entries_in, locals_in}
 use Rattle.written_types.proofs.ItemSteps.{frame_of, store_carries}
@@ -56,10 +53,11 @@ use Rattle.written_types.proofs.StillTemplates.{operands_have}
 use Rattle.written_types.proofs.StoredUnits.{stored_all}
 use Rattle.written_types.proofs.TemplateEnds.{fitting_template}
 use Rattle.written_types.proofs.TemplateRows.{TwoTypes, as_many, field_present, holds_for, nothing_template, operand_slots, operands_are, plan_for, row_for, scope_for, two_types}
-use Rattle.written_types.proofs.Templates.{Before, By, Taken, along, entries, locals_agree, locals_stay, moved_slots, number, objects_behind, own_stays, plan_row, read, row, stack_along, state, taken, units_alike}
+use Rattle.written_types.proofs.Templates.{Before, By, Taken, entries, locals_agree, locals_stay, number, objects_behind, own_stays, plan_row, read, row, stack_along, state, taken, units_alike}
 use Rattle.written_types.proofs.UnitTemplates.{by_units}
 use Rattle.written_types.specs.FitsTypes.{HavePairs, HaveTypes, IsOfType}
-use Rattle.written_types.specs.Writing.{AgreeIn, BlockCarries, Carries, Writing, carries_none, scope_in}
+use Rattle.written_types.specs.Inner.CarriedFrames.{AgreeIn, BlockCarries, Carries, carries_none}
+use Rattle.written_types.specs.Writing.{Writing, scope_in}
 
 -- ---- the units before a store
 

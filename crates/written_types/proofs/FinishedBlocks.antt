@@ -1,11 +1,10 @@
 -- Finished blocks, as the blocks that they finish: one stands between others in both lists, and ends as those behind it say.
-use Rattle.std.proofs.Common.{◌≡◌, ◌≢◌, ◌⊎◌, ◌+◌, ℕ, suc, List, [], ◌∷◌, ◌++◌, drop, length, slice_get, Option, Some, None, refl, sym, ap, subst, ◌∙◌, inl, inr, arith}
-use Rattle.std.proofs.lemmas.List.{append_assoc}
+use Rattle.std.proofs.Common.{◌≡◌, ◌⊎◌, ◌+◌, ℕ, suc, List, [], ◌∷◌, ◌++◌, drop, slice_get, Option, Some, None, refl, sym, ap, subst, ◌∙◌, inl, inr, arith}
 use Rattle.flow_code.specs.FlatCode.{FlatCode}
 use Rattle.flow_code.specs.declared.point.Point.{Point}
 use Rattle.plan_flow.specs.Written.Blocks.{Block, of_reached}
 use Rattle.plan_flow.specs.Written.Finish.{Finished, end_of, finish}
-use Rattle.plan_flow.specs.Written.Routes.{Route, RouteEdge, Routes}
+use Rattle.plan_flow.specs.Written.Routes.{Route, Routes}
 
 -- ---- lists
 

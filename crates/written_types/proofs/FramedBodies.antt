@@ -7,19 +7,17 @@ use Rattle.std.proofs.lemmas.List.{append-nil, append_assoc, length-append}
 use Rattle.class_model.specs.declared.frame.Frame.{Frame}
 use Rattle.making_code.specs.IndexedItems.{IndexedItem}
 use Rattle.making_code.specs.Items.{WItem}
-use Rattle.member_link.specs.Bodies.{Body, BodyPoint}
+use Rattle.member_link.specs.Bodies.{BodyPoint}
 use Rattle.member_link.specs.BodyTyping.{FlowsInto, MayGoTo, Reaches, frame_among, frame_at}
 use Rattle.member_link.specs.Machine.Replaced.{map_numbered}
 use Rattle.plan_flow.specs.Written.Finish.{Finished, is_empty}
-use Rattle.plan_flow.specs.Written.FramedCode.{IsFramed, body_of_items, flow_into, frame_had, frame_of_item, is_led_to, item_body, leads_to}
+use Rattle.plan_flow.specs.Written.FramedCode.{IsFramed, flow_into, frame_had, frame_of_item, is_led_to, item_body, leads_to}
 use Rattle.plan_flow.specs.Written.WrittenCode.{block_items, written_items}
 use Rattle.plan_flow.specs.Written.WrittenConstants.{indexed_item}
 use Rattle.written_types.proofs.CarriedBlocks.{AllCarry, GoesOn, HoldFrom, PointHolds, ReachesFrame, block_starts, fits_next}
 use Rattle.written_types.proofs.ItemPlaces.{StandsAt, numbered_apart, numbered_long, point_stands, written_apart}
-use Rattle.written_types.specs.Writing.{FitsBefore, LeadsIn, Writing, comes, frame_in, had_in, items_in, point_in, points_in, scope_in, stated_in}
-
-abbrev pub body_in : Writing → (ℕ → Option Frame) → Body
-body_in w state = body_of_items w.host w.s.flat w.pool w.max_stack (items_in w) state
+use Rattle.written_types.specs.Inner.CarriedFrames.{FitsBefore, LeadsIn, comes, frame_in, had_in, stated_in}
+use Rattle.written_types.specs.Writing.{body_in, Writing, items_in, point_in, points_in, scope_in}
 
 -- ---- the frames are those that items have
 

@@ -1,27 +1,26 @@
 -- What stands on the stack before an item comes from the last block before it with a stated frame, or from items between.
-use Rattle.std.proofs.Common.{◌≡◌, ◌≢◌, ◌==◌, ◌+◌, ◌≤◌, ◌<◌, ℕ, zero, suc, Bool, true, false, List, [], ◌∷◌, length, slice_get, Option, Some, None, if◌then◌else◌, refl, sym, ap, subst, ◌∙◌, arith}
+use Rattle.std.proofs.Common.{◌≡◌, ◌≢◌, ◌==◌, ◌+◌, ◌≤◌, ◌<◌, ℕ, zero, suc, Bool, true, false, List, [], ◌∷◌, slice_get, Option, Some, None, if◌then◌else◌, refl, sym, ap, subst, ◌∙◌, arith}
 use Rattle.std.specs.List.{AllByRecursion}
 use Rattle.std.proofs.lemmas.Bool.{eq-eqb, eqb-true, false≢true}
 use Rattle.std.proofs.lemmas.Option.{none-some, same_Some}
 use Rattle.class_model.specs.declared.frame.Frame.{Frame}
 use Rattle.class_model.specs.declared.frame.VType.{VType}
 use Rattle.class_model.specs.declared.frame.VType.TheVariants as types
-use Rattle.flow_code.specs.FlatCode.{FlatCode}
 use Rattle.flow_code.specs.WrittenUnits.{written_units}
 use Rattle.making_code.specs.IndexedItems.{IndexedItem}
-use Rattle.member_link.specs.Bodies.{BodyPoint, flows_on, item_falls_through, item_instr, point_row, frame_behind}
+use Rattle.member_link.specs.Bodies.{BodyPoint, flows_on, item_falls_through, point_row, frame_behind}
 use Rattle.member_link.specs.Machine.Replaced.{map_numbered}
-use Rattle.member_link.specs.RowScope.{RowScope}
-use Rattle.member_link.specs.Rows.Row.{Row, access_aside, row_frame, stack_behind}
+use Rattle.member_link.specs.Rows.Row.{stack_behind}
 use Rattle.member_link.specs.Rows.Table.{row_of}
 use Rattle.plan_flow.specs.PlanScope.{PlanScope}
 use Rattle.plan_flow.specs.Written.FramedCode.{frame_had, frame_of_item, is_led_to, item_body, stands, stated_by}
 use Rattle.written_types.proofs.Given.{Given}
-use Rattle.written_types.proofs.OtherRows.{LeavesOther, Other, leaves_other}
+use Rattle.written_types.proofs.OtherRows.{Other, leaves_other}
 use Rattle.written_types.proofs.Starts.{host_new}
 use Rattle.written_types.proofs.Ways.{no_initialiser}
 use Rattle.written_types.specs.FitsTypes.{HasItsNew}
-use Rattle.written_types.specs.Writing.{Writing, comes, entry_in, flows_from, had_in, items_in, points_in, scope_in, stated_in}
+use Rattle.written_types.specs.Inner.CarriedFrames.{comes, flows_from, had_in, stated_in}
+use Rattle.written_types.specs.Writing.{Writing, entry_in, items_in, points_in, scope_in}
 
 -- ---- a frame without an object of an item
 

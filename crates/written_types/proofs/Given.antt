@@ -1,6 +1,6 @@
 -- What all families of blocks take: the hypotheses, and what the laws of other crates and of this one say of them. And the words in which they say
 -- where a frame goes.
-use Rattle.std.specs.Prelude.{◌≡◌, ◌≢◌, ◌+◌, ◌++◌, ℕ, false, List, [], ◌∷◌, drop, length, map, replicate, slice_get, Option, Some, None, IsTrue}
+use Rattle.std.specs.Prelude.{◌≡◌, ◌≢◌, ◌+◌, ◌++◌, ℕ, false, List, [], ◌∷◌, drop, length, replicate, slice_get, Option, Some, None, IsTrue}
 use Rattle.std.specs.List.{AllByRecursion}
 use Rattle.class_model.specs.Frames.{is_top}
 use Rattle.class_model.specs.declared.frame.Frame.{Frame}
@@ -46,7 +46,8 @@ use Rattle.virtual_state.specs.declared.slot.Slot.TheVariants.{Plain, Virt, Unus
 use Rattle.virtual_state.specs.declared.slot.VObject.{VObject}
 use Rattle.written_types.specs.FitsTypes.{FitsRoutes, FitsTypes, is_reached}
 use Rattle.written_types.specs.Setting.{Setting}
-use Rattle.written_types.specs.Writing.{Agrees, Carries, GoesBehind, IsFresh, IsPlaced, Writing, scope_in}
+use Rattle.written_types.specs.Inner.CarriedFrames.{Agrees, Carries, GoesBehind, IsFresh, IsPlaced}
+use Rattle.written_types.specs.Writing.{Writing, scope_in}
 
 pub record Given (w : Writing) : Type 0 where
   pub setting : Setting w

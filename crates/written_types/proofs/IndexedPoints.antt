@@ -1,12 +1,10 @@
 -- The constant of an instruction that is written as it is means the same by the index that it has in written code.
-use Rattle.std.proofs.Common.{◌≡◌, ◌≢◌, ◌++◌, ℕ, zero, suc, Bool, true, false, List, [], ◌∷◌, slice_get, Option, Some, None, refl, sym, ap, subst, ◌∙◌}
+use Rattle.std.proofs.Common.{◌≡◌, ◌++◌, ℕ, Bool, true, false, List, ◌∷◌, Option, Some, None, refl, sym, ap, subst, ◌∙◌}
 use Rattle.std.specs.Prelude.{◌==◌}
-use Rattle.std.proofs.lemmas.Bool.{eqb-true, true≢false}
-use Rattle.std.proofs.lemmas.Option.{none-some, same_Some}
+use Rattle.std.proofs.lemmas.Bool.{eqb-true}
 use Rattle.class_model.specs.Code.{IsLoadable2}
 use Rattle.class_model.specs.Pool.{Constants, constant_at}
 use Rattle.class_model.specs.PoolChecks.{utf8_at}
-use Rattle.class_model.specs.declared.class_file.ClassFile.{ClassFile}
 use Rattle.class_model.specs.declared.instr.Instr.{Instr}
 use Rattle.class_model.specs.declared.instr.Instr.TheVariants.{Nop, Const, Ldc, Ldc2, Load, Store, Iinc, ArrayLoad, ArrayStore, Shuffle, Pure, Divide, FloatAsk, If, If2, IfSame, IfNull, Goto, Table, Lookup, Return, GetStatic, PutStatic, GetField, PutField, Invoke, Dynamic, New, NewArray, NewRefArray, NewMulti, Length, Throw, Cast, InstanceOf, Enter, Leave}
 use Rattle.class_model.specs.declared.pool.Const.{Const as Constant}
@@ -17,7 +15,7 @@ use Rattle.expanded_code.specs.Callees.{IsNoHandle}
 use Rattle.making_code.specs.IndexedMaking.{index_of_last}
 use Rattle.making_code.specs.Items.{WItem, carried}
 use Rattle.making_code.specs.Laws.GrownPools.{Begins}
-use Rattle.plan_flow.specs.PlanScope.{PlanScope, pool_of}
+use Rattle.plan_flow.specs.PlanScope.{pool_of}
 use Rattle.plan_flow.specs.Written.WrittenCode.{short, written_items}
 use Rattle.plan_flow.specs.Written.WrittenConstants.{carried_instr, carried_needs, named_index, with_index}
 use Rattle.same_runs.specs.Flats.{pool_of as flat_pool}
@@ -25,7 +23,7 @@ use Rattle.same_runs.specs.ReadyCode.{IsReadyInstr}
 use Rattle.written_types.proofs.Given.{Given}
 use Rattle.written_types.proofs.ItemRows.{own_index, with_own}
 use Rattle.written_types.proofs.KeptTable.{Meant}
-use Rattle.written_types.proofs.MeantConstants.{Means}
+use Rattle.making_code.specs.Laws.MeantConstants.{Means}
 use Rattle.written_types.proofs.NamedConstants.{IsReadable, begins_dynamic, begins_loaded, begins_named, meant_loaded, meant_named}
 use Rattle.written_types.proofs.ReadyPoints.{class_text, string_text}
 use Rattle.written_types.proofs.RowTable.{same_pool}

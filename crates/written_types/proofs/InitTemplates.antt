@@ -1,9 +1,9 @@
 -- A call of java/lang/Object's constructor on an object of a candidate site: a plain object is popped, and nothing is written of a virtual one.
-use Rattle.std.proofs.Common.{◌≡◌, ◌⊎◌, ◌+◌, ◌-◌, ◌≤◌, ℕ, suc, Bool, true, false, List, [], ◌∷◌, ◌++◌, drop, length, map, slice_get, take, Option, Some, None, refl, sym, ap, subst, ◌∙◌, inl, inr, arith}
+use Rattle.std.proofs.Common.{◌≡◌, ◌+◌, ◌-◌, ◌≤◌, ℕ, suc, Bool, true, false, List, [], ◌∷◌, ◌++◌, drop, length, map, take, Option, Some, refl, sym, ap, subst, ◌∙◌}
 use Rattle.std.specs.Prelude.{◌==◌, ◌&&◌, ◌||◌, bytes_eq, not, if◌then◌else◌}
-use Rattle.std.specs.List.{AllByRecursion, flat_map}
+use Rattle.std.specs.List.{flat_map}
 use Rattle.std.proofs.lemmas.Bool.{and_parts, false≢true}
-use Rattle.std.proofs.lemmas.List.{append-nil, length-map}
+use Rattle.std.proofs.lemmas.List.{append-nil}
 use Rattle.class_model.specs.Descriptors.{parameters_of}
 use Rattle.class_model.specs.Code.{verification_type}
 use Rattle.class_model.specs.declared.descriptor.FieldType.{FieldType}
@@ -12,7 +12,6 @@ use Rattle.class_model.specs.Names.{init}
 use Rattle.class_model.specs.Pool.{Constants, constant_at}
 use Rattle.class_model.specs.declared.frame.Frame.{Frame}
 use Rattle.class_model.specs.declared.frame.VType.{VType}
-use Rattle.class_model.specs.declared.frame.VType.TheVariants as types
 use Rattle.class_model.specs.declared.instr.Instr.TheVariants.{Invoke, Shuffle}
 use Rattle.class_model.specs.declared.opcodes.TheConstants.{INVOKESPECIAL, INVOKESTATIC, POP}
 use Rattle.class_tree.specs.Names.{object as object_name}
@@ -20,30 +19,30 @@ use Rattle.flow_code.specs.ReadTypes.{is_site_object, read_type}
 use Rattle.flow_code.specs.declared.point.FlatInstr.{FlatInstr}
 use Rattle.flow_code.specs.declared.point.FlatInstr.TheVariants.{Of}
 use Rattle.flow_code.specs.declared.point.Point.{Point}
-use Rattle.making_code.specs.Items.{WInstr, item, plain}
+use Rattle.making_code.specs.Items.{item, plain}
 use Rattle.member_link.specs.Machine.CallSteps.{is_object_init}
 use Rattle.member_link.specs.References.{Reference}
 use Rattle.member_link.specs.Rows.MemberRows.{argument_needs, call_row, receiver}
 use Rattle.member_link.specs.Rows.Operands.{AllFit, Need, IsUninitialised, assignable_to, single, topmost, under, uninitialised}
-use Rattle.member_link.specs.Rows.Readings.{Reading, reads_itself, reads_pop, row_by}
+use Rattle.member_link.specs.Rows.Readings.{reads_itself, reads_pop, row_by}
 use Rattle.member_link.specs.Rows.Row.{Row, stack_behind}
 use Rattle.member_link.specs.Rows.ShuffleRows.{has_width, one as narrow}
 use Rattle.member_link.specs.Signatures.{reference_of}
 use Rattle.plan_flow.specs.PlanRows.{PlanRow}
 use Rattle.plan_flow.specs.PlanScope.{PlanScope, member_of}
 use Rattle.plan_flow.specs.PlanSlots.{changed, held, is_open}
-use Rattle.plan_flow.specs.PlanTable.{call_row as plan_call, calling, falls_on, held_from, held_locals, moving, operand, receivers}
+use Rattle.plan_flow.specs.PlanTable.{call_row as plan_call, calling, falls_on, held_from, moving, operand, receivers}
 use Rattle.plan_flow.specs.Written.Routes.{Route}
 use Rattle.plan_flow.specs.Written.Templates.{Cell, cells, is_virtual, items_at, plain_units, pops}
 use Rattle.same_runs.specs.TypedFlats.{reading_of_call}
 use Rattle.virtual_state.specs.States.{State, is_present}
 use Rattle.virtual_state.specs.declared.slot.Slot.{Slot}
-use Rattle.virtual_state.specs.declared.slot.Slot.TheVariants.{Plain, Virt, Unusable}
+use Rattle.virtual_state.specs.declared.slot.Slot.TheVariants.{Plain, Virt}
 use Rattle.written_types.proofs.CallRows.{IsObjectInit}
 use Rattle.written_types.proofs.FieldReads.{named_in}
 use Rattle.written_types.proofs.Given.{EdgesFit, EndsCarry, Given, entries_in}
 use Rattle.written_types.proofs.ItemSteps.{frame_of, pop_carries}
-use Rattle.written_types.proofs.MadeTemplates.{agree_none, top_cell}
+use Rattle.written_types.proofs.MadeTemplates.{top_cell}
 use Rattle.written_types.proofs.RowTable.{same_pool}
 use Rattle.written_types.proofs.ShuffleForms.{cells_of}
 use Rattle.written_types.proofs.ShuffleOperands.{agree_same}
@@ -55,7 +54,8 @@ use Rattle.written_types.proofs.TemplateEnds.{template_carries}
 use Rattle.written_types.proofs.TemplateRows.{OneType, as_many, holds_for, nothing_template, one_type, operand_slots, operands_are, plan_for, row_for, scope_for}
 use Rattle.written_types.proofs.Templates.{Before, By, Taken, agrees_behind, along, entries, locals_stay, number, plan_row, read, read_long, row, state, taken}
 use Rattle.written_types.specs.FitsTypes.{HaveTypes, IsOfType}
-use Rattle.written_types.specs.Writing.{AgreeIn, BlockCarries, Carries, Writing, carries_none}
+use Rattle.written_types.specs.Inner.CarriedFrames.{AgreeIn, BlockCarries, Carries, carries_none}
+use Rattle.written_types.specs.Writing.{Writing}
 
 -- what is popped
 init_items : (s : PlanScope) (at : ℕ) (point : Point) (state : State) (route : Route) (class opcode index count : ℕ) (r : Reference) (slot : Slot)

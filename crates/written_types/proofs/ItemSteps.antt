@@ -3,7 +3,6 @@ use Rattle.std.proofs.Common.{◌≡◌, ℕ, suc, Bool, true, false, List, [], 
 use Rattle.std.specs.Prelude.{◌&&◌, if◌then◌else◌}
 use Rattle.std.proofs.lemmas.Bool.{false≢true}
 use Rattle.std.proofs.lemmas.List.{append-nil, length-map}
-use Rattle.std.proofs.lemmas.Option.{none-some}
 use Rattle.class_model.specs.declared.descriptor.Kind.{Kind}
 use Rattle.class_model.specs.declared.frame.Frame.{Frame}
 use Rattle.class_model.specs.declared.frame.VType.{VType}
@@ -12,17 +11,16 @@ use Rattle.class_model.specs.declared.instr.Instr.TheVariants.{Const, Pure, Shuf
 use Rattle.class_model.specs.declared.opcodes.TheConstants.{POP}
 use Rattle.making_code.specs.Items.{WItem, item, load, plain, store}
 use Rattle.making_code.specs.Units.{WUnit, unit_number}
-use Rattle.member_link.specs.Bodies.{flows_on, point_row}
-use Rattle.member_link.specs.RowScope.{RowScope}
 use Rattle.member_link.specs.Rows.ArithmeticRows.{Operation, operation_in, operation_row, pure_operations, type_of_kind}
 use Rattle.member_link.specs.Rows.LocalRows.{HasRoom, local_entry, stored, type_of_imm}
-use Rattle.member_link.specs.Rows.Operands.{AllFit, Fits, IsOfKind, Need, lowest_of, of_kind, topmost, under}
-use Rattle.member_link.specs.Rows.Row.{Row, access_aside, row_frame}
+use Rattle.member_link.specs.Rows.Operands.{AllFit, Fits, IsOfKind, lowest_of, of_kind, topmost, under}
+use Rattle.member_link.specs.Rows.Row.{access_aside, row_frame}
 use Rattle.member_link.specs.Rows.ShuffleRows.{Form, Width, form_in, form_row, forms_of, has_width, have_widths, need_of, one, picked, two}
 use Rattle.written_types.proofs.BlockEnds.{topmost_none, under_none}
 use Rattle.written_types.proofs.SlotFrames.{topmost_is, under_is}
 use Rattle.written_types.proofs.Standing.{fit_long}
-use Rattle.written_types.specs.Writing.{Carries, ItemHolds, RowFits, Writing, carries_on, point_in, scope_in}
+use Rattle.written_types.specs.Inner.CarriedFrames.{Carries, RowFits, carries_on}
+use Rattle.written_types.specs.Writing.{Writing, scope_in}
 
 abbrev pub frame_of : List VType → List VType → Frame
 frame_of locals stack = record { locals = locals; stack = stack }

@@ -1,9 +1,6 @@
 -- Each block of written code carries each frame with which it can begin: so frames type the whole, and there are such frames.
-use Rattle.std.proofs.Common.{◌≡◌, ◌≢◌, ◌+◌, ◌≤◌, ℕ, List, [], ◌∷◌, ◌++◌, length, Option, Some, None, slice_get, refl, sym, ap, subst, ◌∙◌}
+use Rattle.std.proofs.Common.{◌≡◌, ◌≤◌, ℕ, List, ◌∷◌, ◌++◌, length, Option, Some, None, refl}
 use Rattle.class_model.specs.declared.frame.Frame.{Frame}
-use Rattle.class_model.specs.declared.instr.Instr.{Instr}
-use Rattle.class_tree.specs.Headers.{headers_of}
-use Rattle.flow_code.specs.FlatCode.{point_at}
 use Rattle.flow_code.specs.declared.point.FlatInstr.{FlatInstr}
 use Rattle.flow_code.specs.declared.point.FlatInstr.TheVariants.{Of, NullTest}
 use Rattle.flow_code.specs.declared.point.Point.{Point}
@@ -15,23 +12,28 @@ use Rattle.plan_flow.specs.Written.FramedCode.{IsFramed, greatest_of}
 use Rattle.plan_flow.specs.Written.Routes.{Route}
 use Rattle.plan_flow.specs.Written.Templates.{template}
 use Rattle.plan_flow.specs.Written.WrittenCode.{written_items}
+use Rattle.same_runs.specs.Laws.FoundMembers.{FieldLaws}
 use Rattle.written_types.proofs.BlockKinds.{kind_of_block}
 use Rattle.written_types.proofs.CarriedBlocks.{AllCarry}
 use Rattle.written_types.proofs.CarriedPoints.{Behind, carried_carries}
+use Rattle.written_types.proofs.AllEdges.{edges_written}
 use Rattle.written_types.proofs.CaughtTypes.{catch_types}
+use Rattle.written_types.proofs.ConstructorTakes.{constants_there}
+use Rattle.written_types.proofs.ConstructorTexts.{ReadsParameters}
 use Rattle.written_types.proofs.EdgeTargets.{edges_fit}
 use Rattle.written_types.proofs.EmptyBlocks.{OwnCarried, empties_go}
 use Rattle.written_types.proofs.EndingRows.{is_deep_enough}
 use Rattle.written_types.proofs.Ends.{ends_carry}
 use Rattle.written_types.proofs.Entry.{begins}
+use Rattle.written_types.proofs.FieldNumbers.{fields_numbered}
 use Rattle.written_types.proofs.FieldReads.{FieldsNumbered}
-use Rattle.written_types.proofs.FramedBodies.{are_had, body_in}
+use Rattle.written_types.proofs.FramedBodies.{are_had}
+use Rattle.written_types.proofs.FreshBlocks.{blocks_fresh}
 use Rattle.written_types.proofs.Given.{AtInstruction, EdgesFit, EndsCarry, Given, MakesCarry, TargetsStand}
 use Rattle.written_types.proofs.MadeBlocks.{kind_carries}
 use Rattle.written_types.proofs.MakeWhole.{makes_carry}
-use Rattle.written_types.proofs.MakingPlaces.{MakeConstants}
 use Rattle.written_types.proofs.NoThis.{no_this}
-use Rattle.written_types.proofs.ReadyPoints.{FindsOne}
+use Rattle.written_types.proofs.NullPoints.{null_test_block}
 use Rattle.written_types.proofs.SiteFields.{SitesKnown}
 use Rattle.written_types.proofs.Targets.{targets_stand}
 use Rattle.written_types.proofs.TemplateBlocks.{template_block}
@@ -39,25 +41,16 @@ use Rattle.written_types.proofs.Templates.{Before}
 use Rattle.written_types.proofs.TypedBodies.{AreThere, frames_are_there, frames_type}
 use Rattle.written_types.proofs.Ways.{sites}
 use Rattle.written_types.proofs.WrittenPool.{PoolLaws}
-use Rattle.written_types.specs.Writing.{Agrees, BlockCarries, IsFresh, Writing, comes, frame_in, had_in, items_in, points_in}
+use Rattle.written_types.specs.Inner.CarriedFrames.{Agrees, BlockCarries, IsFresh, frame_in}
+use Rattle.written_types.specs.Writing.{Writing, body_in, items_in, points_in}
 
--- a test of a local for null
-abbrev pub NullTestsCarry : (w : Writing) → Given w → Type 0
-NullTestsCarry w given =
-    (b : Before w given) (local : ℕ)
-    → b.point.instr ≡ NullTest local
-    → BlockCarries w (length (written_items w.form b.front)) b.one b.behind b.frame
+-- what laws of other crates say
+pub record LawsBelow : Type 0 where
+  pub pools : PoolLaws
+  pub fields : FieldLaws
+  pub parameters : ReadsParameters
 
--- the frame that a block's first item has is fresh
-abbrev pub BlocksFresh : Writing → Type 0
-BlocksFresh w =
-    (front behind : List Finished) (one : Finished) (frame : Frame)
-    → w.blocks ≡ front ++ (one ∷ behind)
-    → had_in w (length (written_items w.form front)) (comes w (length (written_items w.form front))) ≡ Some frame
-    → IsFresh w (length (written_items w.form front)) one frame
-
-module _ (w : Writing) (given : Given w) (laws : PoolLaws) (finds : FindsOne) (constants : MakeConstants w) (numbers : FieldsNumbered w)
-    (tests : NullTestsCarry w given) (fresh_blocks : BlocksFresh w) where
+module _ (w : Writing) (given : Given w) (laws : LawsBelow) where
   fit : EdgesFit w given
   fit = edges_fit w given
 
@@ -68,12 +61,15 @@ module _ (w : Writing) (given : Given w) (laws : PoolLaws) (finds : FindsOne) (c
   ends = ends_carry w given fit stand
 
   makes : MakesCarry w given
-  makes = makes_carry w given constants
+  makes = makes_carry w given (constants_there w given laws.pools laws.parameters)
 
   known : SitesKnown w.s
   known =
       sites w.s.classes w.s.links w.host w.s.flat given.setting.plan given.hierarchy given.setting.tree.holds given.setting.links given.setting.ready
       given.setting.sites given.setting.valid
+
+  numbers : FieldsNumbered w
+  numbers = fields_numbered w given known laws.fields
 
   -- the block of an instruction
   instruction_carries : (front behind : List Finished) (one : Finished) (frame : Frame) (at : ℕ) (point : Point) (route : Route)
@@ -100,12 +96,12 @@ module _ (w : Writing) (given : Given w) (laws : PoolLaws) (finds : FindsOne) (c
     }
 
     by : (found : FlatInstr) → point.instr ≡ found → BlockCarries w (length (written_items w.form front)) one behind frame
-    by (NullTest local) is_test = tests before local is_test
+    by (NullTest local) is_test = null_test_block w given laws.pools before fit stand ends local is_test
     by (Of class instr) is_instr = of_template (template w.s at point.typed (state_written route) route class instr) refl where
       of_template : (found : Option (List WInstr)) → template w.s at point.typed (state_written route) route class instr ≡ found
           → BlockCarries w (length (written_items w.form front)) one behind frame
       of_template None none =
-          carried_carries w given laws finds fit stand front behind one at point route class instr frame is here last is_instr none agrees fresh
+          carried_carries w given laws.pools laws.fields.one fit stand front behind one at point route class instr frame is here last is_instr none agrees fresh
       of_template (Some instrs) some = template_block w given fit ends makes known numbers before class instr instrs is_instr some
 
   own_carried : OwnCarried w
@@ -121,7 +117,7 @@ module _ (w : Writing) (given : Given w) (laws : PoolLaws) (finds : FindsOne) (c
   all_carry = record {
     begins = begins w given;
     no_this = no_this w given;
-    fresh = fresh_blocks;
+    fresh = blocks_fresh w given fit (edges_written w given);
     empties = empties_go w (blocks_of w.s given.setting.routes) given.setting.blocks own_carried;
     carries = own_carried.carries;
   }
@@ -132,7 +128,7 @@ module _ (w : Writing) (given : Given w) (laws : PoolLaws) (finds : FindsOne) (c
       → greatest_of (points_in w) frames ≤ w.max_stack
       → HasFrames (body_in w state) frames
   written_frames_type state frames framed most =
-      frames_type w state frames all_carry (is_deep_enough w frames (are_had w state frames framed) most) (catch_types w given laws fit) framed
+      frames_type w state frames all_carry (is_deep_enough w frames (are_had w state frames framed) most) (catch_types w given laws.pools fit) framed
 
   pub written_frames_are_there : AreThere w
   written_frames_are_there = frames_are_there w all_carry

@@ -1,22 +1,14 @@
 -- Gotos and comparisons that virtual objects decide: plain operands are popped, and where the jump is taken its objects are made and a goto follows.
-use Rattle.std.proofs.Common.{◌≡◌, ◌≢◌, ◌⊎◌, ◌+◌, ◌-◌, ◌≤◌, ℕ, suc, Bool, true, false, List, [], ◌∷◌, ◌++◌, drop, length, map, slice_get, take, Option, Some, None, option_map, refl, sym, ap, subst, ◌∙◌, inl, inr, arith}
-use Rattle.std.specs.Prelude.{◌==◌, ◌&&◌, ◌||◌, not, if◌then◌else◌}
+use Rattle.std.proofs.Common.{◌≡◌, ◌+◌, ℕ, suc, Bool, true, false, List, [], ◌∷◌, ◌++◌, length, map, slice_get, Option, Some, None, refl, sym, ap, subst, ◌∙◌}
+use Rattle.std.specs.Prelude.{if◌then◌else◌}
 use Rattle.std.specs.List.{AllByRecursion, flat_map}
-use Rattle.std.proofs.lemmas.Bool.{false≢true}
-use Rattle.std.proofs.lemmas.List.{append-nil, append_assoc, length-append, length-map, map-append}
-use Rattle.std.proofs.lemmas.Option.{none-some, same_Some}
+use Rattle.std.proofs.lemmas.List.{append-nil, append_assoc, map-append}
 use Rattle.class_model.specs.declared.descriptor.FieldType.{FieldType}
 use Rattle.class_model.specs.declared.frame.Frame.{Frame}
-use Rattle.class_model.specs.declared.frame.VType.{VType}
-use Rattle.class_model.specs.declared.frame.VType.TheVariants as types
-use Rattle.class_model.specs.declared.instr.Instr.{Instr}
-use Rattle.class_model.specs.declared.instr.Instr.TheVariants.{Const, New}
+use Rattle.class_model.specs.declared.instr.Instr.TheVariants.{Const}
 use Rattle.class_model.specs.declared.descriptor.Kind.TheVariants as kinds
 use Rattle.class_model.specs.declared.instr.Imm.TheVariants as imms
 use Rattle.flow_code.specs.FlatCode.{FlatCode, point_at}
-use Rattle.flow_code.specs.declared.point.FlatInstr.{FlatInstr}
-use Rattle.flow_code.specs.declared.point.FlatInstr.TheVariants.{Of}
-use Rattle.flow_code.specs.declared.point.Point.{Point}
 use Rattle.flow_code.specs.declared.point.Site.{Site}
 use Rattle.making_code.specs.Items.{WInstr, WItem, constructs, item, plain, store}
 use Rattle.making_code.specs.Units.{object_unit}
@@ -24,12 +16,12 @@ use Rattle.making_code.specs.MakeCode.{Entry, copy_field, copy_fields_from, copy
 use Rattle.member_link.specs.Rows.Row.{stack_behind}
 use Rattle.plan_flow.specs.PlanSlots.{is_open}
 use Rattle.plan_flow.specs.PlanTable.{falls_on}
-use Rattle.plan_flow.specs.Written.Blocks.{Block, is_decided, leaves_to, making, of_point}
+use Rattle.plan_flow.specs.Written.Blocks.{Block, is_decided, leaves_to, making}
 use Rattle.plan_flow.specs.Written.Finish.{end_items}
 use Rattle.plan_flow.specs.Written.FramedCode.{frame_by_item}
-use Rattle.plan_flow.specs.Written.Routes.{Route, RouteEdge, edge_by}
+use Rattle.plan_flow.specs.Written.Routes.{RouteEdge, edge_by}
 use Rattle.plan_flow.specs.Written.Templates.{items_at, made_on_jump}
-use Rattle.plan_flow.specs.Written.WrittenCode.{block_items, in_form, written_items}
+use Rattle.plan_flow.specs.Written.WrittenCode.{block_items, in_form}
 use Rattle.plan_flow.specs.declared.edge.EdgeKind.TheVariants as edges
 use Rattle.virtual_state.specs.Sites.{has}
 use Rattle.virtual_state.specs.States.{State, object_of}
@@ -38,13 +30,13 @@ use Rattle.virtual_state.specs.declared.slot.Slot.{Slot}
 use Rattle.virtual_state.specs.declared.slot.Slot.TheVariants.{Plain, Virt, Unusable}
 use Rattle.virtual_state.specs.declared.slot.VObject.{VObject}
 use Rattle.written_types.proofs.Given.{EdgeTarget, EdgesFit, EndsCarry, FitsState, Given, IsOfNoNew, MakeCarries, MakesCarry, written_along}
-use Rattle.written_types.proofs.ItemSteps.{frame_of}
 use Rattle.written_types.proofs.Placing.{IsMade, block_carries, carries_both, items_and_end, same_form}
 use Rattle.written_types.proofs.SlotFrames.{grouped}
 use Rattle.written_types.proofs.Standing.{all_joined}
 use Rattle.written_types.proofs.TemplateEnds.{made_items, template_carries}
 use Rattle.written_types.proofs.Templates.{Before, along, moved_slots, number, objects_behind, plan_row, read, row, state}
-use Rattle.written_types.specs.Writing.{Agrees, BlockCarries, Carries, IsFresh, Writing}
+use Rattle.written_types.specs.Inner.CarriedFrames.{Agrees, BlockCarries, Carries, IsFresh}
+use Rattle.written_types.specs.Writing.{Writing}
 
 -- ---- make code has no instruction of a class file
 

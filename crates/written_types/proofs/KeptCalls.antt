@@ -1,32 +1,27 @@
 -- Rows of calls and of news that are written as they are.
-use Rattle.std.proofs.Common.{◌≡◌, ◌≢◌, ◌⊎◌, ◌+◌, ◌-◌, ◌<◌, ◌≤◌, ℕ, zero, suc, Bool, true, false, List, [], ◌∷◌, ◌++◌, length, map, slice_get, Option, Some, None, option_and_then, if◌then◌else◌, IsTrue, refl, sym, ap, subst, ◌∙◌, inl, inr, arith}
-use Rattle.std.specs.Prelude.{◌==◌, bytes_eq}
+use Rattle.std.proofs.Common.{◌≡◌, ◌≢◌, ◌+◌, ◌-◌, ◌<◌, ℕ, suc, Bool, true, false, List, [], ◌∷◌, ◌++◌, length, map, slice_get, Option, Some, None, if◌then◌else◌, refl, sym, ap, subst, ◌∙◌, inl, inr, arith}
+use Rattle.std.specs.Prelude.{◌==◌}
 use Rattle.std.specs.List.{AllByRecursion}
-use Rattle.std.proofs.lemmas.List.{length-map, length-take-le, map-append}
-use Rattle.std.proofs.lemmas.Option.{none-some, same_Some}
+use Rattle.std.proofs.lemmas.List.{length-map, map-append}
 use Rattle.class_model.specs.Code.{verification_type}
 use Rattle.class_model.specs.Descriptors.{parameters_of}
-use Rattle.class_model.specs.Names.{init}
-use Rattle.class_model.specs.PoolChecks.{descriptor_at}
 use Rattle.class_model.specs.declared.descriptor.FieldType.{FieldType}
 use Rattle.class_model.specs.declared.frame.Frame.{Frame}
 use Rattle.class_model.specs.declared.frame.VType.{VType}
 use Rattle.class_model.specs.declared.frame.VType.TheVariants as types
-use Rattle.class_model.specs.declared.opcodes.TheConstants.{INVOKESPECIAL, INVOKESTATIC}
-use Rattle.class_tree.specs.Headers.{Name}
-use Rattle.flow_code.specs.ReadTypes.{class_of_site, read_frame}
+use Rattle.flow_code.specs.ReadTypes.{read_frame}
 use Rattle.member_link.specs.References.{Reference}
 use Rattle.member_link.specs.RowScope.{RowScope}
-use Rattle.member_link.specs.Rows.MemberRows.{IsSpecialTarget, MayInitialise, PassesInitialiser, PassesMethod, argument_needs, init_row, initialised_type, instance_row, receiver, result_types, special_row, static_row}
+use Rattle.member_link.specs.Rows.MemberRows.{IsSpecialTarget, MayInitialise, PassesMethod, argument_needs, init_row, initialised_type, instance_row, receiver, result_types, special_row, static_row}
 use Rattle.member_link.specs.Rows.Assigning.{IsAssignableIn}
 use Rattle.member_link.specs.Rows.Operands.{AllFit, Fits, Need, assignable_to, lowest_of, topmost, under, uninitialised}
 use Rattle.member_link.specs.Rows.Row.{Row, conditional, plain}
 use Rattle.member_link.specs.Rows.Table.{new_row, without_older}
 use Rattle.member_link.specs.Signatures.{result_of}
 use Rattle.plan_flow.specs.PlanRows.{PlanRow, Source, no_change, plain_value}
-use Rattle.plan_flow.specs.PlanSlots.{changed, held, slots_from}
+use Rattle.plan_flow.specs.PlanSlots.{changed, slots_from}
 use Rattle.plan_flow.specs.PlanTable.{held_from, held_locals, moving, operand, result_given}
-use Rattle.same_runs.specs.Flats.{class_of_flat_new, host_scope, pool_of as flat_pool}
+use Rattle.same_runs.specs.Flats.{host_scope, pool_of as flat_pool}
 use Rattle.virtual_state.specs.States.{State}
 use Rattle.virtual_state.specs.declared.slot.Slot.{Slot}
 use Rattle.written_types.proofs.AgreeLists.{AgreeAt, agree_joined}
@@ -35,14 +30,15 @@ use Rattle.written_types.proofs.ChangedTypes.{Alike, HasOwnNew, IsOwnNew, NewsSt
 use Rattle.written_types.proofs.KeptMembers.{type_steady}
 use Rattle.written_types.proofs.KeptRows.{Goes, cut_of, kept, lowest_agrees}
 use Rattle.written_types.proofs.NeedsKept.{AreSteady, fits_agreeing}
-use Rattle.written_types.proofs.OperandRows.{Fit, no_operand}
+use Rattle.written_types.proofs.OperandRows.{Fit}
 use Rattle.written_types.proofs.OwnUnits.{have_long}
 use Rattle.written_types.proofs.PlainOperands.{IsNone, Sure, sure_none}
 use Rattle.written_types.proofs.SiteFields.{SitesKnown}
 use Rattle.written_types.proofs.Standing.{all_at, all_dropped, all_taken, kept_locals, under_have}
 use Rattle.written_types.proofs.StandingFrames.{Cut, Follows, Stands, cut, held_same, moved, operands_fit}
-use Rattle.written_types.proofs.WrittenTypes.{IsSteady, by_item, entry_types, item_top, own_types, steady_item, written_joined}
-use Rattle.written_types.specs.Writing.{AgreeIn, Writing, scope_in}
+use Rattle.written_types.proofs.WrittenTypes.{by_item, entry_types, item_top, own_types, steady_item, written_joined}
+use Rattle.written_types.specs.Inner.CarriedFrames.{AgreeIn}
+use Rattle.written_types.specs.Writing.{Writing, scope_in}
 
 -- what the rows of a class's instructions read in the flat code
 abbrev pub flat_scope : Writing → ℕ → RowScope

@@ -1,8 +1,8 @@
 -- Rows of calls that are written as they are, by opcode and by what the constant refers to.
-use Rattle.std.proofs.Common.{◌≡◌, ◌≢◌, ◌⊎◌, ◌+◌, ◌-◌, ◌<◌, ℕ, zero, suc, Bool, true, false, List, [], ◌∷◌, ◌++◌, length, map, slice_get, Option, Some, None, if◌then◌else◌, refl, sym, ap, subst, ◌∙◌, inl, inr, arith}
+use Rattle.std.proofs.Common.{◌≡◌, ◌+◌, ◌-◌, ◌<◌, ℕ, suc, Bool, true, false, List, [], ◌++◌, length, Option, Some, None, if◌then◌else◌, refl, sym, ap, subst, ◌∙◌, arith}
 use Rattle.std.specs.Prelude.{◌==◌, ◌&&◌, ◌||◌, bytes_eq}
 use Rattle.std.proofs.lemmas.Bool.{and_parts}
-use Rattle.std.proofs.lemmas.Option.{none-some, same_Some}
+use Rattle.std.proofs.lemmas.Option.{none-some}
 use Rattle.class_model.specs.Descriptors.{parameters_of}
 use Rattle.class_model.specs.Names.{init}
 use Rattle.class_model.specs.PoolChecks.{descriptor_at}
@@ -14,17 +14,16 @@ use Rattle.class_model.specs.declared.pool.Const.{Const as Constant}
 use Rattle.class_model.specs.declared.pool.Const.TheVariants as consts
 use Rattle.class_tree.specs.Names.{object}
 use Rattle.flow_code.specs.ReadTypes.{is_site_object, read_frame}
-use Rattle.member_link.specs.BodyTyping.{RowHolds}
 use Rattle.member_link.specs.Machine.CallSteps.{is_object_init}
 use Rattle.member_link.specs.References.{Reference}
 use Rattle.member_link.specs.RowScope.{RowScope}
-use Rattle.member_link.specs.Rows.MemberRows.{argument_needs, call_row, dynamic_row, init_row, receiver, result_types}
+use Rattle.member_link.specs.Rows.MemberRows.{argument_needs, call_row, dynamic_row, receiver, result_types}
 use Rattle.member_link.specs.Rows.Readings.{reads_itself, reads_pop, row_by}
 use Rattle.member_link.specs.Rows.Row.{Row, access_aside, plain}
 use Rattle.member_link.specs.Signatures.{result_of}
-use Rattle.plan_flow.specs.PlanRows.{PlanRow, no_change}
+use Rattle.plan_flow.specs.PlanRows.{PlanRow}
 use Rattle.plan_flow.specs.PlanSlots.{held}
-use Rattle.plan_flow.specs.PlanTable.{call_row as plan_call, calling, dynamic_row as plan_dynamic, held_from, held_locals, moving, operand, receivers, result_given}
+use Rattle.plan_flow.specs.PlanTable.{call_row as plan_call, calling, dynamic_row as plan_dynamic, held_from, moving, operand, receivers, result_given}
 use Rattle.plan_flow.specs.Written.Templates.{init_template, is_virtual}
 use Rattle.same_runs.specs.TypedFlats.{reading_of_call}
 use Rattle.virtual_state.specs.States.{State}

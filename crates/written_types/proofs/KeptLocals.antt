@@ -1,10 +1,9 @@
 -- Rows of loads, stores and increments that are written as they are.
-use Rattle.std.proofs.Common.{◌≡◌, ◌≢◌, ◌⊎◌, ◌+◌, ◌-◌, ◌<◌, ◌≤◌, ℕ, zero, suc, Bool, true, false, List, [], ◌∷◌, ◌++◌, length, map, slice_get, Option, Some, None, refl, sym, ap, subst, ◌∙◌, inl, inr, arith}
+use Rattle.std.proofs.Common.{◌≡◌, ◌≢◌, ◌+◌, ◌-◌, ◌<◌, ◌≤◌, ℕ, zero, suc, Bool, List, [], ◌∷◌, ◌++◌, length, map, slice_get, Option, Some, None, refl, sym, ap, subst, ◌∙◌, inl, inr, arith}
 use Rattle.std.specs.Prelude.{slice_set}
 use Rattle.std.specs.List.{AllByRecursion}
 use Rattle.std.proofs.lemmas.List.{length-map}
-use Rattle.std.proofs.lemmas.Option.{none-some, same_Some}
-use Rattle.class_model.specs.Frames.{is_wide}
+use Rattle.std.proofs.lemmas.Option.{none-some}
 use Rattle.class_model.specs.declared.descriptor.Kind.{Kind}
 use Rattle.class_model.specs.declared.descriptor.Kind.TheVariants as kinds
 use Rattle.class_model.specs.declared.frame.Frame.{Frame}
@@ -13,8 +12,8 @@ use Rattle.class_model.specs.declared.frame.VType.TheVariants as types
 use Rattle.flow_code.specs.ReadTypes.{read_frame, read_type}
 use Rattle.member_link.specs.RowScope.{RowScope}
 use Rattle.member_link.specs.Rows.LocalRows.{HasRoom, HoldsKind, iinc_row, load_row, local_entry, store_row, stored}
-use Rattle.member_link.specs.Rows.Operands.{AllFit, IsOfKind, lowest_of, of_kind, topmost, under}
-use Rattle.plan_flow.specs.PlanRows.{PlanRow, from_place, no_change}
+use Rattle.member_link.specs.Rows.Operands.{AllFit, IsOfKind, lowest_of, of_kind, topmost}
+use Rattle.plan_flow.specs.PlanRows.{from_place, no_change}
 use Rattle.plan_flow.specs.PlanSlots.{held, slot_from, slots_from}
 use Rattle.plan_flow.specs.PlanTable.{held_from, held_locals, moving, operand}
 use Rattle.plan_flow.specs.PlanTable.{store_row as plan_store}
@@ -32,11 +31,12 @@ use Rattle.written_types.proofs.PlainOperands.{IsNone, not_virtual}
 use Rattle.written_types.proofs.SiteFields.{SitesKnown}
 use Rattle.written_types.proofs.SlotTypes.{item_before}
 use Rattle.written_types.proofs.Standing.{all_at, all_dropped, kept_locals, local_has}
-use Rattle.written_types.proofs.StandingFrames.{Cut, Follows, Stands, cut, held_plain, moved, operands_fit}
+use Rattle.written_types.proofs.StandingFrames.{Cut, Stands, cut, held_plain, moved, operands_fit}
 use Rattle.written_types.proofs.TwoUnits.{room_of_wide}
 use Rattle.written_types.proofs.WrittenTypes.{by_item, entry_types, item_top, own_types}
-use Rattle.written_types.specs.FitsTypes.{HasItsNew, HaveTypes}
-use Rattle.written_types.specs.Writing.{AgreeIn, Writing, scope_in}
+use Rattle.written_types.specs.FitsTypes.{HasItsNew}
+use Rattle.written_types.specs.Inner.CarriedFrames.{AgreeIn}
+use Rattle.written_types.specs.Writing.{Writing, scope_in}
 
 -- ---- lists
 

@@ -1,45 +1,42 @@
 -- Rows of instructions on fields, objects and results that are written as they are.
-use Rattle.std.proofs.Common.{◌≡◌, ◌≢◌, ◌⊎◌, ◌+◌, ◌-◌, ◌<◌, ◌≤◌, ◌==◌, ℕ, zero, suc, Bool, true, false, List, [], ◌∷◌, ◌++◌, length, map, slice_get, Option, Some, None, option_and_then, if◌then◌else◌, IsTrue, refl, sym, ap, subst, ◌∙◌, inl, inr, arith}
-use Rattle.std.specs.List.{AllByRecursion}
-use Rattle.std.proofs.lemmas.Option.{none-some, same_Some}
+use Rattle.std.proofs.Common.{◌≡◌, ◌≢◌, ◌-◌, ℕ, suc, Bool, false, List, [], ◌∷◌, length, slice_get, Option, Some, None, refl, sym, ap, subst, ◌∙◌, inl, inr}
 use Rattle.class_model.specs.Code.{verification_type}
-use Rattle.class_model.specs.Descriptors.{kind_of}
 use Rattle.class_model.specs.declared.descriptor.FieldType.{FieldType}
 use Rattle.class_model.specs.declared.descriptor.FieldType.TheVariants as field_types
 use Rattle.class_model.specs.declared.descriptor.Kind.{Kind}
-use Rattle.class_model.specs.declared.descriptor.Kind.TheVariants as kinds
 use Rattle.class_model.specs.declared.frame.Frame.{Frame}
 use Rattle.class_model.specs.declared.frame.VType.{VType}
 use Rattle.class_model.specs.declared.frame.VType.TheVariants as types
 use Rattle.class_tree.specs.Headers.{Headers, Name}
 use Rattle.class_tree.specs.Names.{throwable}
-use Rattle.flow_code.specs.ReadTypes.{class_of_site, read_frame}
+use Rattle.flow_code.specs.ReadTypes.{read_frame}
 use Rattle.member_link.specs.Assignability.{IsAssignable, from_null, of_names, to_same, to_top}
 use Rattle.member_link.specs.References.{Reference}
 use Rattle.member_link.specs.RowScope.{RowScope}
-use Rattle.member_link.specs.Rows.MemberRows.{MayPut, MayReturn, MayReturnValue, PassesField, PassesPut, get_field_row, get_static_row, put_field_row, put_static_row, return_row}
+use Rattle.member_link.specs.Rows.MemberRows.{MayPut, PassesField, PassesPut, get_field_row, get_static_row, put_field_row, put_static_row, return_row}
 use Rattle.member_link.specs.Rows.Operands.{AllFit, Fits, Need, assignable_or_this, assignable_to, initialised, lowest_of, of_kind, topmost}
-use Rattle.member_link.specs.Rows.Row.{Row, conditional, ending, plain}
+use Rattle.member_link.specs.Rows.Row.{Row}
 use Rattle.member_link.specs.Rows.Table.{cast_row, throw_row}
 use Rattle.member_link.specs.Signatures.{field_type}
-use Rattle.plan_flow.specs.PlanRows.{Change, PlanRow, Source, enter_monitor, from_field, from_place, leave_monitor, no_change, plain_value, put_field}
-use Rattle.plan_flow.specs.PlanSlots.{changed, field_of_slot, held, put_in, slots_from}
-use Rattle.plan_flow.specs.PlanTable.{cast_row as plan_cast, get_field_row as plan_get, held_from, held_locals, moving, operand, put_field_row as plan_put, throwing, value_stored}
+use Rattle.plan_flow.specs.PlanRows.{PlanRow, from_field, from_place, plain_value, put_field}
+use Rattle.plan_flow.specs.PlanSlots.{changed, field_of_slot, held, put_in}
+use Rattle.plan_flow.specs.PlanTable.{cast_row as plan_cast, get_field_row as plan_get, held_locals, moving, operand, put_field_row as plan_put, throwing, value_stored}
 use Rattle.virtual_state.specs.States.{State}
 use Rattle.virtual_state.specs.declared.slot.Slot.{Slot}
-use Rattle.virtual_state.specs.declared.slot.Slot.TheVariants.{Plain, Virt}
+use Rattle.virtual_state.specs.declared.slot.Slot.TheVariants.{Plain}
 use Rattle.written_types.proofs.AgreeLists.{AgreeAt}
 use Rattle.written_types.proofs.BlockEnds.{topmost_none}
 use Rattle.written_types.proofs.KeptRows.{Goes, agree_one, cut_of, gives_none, gives_one, kept, lowest_agrees}
-use Rattle.written_types.proofs.NeedsKept.{AreSteady, fits_agreeing}
+use Rattle.written_types.proofs.NeedsKept.{fits_agreeing}
 use Rattle.written_types.proofs.OperandRows.{Fit, no_operand}
-use Rattle.written_types.proofs.PlainOperands.{IsNone, Sure}
+use Rattle.written_types.proofs.PlainOperands.{IsNone}
 use Rattle.written_types.proofs.SiteFields.{SitesKnown}
 use Rattle.written_types.proofs.Standing.{all_at, all_dropped}
-use Rattle.written_types.proofs.StandingFrames.{Cut, RowFollows, Stands, cut, held_plain, moved, operands_fit}
-use Rattle.written_types.proofs.WrittenTypes.{IsSteady, by_item, entry_types, item_top, steady_item}
+use Rattle.written_types.proofs.StandingFrames.{Stands, held_plain, operands_fit}
+use Rattle.written_types.proofs.WrittenTypes.{IsSteady, by_item, entry_types, item_top}
 use Rattle.written_types.specs.FitsTypes.{HasItsNew}
-use Rattle.written_types.specs.Writing.{AgreeIn, Writing, scope_in}
+use Rattle.written_types.specs.Inner.CarriedFrames.{AgreeIn}
+use Rattle.written_types.specs.Writing.{Writing, scope_in}
 
 -- ---- types
 

@@ -1,5 +1,5 @@
 -- Rows of instructions that are written as they are: constants, arrays, numbers and jumps.
-use Rattle.std.proofs.Common.{◌≡◌, ◌⊎◌, ◌≢◌, ◌-◌, ◌<◌, ℕ, zero, suc, Bool, true, false, List, [], ◌∷◌, ◌++◌, length, map, replicate, slice_get, Option, Some, None, option_and_then, if◌then◌else◌, refl, sym, ap, subst, ◌∙◌, inl, inr, arith}
+use Rattle.std.proofs.Common.{◌≡◌, ◌-◌, ℕ, zero, suc, Bool, true, false, List, [], ◌∷◌, ◌++◌, length, map, replicate, Option, Some, None, option_and_then, if◌then◌else◌, refl, sym, ap, subst, ◌∙◌, inl, inr}
 use Rattle.std.specs.Prelude.{◌==◌}
 use Rattle.std.specs.List.{AllByRecursion}
 use Rattle.std.proofs.lemmas.List.{length-map, length-replicate}
@@ -21,10 +21,10 @@ use Rattle.member_link.specs.Rows.ArithmeticRows.{Operation, operation_row, type
 use Rattle.member_link.specs.Rows.ArrayRows.{Elements, component_type, elements_from, elements_load_row, elements_of, elements_store_row, made_row, need_of_value}
 use Rattle.member_link.specs.Rows.LocalRows.{const_row, type_of_const, type_of_imm}
 use Rattle.member_link.specs.Rows.Operands.{AllFit, Fits, Need, array_among, array_of_references, initialised, lowest_of, of_kind, topmost}
-use Rattle.member_link.specs.Rows.Row.{Row, conditional, either, no_row, plain}
+use Rattle.member_link.specs.Rows.Row.{Row, conditional, either, plain}
 use Rattle.member_link.specs.Rows.Table.{jump_row}
-use Rattle.plan_flow.specs.PlanRows.{PlanRow, Source, no_change, plain_value}
-use Rattle.plan_flow.specs.PlanSlots.{changed, held, slots_from}
+use Rattle.plan_flow.specs.PlanRows.{PlanRow, Source, plain_value}
+use Rattle.plan_flow.specs.PlanSlots.{changed, slots_from}
 use Rattle.plan_flow.specs.PlanTable.{held_from, held_locals, moving, operand, operands_of, throwing}
 use Rattle.virtual_state.specs.States.{State}
 use Rattle.written_types.proofs.AgreeLists.{AgreeAt}
@@ -35,7 +35,8 @@ use Rattle.written_types.proofs.PlainOperands.{IsBarred, IsNone, IsNumber, Sure,
 use Rattle.written_types.proofs.SiteFields.{SitesKnown}
 use Rattle.written_types.proofs.StandingFrames.{Cut, RowFollows, Stands, cut, fit_fewer, moved, operands_fit}
 use Rattle.written_types.proofs.WrittenTypes.{IsSteady, by_item, entry_types, item_top, steady_item}
-use Rattle.written_types.specs.Writing.{AgreeIn, Writing, scope_in}
+use Rattle.written_types.specs.Inner.CarriedFrames.{AgreeIn}
+use Rattle.written_types.specs.Writing.{Writing, scope_in}
 
 -- ---- types that are given
 

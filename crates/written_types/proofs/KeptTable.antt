@@ -1,11 +1,10 @@
 -- The row of each instruction that is written as it is.
-use Rattle.std.proofs.Common.{◌≡◌, ◌≢◌, ◌⊎◌, ◌<◌, ℕ, zero, suc, Bool, true, false, List, [], ◌∷◌, ◌++◌, length, slice_get, Option, Some, None, if◌then◌else◌, IsTrue, refl, sym, ap, subst, ◌∙◌, inl, inr, arith}
-use Rattle.std.specs.Prelude.{◌==◌, ◌&&◌, ◌||◌, nat_le, option_and_then}
+use Rattle.std.proofs.Common.{◌≡◌, ◌≢◌, ℕ, Bool, true, false, List, [], ◌∷◌, ◌++◌, length, slice_get, Option, Some, None, if◌then◌else◌, refl, sym, ap, subst, ◌∙◌, inl, inr, arith}
+use Rattle.std.specs.Prelude.{◌==◌, ◌&&◌, nat_le, option_and_then}
 use Rattle.std.specs.List.{AllByRecursion, list_any}
 use Rattle.std.proofs.lemmas.Option.{none-some, same_Some}
 use Rattle.class_model.specs.Pool.{Constants, constant_at}
 use Rattle.class_model.specs.PoolChecks.{class_at}
-use Rattle.class_model.specs.declared.descriptor.Kind.{Kind}
 use Rattle.class_model.specs.declared.descriptor.Kind.TheVariants as kinds
 use Rattle.class_model.specs.declared.frame.Frame.{Frame}
 use Rattle.class_model.specs.declared.frame.VType.{VType}
@@ -15,25 +14,23 @@ use Rattle.class_model.specs.declared.instr.Instr.TheVariants.{Nop, Const, Ldc, 
 use Rattle.class_model.specs.declared.opcodes.TheConstants.{AALOAD, AASTORE, IALOAD, IASTORE, IFEQ, IFLE, IFNONNULL, IFNULL, IF_ACMPEQ, IF_ACMPNE, IF_ICMPEQ, IF_ICMPLE, INVOKESPECIAL}
 use Rattle.class_tree.specs.Headers.{Name}
 use Rattle.flow_code.specs.ReadTypes.{read_frame}
-use Rattle.flow_code.specs.declared.point.FlatInstr.{FlatInstr}
 use Rattle.flow_code.specs.declared.point.FlatInstr.TheVariants.{Of}
 use Rattle.member_link.specs.BodyTyping.{RowHolds}
 use Rattle.member_link.specs.Machine.CallSteps.{is_object_init}
-use Rattle.member_link.specs.Machine.Programs.{number_of_first}
 use Rattle.member_link.specs.References.{Reference}
 use Rattle.member_link.specs.RowScope.{RowScope}
 use Rattle.member_link.specs.Rows.ArithmeticRows.{Operation, divide_operations, float_operations, operation_in, pure_operations}
 use Rattle.member_link.specs.Rows.ArrayRows.{array_of, elements_from, primitive_array}
-use Rattle.member_link.specs.Rows.Operands.{AllFit, Need, initialised, of_kind, some_array, topmost}
+use Rattle.member_link.specs.Rows.Operands.{AllFit, initialised, of_kind, some_array, topmost}
 use Rattle.member_link.specs.Rows.Readings.{row_by}
 use Rattle.member_link.specs.Rows.Row.{Row}
 use Rattle.member_link.specs.Rows.Table.{row_of}
 use Rattle.member_link.specs.Signatures.{reference_of}
-use Rattle.plan_flow.specs.Must.{AsksFor, CannotBePut}
+use Rattle.plan_flow.specs.Must.{CannotBePut}
 use Rattle.plan_flow.specs.PlanRows.{PlanRow, Position, enter_monitor, leave_monitor, object_put_into, plain_value}
-use Rattle.plan_flow.specs.PlanScope.{PlanScope, field_of, member_of, pool_of, site_at}
+use Rattle.plan_flow.specs.PlanScope.{PlanScope, field_of, site_at}
 use Rattle.plan_flow.specs.PlanSlots.{changed, held, readable}
-use Rattle.plan_flow.specs.PlanTable.{call_row, cast_row, dynamic_row, get_field_row, held_locals, moving, null_row, operand, operands_asked, positions, put_field_row, row_at, same_row, throwing, value_stored}
+use Rattle.plan_flow.specs.PlanTable.{call_row, cast_row, dynamic_row, held_locals, moving, null_row, operand, operands_asked, put_field_row, row_at, same_row, throwing, value_stored}
 use Rattle.plan_flow.specs.Written.Routes.{Route}
 use Rattle.plan_flow.specs.Written.Templates.{get_template, init_template, instance_template, new_template, nothing_of, null_template, put_template, same_template, template}
 use Rattle.plan_flow.specs.Written.WrittenConstants.{with_index}

@@ -1,32 +1,28 @@
 -- The item of an instruction that is written as it is, or of a test for null, leads to the targets and to the handlers of its edges without pads.
-use Rattle.std.proofs.Common.{◌≡◌, ◌≢◌, ◌+◌, ◌==◌, ◌&&◌, ◌||◌, ℕ, zero, suc, Bool, true, false, List, [], ◌∷◌, ◌++◌, length, map, slice_get, Option, Some, None, refl, sym, ap, subst, ◌∙◌, if◌then◌else◌, arith}
-use Rattle.std.specs.List.{AllByRecursion, flat_map, list_any}
+use Rattle.std.proofs.Common.{◌≡◌, ◌+◌, ◌==◌, ◌||◌, ℕ, zero, suc, Bool, true, false, List, [], ◌∷◌, ◌++◌, length, map, slice_get, Option, Some, None, refl, sym, ap, ◌∙◌, arith}
+use Rattle.std.specs.List.{flat_map, list_any}
 use Rattle.std.proofs.lemmas.Bool.{eq-eqb, false≢true}
-use Rattle.std.proofs.lemmas.List.{append-nil, map-append}
 use Rattle.std.proofs.lemmas.Option.{none-some, same_Some}
 use Rattle.class_model.specs.Instructions.{targets}
 use Rattle.class_model.specs.declared.descriptor.Kind.TheVariants as kinds
 use Rattle.class_model.specs.declared.instr.Imm.TheVariants as imms
 use Rattle.class_model.specs.declared.instr.Instr.{Instr}
-use Rattle.class_model.specs.declared.instr.Instr.TheVariants.{Const, Goto, If, If2, IfNull, IfSame, Lookup, Table, Throw}
+use Rattle.class_model.specs.declared.instr.Instr.TheVariants.{Const, Goto, If, If2, IfNull, IfSame, Throw}
 use Rattle.class_model.specs.declared.opcodes.TheConstants.{IFNONNULL}
-use Rattle.flow_code.specs.FlatCode.{point_at}
 use Rattle.flow_code.specs.declared.handlers.FlatHandler.{FlatHandler}
-use Rattle.flow_code.specs.declared.point.FlatInstr.{FlatInstr}
-use Rattle.flow_code.specs.declared.point.FlatInstr.TheVariants.{Of, NullTest}
+use Rattle.flow_code.specs.declared.point.FlatInstr.TheVariants.{Of}
 use Rattle.flow_code.specs.declared.point.Point.{Point}
 use Rattle.making_code.specs.Items.{WCatch, WInstr, WItem, WTarget, ahead, carried, item, load, plain, to_handler_pad, to_point}
 use Rattle.making_code.specs.Opposites.{opposite_instr}
 use Rattle.making_code.specs.Units.{own}
-use Rattle.plan_flow.specs.Written.Blocks.{Block}
 use Rattle.plan_flow.specs.Written.Finish.{Finished, begins_point, end_items}
 use Rattle.plan_flow.specs.Written.FramedCode.{is_led_to, leads_to}
 use Rattle.plan_flow.specs.Written.Routes.{Route, RouteEdge, edge_by}
 use Rattle.plan_flow.specs.Written.Templates.{as_it_is, catches_at, catches_from, jump_target, jump_targets, null_test, to_or_pad}
-use Rattle.plan_flow.specs.Written.WrittenCode.{Form, block_items, in_form, jumping_to, short, start_of, target_number, wide, widened, written_items}
-use Rattle.plan_flow.specs.Written.WrittenConstants.{carried_instr, catch_index, indexed_item, with_index}
+use Rattle.plan_flow.specs.Written.WrittenCode.{Form, block_items, in_form, short, start_of, target_number, wide, widened, written_items}
+use Rattle.plan_flow.specs.Written.WrittenConstants.{carried_instr, catch_index, indexed_item}
 use Rattle.plan_flow.specs.declared.edge.EdgeKind.TheVariants as edges
-use Rattle.written_types.proofs.CarriedBlocks.{Inside, stands_inside}
+use Rattle.written_types.proofs.CarriedBlocks.{stands_inside}
 use Rattle.written_types.proofs.CarriedItems.{targets_many}
 use Rattle.written_types.proofs.FramedBodies.{leads_to_item}
 use Rattle.written_types.proofs.ItemRows.{index_targets, jumping_targets}

@@ -8,6 +8,9 @@ mod SiteFields
 mod SiteSlots
 mod NextBlocks
 mod FreshBlocks
+mod LowPlaces
+mod LowBlocks
+mod OtherItems
 mod BlockPlaces
 mod EdgesWritten
 mod FreshItems
@@ -40,7 +43,6 @@ mod KeptLocals
 mod ChangedTypes
 mod KeptMembers
 mod KeptCalls
-mod MeantConstants
 mod NamedConstants
 mod KeptInvokes
 mod KeptTable
@@ -123,7 +125,6 @@ mod EndingRows
 mod MakingConstants
 mod ConstructorTexts
 mod ConstructorTakes
-mod AvoidingWays
 mod WrittenEdges
 mod LedItems
 mod OpenThrows

@@ -3,19 +3,16 @@ use Rattle.std.proofs.Common.{◌≡◌, ◌≢◌, ◌+◌, ℕ, zero, suc, Boo
 use Rattle.std.specs.List.{AllByRecursion, flat_map}
 use Rattle.class_model.specs.declared.descriptor.FieldType.{FieldType}
 use Rattle.class_model.specs.declared.frame.Frame.{Frame}
-use Rattle.class_model.specs.declared.instr.Instr.TheVariants.{New}
 use Rattle.flow_code.specs.FlatCode.{FlatCode, point_at}
-use Rattle.flow_code.specs.declared.point.FlatInstr.TheVariants.{Of}
 use Rattle.flow_code.specs.declared.point.Point.{Point}
 use Rattle.flow_code.specs.declared.point.Site.{Site}
 use Rattle.making_code.specs.Items.{WInstr, WItem, item}
 use Rattle.making_code.specs.MakeCode.{Entry, copy_field, copy_fields_from, copy_local, copy_locals_from, copy_object, enters, entries_at, from_lowest, load_entry, load_field, load_fields_from, local_slots_in, make_code, make_object, make_one, save, saved}
-use Rattle.plan_flow.specs.PlanScope.{PlanScope}
 use Rattle.plan_flow.specs.Written.Blocks.{Block, BlockOf, before_point, handler_pad, jump_pad, making, of_point, on_next_edge, state_written}
 use Rattle.plan_flow.specs.Written.Finish.{Finished, end_items}
 use Rattle.plan_flow.specs.Written.FramedCode.{frame_by_item}
-use Rattle.plan_flow.specs.Written.Routes.{Route, RouteEdge}
-use Rattle.plan_flow.specs.Written.WrittenCode.{block_items, in_form, written_items}
+use Rattle.plan_flow.specs.Written.Routes.{Route}
+use Rattle.plan_flow.specs.Written.WrittenCode.{in_form, written_items}
 use Rattle.plan_flow.specs.Written.WrittenFrames.{written_frame}
 use Rattle.virtual_state.specs.Sites.{has}
 use Rattle.virtual_state.specs.States.{State, object_of}
@@ -24,12 +21,13 @@ use Rattle.virtual_state.specs.declared.slot.Slot.{Slot}
 use Rattle.virtual_state.specs.declared.slot.Slot.TheVariants.{Plain, Virt, Unusable}
 use Rattle.virtual_state.specs.declared.slot.VObject.{VObject}
 use Rattle.written_types.proofs.AgreeingFrames.{agreeing_assignable, assignable_to_itself, keeps_no_this}
-use Rattle.written_types.proofs.BlockKinds.{BlockKind, IsPad, made_before, makes_before_point, makes_on_next, of_instruction, of_pad}
+use Rattle.written_types.proofs.BlockKinds.{BlockKind, IsPad, makes_before_point, makes_on_next, of_instruction, of_pad}
 use Rattle.written_types.proofs.CarriedPoints.{Behind}
 use Rattle.written_types.proofs.EdgeTargets.{before_can_make, target_of}
-use Rattle.written_types.proofs.Given.{AtInstruction, CanMake, ComesNext, EndCarries, EndsCarry, FitsState, Given, IsOfNoNew, MakeCarries, MakesCarry, frame_at_state}
+use Rattle.written_types.proofs.Given.{AtInstruction, CanMake, EndCarries, EndsCarry, FitsState, Given, IsOfNoNew, MakeCarries, MakesCarry, frame_at_state}
 use Rattle.written_types.proofs.Placing.{IsMade, block_carries, goes_behind, items_and_end, same_form}
-use Rattle.written_types.specs.Writing.{Agrees, BlockCarries, Carries, IsFresh, Writing, frame_in}
+use Rattle.written_types.specs.Inner.CarriedFrames.{Agrees, BlockCarries, Carries, IsFresh, frame_in}
+use Rattle.written_types.specs.Writing.{Writing}
 
 -- ---- make code has no instruction of a class file
 

@@ -1,17 +1,15 @@
 -- The local units of a state and those of the state without the objects that are made.
-use Rattle.std.proofs.Common.{◌≡◌, ◌≢◌, ◌⊎◌, ◌+◌, ◌<◌, ◌≤◌, ℕ, zero, suc, Bool, true, false, List, [], ◌∷◌, ◌++◌, drop, length, map, replicate, take, slice_get, Option, Some, None, option_map, refl, sym, ap, subst, ◌∙◌, inl, inr, arith}
+use Rattle.std.proofs.Common.{◌≡◌, ◌≢◌, ◌⊎◌, ◌+◌, ◌<◌, ◌≤◌, ℕ, zero, suc, Bool, true, false, List, [], ◌∷◌, ◌++◌, length, map, replicate, slice_get, Some, refl, sym, ap, subst, ◌∙◌, inl, inr}
 use Rattle.std.specs.List.{AllByRecursion, flat_map}
 use Rattle.std.proofs.lemmas.Bool.{false≢true}
-use Rattle.std.proofs.lemmas.List.{length-append}
-use Rattle.std.proofs.lemmas.Option.{none-some, same_Some, slice_get-map, slice_get_within}
+use Rattle.std.proofs.lemmas.Option.{none-some, same_Some}
 use Rattle.class_model.specs.Code.{verification_type}
 use Rattle.class_model.specs.Descriptors.{parameter_units}
-use Rattle.class_model.specs.Frames.{is_top, units}
+use Rattle.class_model.specs.Frames.{units}
 use Rattle.class_model.specs.declared.descriptor.FieldType.{FieldType}
 use Rattle.class_model.specs.declared.descriptor.FieldType.TheVariants as field_types
 use Rattle.class_model.specs.declared.frame.VType.{VType}
 use Rattle.class_model.specs.declared.frame.VType.TheVariants as types
-use Rattle.flow_code.specs.FlatCode.{FlatCode}
 use Rattle.flow_code.specs.ReadTypes.{read_type}
 use Rattle.flow_code.specs.declared.point.Point.{Point}
 use Rattle.flow_code.specs.declared.point.Site.{Site}
@@ -27,8 +25,9 @@ use Rattle.written_types.proofs.EdgeFrames.{fields_long}
 use Rattle.written_types.proofs.Given.{Given, IsOfNoNew}
 use Rattle.written_types.proofs.NewStarts.{type_apart}
 use Rattle.written_types.proofs.UnitTypes.{field_region, own_region}
-use Rattle.written_types.specs.FitsTypes.{FitsTypes, HasItsNew}
-use Rattle.written_types.specs.Writing.{AgreeIn, Writing}
+use Rattle.written_types.specs.FitsTypes.{HasItsNew}
+use Rattle.written_types.specs.Inner.CarriedFrames.{AgreeIn}
+use Rattle.written_types.specs.Writing.{Writing}
 
 -- ---- what each of a list is
 

@@ -1,57 +1,41 @@
 -- An instanceof of a virtual object: its answer is a constant; and a call of java/lang/Object's constructor, which takes its object away.
-use Rattle.std.proofs.Common.{◌≡◌, ◌⊎◌, ◌+◌, ◌-◌, ◌≤◌, ℕ, suc, Bool, true, false, List, [], ◌∷◌, ◌++◌, drop, length, map, pos, reverse, slice_get, take, Option, Some, None, option_and_then, refl, sym, ap, subst, ◌∙◌, inl, inr, arith}
-use Rattle.std.specs.Prelude.{◌==◌, ◌&&◌, ◌||◌, bytes_eq, if◌then◌else◌}
-use Rattle.std.specs.List.{AllByRecursion, flat_map}
-use Rattle.std.proofs.lemmas.Bool.{and_parts, false≢true}
-use Rattle.std.proofs.lemmas.List.{append-nil, length-drop, length-map, reverse-append, take-append-drop}
-use Rattle.class_model.specs.Descriptors.{parameters_of}
-use Rattle.class_model.specs.Frames.{depth}
-use Rattle.class_model.specs.Names.{init}
-use Rattle.class_model.specs.Pool.{Constants, constant_at}
+use Rattle.std.proofs.Common.{◌≡◌, ◌-◌, ◌≤◌, ℕ, suc, Bool, true, List, [], ◌∷◌, ◌++◌, drop, length, map, pos, reverse, take, Some, refl, sym, ap, subst, ◌∙◌, arith}
+use Rattle.std.specs.Prelude.{◌&&◌, if◌then◌else◌}
+use Rattle.std.proofs.lemmas.List.{append-nil, length-drop, reverse-append, take-append-drop}
 use Rattle.class_model.specs.PoolChecks.{class_at}
 use Rattle.class_model.specs.declared.frame.Frame.{Frame}
 use Rattle.class_model.specs.declared.frame.VType.{VType}
 use Rattle.class_model.specs.declared.frame.VType.TheVariants as types
 use Rattle.class_model.specs.declared.instr.Imm.{Imm}
 use Rattle.class_model.specs.declared.instr.Imm.TheVariants as imms
-use Rattle.class_model.specs.declared.instr.Instr.TheVariants.{Const, InstanceOf, Invoke, Shuffle}
-use Rattle.class_model.specs.declared.opcodes.TheConstants.{INVOKESPECIAL, INVOKESTATIC, POP}
+use Rattle.class_model.specs.declared.instr.Instr.TheVariants.{Const, InstanceOf}
 use Rattle.class_tree.specs.Headers.{Name}
-use Rattle.class_tree.specs.Names.{object}
-use Rattle.flow_code.specs.ReadTypes.{is_site_object, read_type}
 use Rattle.flow_code.specs.declared.point.FlatInstr.{FlatInstr}
 use Rattle.flow_code.specs.declared.point.FlatInstr.TheVariants.{Of}
-use Rattle.making_code.specs.Items.{WInstr, item, plain}
-use Rattle.member_link.specs.Machine.CallSteps.{is_object_init}
-use Rattle.member_link.specs.References.{Reference}
-use Rattle.member_link.specs.Rows.MemberRows.{call_row, receiver}
-use Rattle.member_link.specs.Rows.Operands.{initialised, single, topmost, under}
-use Rattle.member_link.specs.Rows.Readings.{reads_itself, reads_pop, row_by}
-use Rattle.member_link.specs.Rows.Row.{Row, stack_behind}
-use Rattle.member_link.specs.Rows.ShuffleRows.{has_width, have_widths, one as narrow}
-use Rattle.member_link.specs.Signatures.{reference_of}
+use Rattle.making_code.specs.Items.{item, plain}
+use Rattle.member_link.specs.Rows.Operands.{initialised, topmost}
+use Rattle.member_link.specs.Rows.Row.{stack_behind}
+use Rattle.member_link.specs.Rows.ShuffleRows.{has_width, one as narrow}
 use Rattle.plan_flow.specs.PlanRows.{plain_value}
-use Rattle.plan_flow.specs.PlanScope.{is_site_below, member_of, pool_of}
+use Rattle.plan_flow.specs.PlanScope.{is_site_below, pool_of}
 use Rattle.plan_flow.specs.PlanSlots.{changed, held, is_open}
-use Rattle.plan_flow.specs.PlanTable.{call_row as plan_call, falls_on, moving, operand}
-use Rattle.plan_flow.specs.Written.Templates.{Cell, cells, cells_from, items_at, plain_units, pops}
-use Rattle.same_runs.specs.Flats.{pool_of as flat_pool}
-use Rattle.same_runs.specs.TypedFlats.{reading_of_call}
+use Rattle.plan_flow.specs.PlanTable.{falls_on, operand}
+use Rattle.plan_flow.specs.Written.Templates.{Cell, cells, cells_from, items_at}
 use Rattle.virtual_state.specs.States.{State, is_present}
 use Rattle.virtual_state.specs.declared.slot.Slot.{Slot}
-use Rattle.virtual_state.specs.declared.slot.Slot.TheVariants.{Plain, Virt, Unusable}
+use Rattle.virtual_state.specs.declared.slot.Slot.TheVariants.{Virt}
 use Rattle.written_types.proofs.AgreeingFrames.{agrees_with_itself}
-use Rattle.written_types.proofs.Given.{EdgesFit, EndsCarry, Given, entries_in}
-use Rattle.written_types.proofs.ItemSteps.{const_carries, frame_of, pop_carries}
-use Rattle.written_types.proofs.RowTable.{same_pool}
+use Rattle.written_types.proofs.Given.{EdgesFit, EndsCarry, Given}
+use Rattle.written_types.proofs.ItemSteps.{const_carries, frame_of}
 use Rattle.written_types.proofs.ShuffleForms.{cells_of}
 use Rattle.written_types.proofs.ShuffleOperands.{cells_are, cells_both}
 use Rattle.written_types.proofs.SlotFrames.{as_long_taken}
 use Rattle.written_types.proofs.StillTemplates.{OneVirtual, one_virtual}
 use Rattle.written_types.proofs.TemplateEnds.{template_carries}
-use Rattle.written_types.proofs.TemplateRows.{OneType, as_many, holds_for, nothing_template, one_type, operands_are, plan_for, row_for, scope_for}
-use Rattle.written_types.proofs.Templates.{Before, By, Taken, agrees_behind, along, entries, entries_long, locals_stay, number, plan_row, read, read_long, row, state, taken}
-use Rattle.written_types.specs.Writing.{AgreeIn, BlockCarries, Carries, Writing, carries_none}
+use Rattle.written_types.proofs.TemplateRows.{holds_for, one_type, operands_are, plan_for, row_for, scope_for}
+use Rattle.written_types.proofs.Templates.{Before, By, Taken, agrees_behind, entries, entries_long, locals_stay, number, read, read_long, state, taken}
+use Rattle.written_types.specs.Inner.CarriedFrames.{AgreeIn, BlockCarries, Carries, carries_none}
+use Rattle.written_types.specs.Writing.{Writing}
 
 -- what agrees with nothing is nothing
 pub agree_none : (top : List VType) → AgreeIn top [] → top ≡ []

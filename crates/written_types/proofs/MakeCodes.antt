@@ -1,57 +1,46 @@
 -- Make code carries a frame that fits a state to one that fits the state without the objects that are made.
-use Rattle.std.proofs.Common.{◌≡◌, ◌≢◌, ◌⊎◌, ◌+◌, ◌<◌, ◌≤◌, max, ℕ, zero, suc, Bool, true, false, List, [], ◌∷◌, ◌++◌, drop, length, map, replicate, take, slice_get, Option, Some, None, IsTrue, option_map, refl, sym, ap, subst, ◌∙◌, inl, inr, arith}
-use Rattle.std.specs.List.{AllByRecursion, flat_map}
+use Rattle.std.proofs.Common.{◌≡◌, ◌≢◌, ◌⊎◌, ◌+◌, ◌<◌, ◌≤◌, ℕ, zero, suc, Bool, true, false, List, [], ◌∷◌, ◌++◌, drop, length, map, replicate, take, slice_get, Option, Some, option_map, refl, sym, ap, subst, ◌∙◌, inl, inr, arith}
+use Rattle.std.specs.List.{AllByRecursion}
 use Rattle.std.proofs.lemmas.Bool.{false≢true}
-use Rattle.std.proofs.lemmas.List.{append_assoc, length-append, length-replicate, map-append}
-use Rattle.std.proofs.lemmas.Option.{none-some, same_Some, slice_get-map, slice_get_within}
+use Rattle.std.proofs.lemmas.List.{length-append, length-replicate, map-append}
+use Rattle.std.proofs.lemmas.Option.{none-some, same_Some, slice_get-map}
 use Rattle.class_model.specs.Frames.{depth, is_top}
 use Rattle.class_model.specs.declared.frame.Frame.{Frame}
 use Rattle.class_model.specs.declared.frame.VType.{VType}
 use Rattle.class_model.specs.declared.frame.VType.TheVariants as types
 use Rattle.class_tree.specs.Headers.{Headers, headers_of}
-use Rattle.flow_code.specs.FlatCode.{FlatCode, point_at}
 use Rattle.flow_code.specs.ReadTypes.{read_type}
-use Rattle.flow_code.specs.WrittenUnits.{greatest_depth, written_units}
+use Rattle.flow_code.specs.WrittenUnits.{greatest_depth}
 use Rattle.flow_code.specs.declared.point.Point.{Point}
-use Rattle.flow_code.specs.declared.point.Site.{Site}
-use Rattle.making_code.specs.Items.{WInstr, WItem, item}
-use Rattle.making_code.specs.MakeCode.{Entry, copy_locals_from, copy_object, entries_at, entries_from, entries_in, from_lowest, load_entry, local_slots_in, make_code, make_one, save, saved}
-use Rattle.making_code.specs.StateFrames.{entry_types_from, frame_in, local_types_from, type_of_slot}
-use Rattle.making_code.specs.Units.{first_object_unit}
+use Rattle.making_code.specs.Items.{item}
+use Rattle.making_code.specs.StateFrames.{frame_in, local_types_from, type_of_slot}
 use Rattle.member_link.specs.Assignability.{IsAssignable, from_null, of_names, to_same, to_top}
-use Rattle.member_link.specs.Rows.FrameAssignability.{AreAssignable, IsFrameAssignable}
+use Rattle.member_link.specs.Rows.FrameAssignability.{AreAssignable}
 use Rattle.plan_flow.specs.PlanScope.{PlanScope, local_types, stack_types}
-use Rattle.plan_flow.specs.Written.Blocks.{making}
-use Rattle.plan_flow.specs.Written.Finish.{Finished}
 use Rattle.plan_flow.specs.Written.FramedCode.{type_by_item}
-use Rattle.plan_flow.specs.Written.WrittenCode.{block_items, written_items}
-use Rattle.virtual_state.specs.Laws.Objects.{none_below, object_behind, object_first}
+use Rattle.virtual_state.specs.Laws.Objects.{object_behind, object_first}
 use Rattle.virtual_state.specs.Laws.Removals.{present_before}
 use Rattle.virtual_state.specs.Sites.{has}
-use Rattle.virtual_state.specs.States.{IsIncreasing, State, is_present, is_unusable, object_of, sites_of}
+use Rattle.virtual_state.specs.States.{IsIncreasing, State, is_unusable, object_of, sites_of}
 use Rattle.virtual_state.specs.Without.{made_plain, without}
 use Rattle.virtual_state.specs.declared.slot.Slot.{Slot}
 use Rattle.virtual_state.specs.declared.slot.Slot.TheVariants.{Plain, Virt, Unusable}
 use Rattle.virtual_state.specs.declared.slot.VObject.{VObject}
 use Rattle.written_types.proofs.AgreeingFrames.{keeps_no_this}
 use Rattle.written_types.proofs.Arrivals.{fits_point, fits_types, made_fits, types_there}
-use Rattle.written_types.proofs.CarriedBlocks.{Inside, stands_inside}
-use Rattle.written_types.proofs.Given.{CanMake, FitsState, Given, IsOfNoNew, MakeCarries, MakesCarry, NoTops, NoTopsAbove, frame_at_state}
-use Rattle.written_types.proofs.ItemPlaces.{StandsAt}
-use Rattle.written_types.proofs.MadeStates.{agree_at, all_each, all_of_both, each_all, fields_agree, region_apart}
-use Rattle.written_types.proofs.MakingCopies.{Copied, copy_all, copy_objects}
+use Rattle.written_types.proofs.Given.{CanMake, FitsState, Given, NoTops, NoTopsAbove, frame_at_state}
+use Rattle.written_types.proofs.MadeStates.{agree_at, all_each, each_all, fields_agree}
 use Rattle.written_types.proofs.MakingLocals.{Kept}
-use Rattle.written_types.proofs.MakingObjects.{MadeAll, make_all, then_carries}
-use Rattle.written_types.proofs.MakingPlaces.{MakeConstants, NoneOf, PlacedFrom, first_placed, rest_placed}
-use Rattle.written_types.proofs.MakingReload.{Lowest, Reloaded, load_again, lowest, object_fits}
-use Rattle.written_types.proofs.MakingStack.{SavedAll, entries_by_item, entry_no_top, entry_type, save_all, saves_of, saves_types, saving}
+use Rattle.written_types.proofs.MakingPlaces.{MakeConstants}
+use Rattle.written_types.proofs.MakingReload.{Lowest, lowest, object_fits}
+use Rattle.written_types.proofs.MakingStack.{entries_by_item, entry_no_top, entry_type}
 use Rattle.written_types.proofs.NoThis.{NotThis, by_item_not_this, new_not_this}
 use Rattle.written_types.proofs.SlotTypes.{item_before, item_behind}
 use Rattle.written_types.proofs.Standing.{all_at, item_at}
 use Rattle.written_types.proofs.Starts.{scope_headers}
 use Rattle.written_types.proofs.UnitTypes.{UnitTypes, assigned_at, assigned_each, field_region, own_region, units_left, units_typed}
 use Rattle.written_types.specs.FitsTypes.{FitsTypes, HasItsNew, HasType, HavePairs, HaveTypes, is_reached}
-use Rattle.written_types.specs.Writing.{IsFresh, Writing}
+use Rattle.written_types.specs.Writing.{Writing}
 
 -- ---- lists
 

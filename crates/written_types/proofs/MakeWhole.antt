@@ -1,16 +1,13 @@
 -- Make code as a whole: entries are saved, objects are made, copied, and the stack is loaded again.
-use Rattle.std.proofs.Common.{◌≡◌, ◌≢◌, ◌⊎◌, ◌+◌, ◌<◌, ◌≤◌, ℕ, zero, suc, Bool, true, false, List, [], ◌∷◌, ◌++◌, drop, length, map, take, slice_get, Option, Some, None, refl, sym, ap, subst, ◌∙◌, inl, inr, arith}
+use Rattle.std.proofs.Common.{◌≡◌, ◌≢◌, ◌+◌, ◌<◌, ◌≤◌, ℕ, suc, false, List, [], ◌∷◌, ◌++◌, length, map, take, slice_get, Option, Some, refl, sym, ap, subst, ◌∙◌, inl, arith}
 use Rattle.std.specs.List.{AllByRecursion, flat_map}
 use Rattle.std.proofs.lemmas.List.{append_assoc, length-append, map-append}
-use Rattle.class_model.specs.Frames.{depth}
 use Rattle.class_model.specs.declared.frame.Frame.{Frame}
 use Rattle.class_model.specs.declared.frame.VType.{VType}
 use Rattle.class_model.specs.declared.frame.VType.TheVariants as types
-use Rattle.flow_code.specs.WrittenUnits.{greatest_depth}
 use Rattle.flow_code.specs.declared.point.Point.{Point}
 use Rattle.making_code.specs.Items.{WInstr, WItem, item}
-use Rattle.making_code.specs.MakeCode.{Entry, copy_locals_from, copy_object, entries_at, entries_from, entries_in, from_lowest, load_entry, local_slots_in, make_code, make_one, save, saved}
-use Rattle.member_link.specs.Rows.FrameAssignability.{AreAssignable}
+use Rattle.making_code.specs.MakeCode.{Entry, copy_locals_from, copy_object, entries_at, entries_from, entries_in, from_lowest, load_entry, local_slots_in, make_code, make_one}
 use Rattle.plan_flow.specs.Written.Blocks.{making}
 use Rattle.plan_flow.specs.Written.Finish.{Finished}
 use Rattle.plan_flow.specs.Written.WrittenCode.{block_items, written_items}
@@ -18,11 +15,10 @@ use Rattle.virtual_state.specs.Sites.{has}
 use Rattle.virtual_state.specs.States.{State}
 use Rattle.virtual_state.specs.Without.{without}
 use Rattle.virtual_state.specs.declared.slot.Slot.{Slot}
-use Rattle.written_types.proofs.CarriedBlocks.{Inside, stands_inside}
+use Rattle.written_types.proofs.CarriedBlocks.{stands_inside}
 use Rattle.written_types.proofs.Given.{CanMake, FitsState, Given, IsOfNoNew, MakeCarries, MakesCarry}
-use Rattle.written_types.proofs.ItemPlaces.{StandsAt}
 use Rattle.written_types.proofs.MadeStates.{all_of_both, region_apart}
-use Rattle.written_types.proofs.MakeCodes.{Low, all_found, depth_within, entries, fits_after, headers_same, kept_first, low_of, point, reached, saved_not_this, slot_at, slots_long, taken_at, taken_long, unusable_at, ut, widths}
+use Rattle.written_types.proofs.MakeCodes.{Low, all_found, depth_within, fits_after, headers_same, kept_first, low_of, point, reached, saved_not_this, slot_at, slots_long, taken_at, taken_long, unusable_at, ut, widths}
 use Rattle.written_types.proofs.MakingCopies.{Copied, copy_all, copy_objects}
 use Rattle.written_types.proofs.MakingLocals.{Kept}
 use Rattle.written_types.proofs.MakingObjects.{MadeAll, make_all, then_carries}
@@ -30,7 +26,8 @@ use Rattle.written_types.proofs.MakingPlaces.{MakeConstants, NoneOf, PlacedFrom,
 use Rattle.written_types.proofs.MakingReload.{Reloaded, load_again}
 use Rattle.written_types.proofs.MakingStack.{SavedAll, save_all, saves_of, saves_types, saving}
 use Rattle.written_types.proofs.UnitTypes.{field_region, own_region}
-use Rattle.written_types.specs.Writing.{Carries, IsFresh, Writing}
+use Rattle.written_types.specs.Inner.CarriedFrames.{Carries, IsFresh}
+use Rattle.written_types.specs.Writing.{Writing}
 
 module _ (w : Writing) (given : Given w) (constants : MakeConstants w) (at : ℕ) (state : State) (made order : List ℕ)
     (can : CanMake w given at state made order) (front behind : List Finished) (one : Finished) (left right : List WItem) (number : ℕ) (frame : Frame)

@@ -1,8 +1,8 @@
 -- The items of make code that copy an uninitialised object and that call its constructor.
-use Rattle.std.proofs.Common.{◌≡◌, ◌≢◌, ◌+◌, ◌==◌, ℕ, zero, suc, Bool, true, false, List, [], ◌∷◌, ◌++◌, length, map, slice_get, Option, Some, None, refl, sym, ap, subst, ◌∙◌, arith}
+use Rattle.std.proofs.Common.{◌≡◌, ◌≢◌, ◌+◌, ◌==◌, ℕ, suc, Bool, true, false, List, [], ◌∷◌, ◌++◌, length, map, Option, Some, None, refl, sym, ap, subst, ◌∙◌, arith}
 use Rattle.std.specs.List.{AllByRecursion}
 use Rattle.std.proofs.lemmas.Bool.{eqb-true, eq-eqb}
-use Rattle.std.proofs.lemmas.List.{append-nil, append_assoc, map-append}
+use Rattle.std.proofs.lemmas.List.{append-nil, map-append}
 use Rattle.class_model.specs.Code.{verification_type}
 use Rattle.class_model.specs.Descriptors.{parameters_of}
 use Rattle.class_model.specs.Names.{init}
@@ -16,16 +16,17 @@ use Rattle.class_model.specs.declared.opcodes.TheConstants.{DUP, INVOKESPECIAL}
 use Rattle.class_tree.specs.Headers.{Name}
 use Rattle.making_code.specs.Constants.{constructor_needs}
 use Rattle.making_code.specs.IndexedMaking.{index_of_last}
-use Rattle.making_code.specs.Items.{WItem, constructs, item, plain}
+use Rattle.making_code.specs.Items.{constructs, item, plain}
 use Rattle.member_link.specs.References.{Reference}
 use Rattle.member_link.specs.RowScope.{RowScope}
-use Rattle.member_link.specs.Rows.MemberRows.{MayInitialise, argument_needs, call_row, init_row, initialised_type, receiver, result_types}
-use Rattle.member_link.specs.Rows.Operands.{AllFit, Need, assignable_to, is_single, lowest_of, single, topmost, under, uninitialised}
-use Rattle.member_link.specs.Rows.Row.{Row, access_aside, row_frame}
+use Rattle.member_link.specs.Rows.MemberRows.{MayInitialise, argument_needs, call_row, initialised_type, receiver, result_types}
+use Rattle.member_link.specs.Rows.Operands.{AllFit, Need, assignable_to, is_single, single, topmost, under, uninitialised}
+use Rattle.member_link.specs.Rows.Row.{access_aside, row_frame}
 use Rattle.member_link.specs.Rows.ShuffleRows.{Form, form_in, form_row, forms_of, one, picked}
 use Rattle.member_link.specs.Signatures.{reference_of, result_of}
 use Rattle.written_types.proofs.MakingSteps.{one_step, topmost_are, under_are}
-use Rattle.written_types.specs.Writing.{Carries, RowFits, Writing, scope_in}
+use Rattle.written_types.specs.Inner.CarriedFrames.{Carries, RowFits}
+use Rattle.written_types.specs.Writing.{Writing, scope_in}
 
 -- ---- dup
 

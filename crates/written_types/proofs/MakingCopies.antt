@@ -1,26 +1,24 @@
 -- Copies of the objects that are made: to the local units that name them, and to the fields of objects that stay virtual.
-use Rattle.std.proofs.Common.{◌≡◌, ◌≢◌, ◌⊎◌, ◌+◌, ◌==◌, ◌<◌, ◌≤◌, ℕ, zero, suc, Bool, true, false, List, [], ◌∷◌, ◌++◌, length, map, slice_get, Option, Some, None, IsTrue, option_map, refl, sym, ap, subst, ◌∙◌, inl, inr, arith}
+use Rattle.std.proofs.Common.{◌≡◌, ◌≢◌, ◌⊎◌, ◌+◌, ◌<◌, ◌≤◌, ℕ, suc, Bool, true, false, List, [], ◌∷◌, ◌++◌, length, map, slice_get, Some, refl, sym, ap, subst, ◌∙◌, inl, inr, arith}
 use Rattle.std.specs.Prelude.{is_some}
 use Rattle.std.specs.List.{AllByRecursion, flat_map}
-use Rattle.std.proofs.lemmas.Bool.{eq-eqb, eqb-true, false≢true}
-use Rattle.std.proofs.lemmas.Option.{none-some, same_Some, slice_get-map, slice_get_within}
+use Rattle.std.proofs.lemmas.Bool.{false≢true}
+use Rattle.std.proofs.lemmas.Option.{same_Some, slice_get_within}
 use Rattle.class_model.specs.Code.{verification_type}
 use Rattle.class_model.specs.Frames.{is_top, is_wide}
 use Rattle.class_model.specs.declared.descriptor.FieldType.{FieldType}
 use Rattle.class_model.specs.declared.descriptor.FieldType.TheVariants as field_types
 use Rattle.class_model.specs.declared.descriptor.Kind.TheVariants as kinds
-use Rattle.class_model.specs.declared.frame.Frame.{Frame}
 use Rattle.class_model.specs.declared.frame.VType.{VType}
 use Rattle.class_model.specs.declared.frame.VType.TheVariants as types
 use Rattle.class_tree.specs.Headers.{Headers, headers_of}
 use Rattle.flow_code.specs.ReadTypes.{read_type}
-use Rattle.flow_code.specs.WrittenUnits.{greatest_depth, written_units}
 use Rattle.flow_code.specs.declared.point.Point.{Point}
 use Rattle.flow_code.specs.declared.point.Site.{Site}
-use Rattle.making_code.specs.Items.{WInstr, WItem, item, load, store}
+use Rattle.making_code.specs.Items.{WInstr, item, load, store}
 use Rattle.making_code.specs.MakeCode.{copy_field, copy_fields_from, copy_local, copy_locals_from, copy_object}
 use Rattle.making_code.specs.StateFrames.{type_of_slot}
-use Rattle.making_code.specs.Units.{field_unit, first_object_unit, first_scratch_unit, object_unit, own, unit_number}
+use Rattle.making_code.specs.Units.{field_unit, first_object_unit, object_unit, own, unit_number}
 use Rattle.member_link.specs.Assignability.{IsAssignable, to_top}
 use Rattle.member_link.specs.Rows.LocalRows.{HasRoom, stored}
 use Rattle.plan_flow.specs.Written.FramedCode.{type_by_item}
@@ -36,8 +34,9 @@ use Rattle.written_types.proofs.SlotTypes.{item_before, read_wide}
 use Rattle.written_types.proofs.Standing.{item_at}
 use Rattle.written_types.proofs.StoredLocals.{stored_is}
 use Rattle.written_types.proofs.UnitTypes.{UnitTypes, field_region, item_wide, own_region, paired_at}
-use Rattle.written_types.specs.FitsTypes.{HasFieldTypes, HasType, HaveTypes, HavePairs, IsOfType}
-use Rattle.written_types.specs.Writing.{Carries, Writing, carries_none}
+use Rattle.written_types.specs.FitsTypes.{HasFieldTypes, HasType, HaveTypes, HavePairs}
+use Rattle.written_types.specs.Inner.CarriedFrames.{Carries, carries_none}
+use Rattle.written_types.specs.Writing.{Writing}
 
 -- no field's type is Top
 field_no_top : (type : FieldType) → verification_type type ≢ types.Top

@@ -1,10 +1,10 @@
 -- Objects are made one after the other: each field is loaded, the constructor is called, and the object goes to its unit.
-use Rattle.std.proofs.Common.{◌≡◌, ◌≢◌, ◌⊎◌, ◌+◌, ◌==◌, ◌||◌, ◌<◌, ◌≤◌, ℕ, zero, suc, Bool, true, false, not, List, [], ◌∷◌, ◌++◌, length, map, slice_get, Option, Some, None, IsTrue, IsFalse, refl, sym, ap, subst, ◌∙◌, inl, inr, arith}
+use Rattle.std.proofs.Common.{◌≡◌, ◌≢◌, ◌⊎◌, ◌+◌, ◌==◌, ◌||◌, ◌<◌, ◌≤◌, ℕ, zero, suc, Bool, true, false, not, List, [], ◌∷◌, ◌++◌, length, map, slice_get, Option, Some, None, refl, sym, ap, subst, ◌∙◌, inl, inr, arith}
 use Rattle.std.specs.Prelude.{is_some}
 use Rattle.std.specs.List.{AllByRecursion, filter, flat_map, list_any}
 use Rattle.std.proofs.lemmas.Bool.{eq-eqb, eqb-true, false≢true}
 use Rattle.std.proofs.lemmas.List.{append-nil, append_assoc, length-append, map-append}
-use Rattle.std.proofs.lemmas.Option.{none-some, same_Some, slice_get_within}
+use Rattle.std.proofs.lemmas.Option.{same_Some, slice_get_within}
 use Rattle.class_model.specs.Code.{verification_type}
 use Rattle.class_model.specs.Descriptors.{kind_of}
 use Rattle.class_model.specs.declared.descriptor.FieldType.{FieldType}
@@ -17,20 +17,20 @@ use Rattle.class_model.specs.declared.instr.Imm.TheVariants as imms
 use Rattle.class_model.specs.declared.instr.Instr.TheVariants.{Const, Enter, Shuffle}
 use Rattle.class_model.specs.declared.opcodes.TheConstants.{DUP}
 use Rattle.class_tree.specs.Headers.{Headers, headers_of}
-use Rattle.flow_code.specs.WrittenUnits.{field_units, greatest_depth, written_units}
+use Rattle.flow_code.specs.WrittenUnits.{greatest_depth, written_units}
 use Rattle.flow_code.specs.declared.point.Point.{Point}
 use Rattle.flow_code.specs.declared.point.Site.{Site}
 use Rattle.making_code.specs.Items.{WInstr, WItem, constructs, item, load, makes, plain, store}
 use Rattle.making_code.specs.MakeCode.{enters, load_field, load_fields_from, make_object, make_one}
 use Rattle.making_code.specs.Laws.MakeOrders.{names_of_some}
-use Rattle.making_code.specs.MakeOrder.{IsMakeOrder, all_made, names_one, one_next}
+use Rattle.making_code.specs.MakeOrder.{IsMakeOrder, all_made, one_next}
 use Rattle.making_code.specs.Units.{field_unit, first_object_unit, object_unit, unit_number}
 use Rattle.member_link.specs.Assignability.{IsAssignable, from_null, of_names, to_same, to_top}
 use Rattle.member_link.specs.Rows.LocalRows.{HasRoom, stored}
 use Rattle.member_link.specs.Rows.Operands.{AllFit, IsOfKind, IsReference, assignable_to}
 use Rattle.member_link.specs.Rows.Table.{without_older}
 use Rattle.virtual_state.specs.Sites.{has}
-use Rattle.virtual_state.specs.States.{IsEdge, IsState, State, is_present, is_virtual, names, object_of}
+use Rattle.virtual_state.specs.States.{State, is_present, is_virtual, names, object_of}
 use Rattle.virtual_state.specs.declared.slot.Slot.{Slot}
 use Rattle.virtual_state.specs.declared.slot.Slot.TheVariants.{Plain, Virt, Unusable}
 use Rattle.virtual_state.specs.declared.slot.VObject.{VObject}
@@ -42,11 +42,12 @@ use Rattle.written_types.proofs.MakingPlaces.{MakeConstants, NoneOf, PlacedFrom,
 use Rattle.written_types.proofs.MakingSteps.{enter_carries, load_carries, new_carries, null_carries, store_carries}
 use Rattle.written_types.proofs.Placing.{carries_both}
 use Rattle.written_types.proofs.RouteEdges.{found_there}
-use Rattle.written_types.proofs.Standing.{all_joined, item_at}
+use Rattle.written_types.proofs.Standing.{item_at}
 use Rattle.written_types.proofs.StoredLocals.{stored_is}
 use Rattle.written_types.proofs.UnitTypes.{UnitTypes, field_region, own_region}
-use Rattle.written_types.specs.FitsTypes.{HasFieldTypes, HasType, HaveTypes, IsOfType}
-use Rattle.written_types.specs.Writing.{Carries, Writing, carries_none, scope_in}
+use Rattle.written_types.specs.FitsTypes.{HasType, HaveTypes}
+use Rattle.written_types.specs.Inner.CarriedFrames.{Carries, carries_none}
+use Rattle.written_types.specs.Writing.{Writing, scope_in}
 
 -- ---- one list behind another
 

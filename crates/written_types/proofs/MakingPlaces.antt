@@ -1,12 +1,10 @@
 -- Where the items of make code stand, and what is asked of the constants that they name.
-use Rattle.std.proofs.Common.{◌≡◌, ◌≢◌, ◌+◌, ◌<◌, ◌≤◌, ℕ, zero, suc, List, [], ◌∷◌, ◌++◌, length, map, slice_get, Option, Some, None, option_and_then, refl, sym, ap, subst, ◌∙◌, arith}
+use Rattle.std.proofs.Common.{◌≡◌, ◌≢◌, ◌+◌, ◌<◌, ◌≤◌, ℕ, zero, List, [], ◌∷◌, ◌++◌, length, slice_get, Option, Some, None, option_and_then, refl, sym, ap, subst, ◌∙◌, arith}
 use Rattle.std.specs.List.{AllByRecursion}
 use Rattle.std.proofs.lemmas.List.{append_assoc, length-append}
 use Rattle.class_model.specs.Descriptors.{parameters_of}
-use Rattle.class_model.specs.Names.{init}
 use Rattle.class_model.specs.Pool.{constant_at}
 use Rattle.class_model.specs.PoolChecks.{class_at}
-use Rattle.class_model.specs.declared.descriptor.FieldType.{FieldType}
 use Rattle.class_model.specs.declared.descriptor.FieldType.TheVariants as field_types
 use Rattle.class_model.specs.declared.frame.VType.{VType}
 use Rattle.class_model.specs.declared.frame.VType.TheVariants as types
@@ -20,7 +18,6 @@ use Rattle.making_code.specs.IndexedMaking.{index_of_last}
 use Rattle.making_code.specs.Items.{WInstr, WItem, constructs, item, makes}
 use Rattle.member_link.specs.Machine.Replaced.{map_numbered}
 use Rattle.member_link.specs.Signatures.{reference_of, result_of}
-use Rattle.plan_flow.specs.Written.FramedCode.{new_class_in}
 use Rattle.plan_flow.specs.Written.WrittenConstants.{indexed_item}
 use Rattle.written_types.proofs.ItemPlaces.{StandsAt, numbered_behind}
 use Rattle.written_types.proofs.MakingCalls.{constructor_of}

@@ -1,18 +1,16 @@
 -- The stack behind make code: what stands below the lowest object that is made, and above it all entries that are plain now.
-use Rattle.std.proofs.Common.{◌≡◌, ◌≢◌, ◌⊎◌, ◌+◌, ◌<◌, ◌≤◌, ℕ, zero, suc, Bool, true, false, List, [], ◌∷◌, ◌++◌, length, map, slice_get, Option, Some, None, IsTrue, refl, sym, ap, subst, ◌∙◌, inl, inr, arith}
+use Rattle.std.proofs.Common.{◌≡◌, ◌+◌, ◌≤◌, ℕ, suc, Bool, true, false, List, [], ◌∷◌, ◌++◌, map, slice_get, Some, refl, sym, ap, subst, ◌∙◌, arith}
 use Rattle.std.specs.List.{AllByRecursion, flat_map}
-use Rattle.std.proofs.lemmas.Bool.{false≢true}
 use Rattle.std.proofs.lemmas.List.{append-nil, append_assoc}
-use Rattle.class_model.specs.Frames.{depth, is_top}
+use Rattle.class_model.specs.Frames.{depth}
 use Rattle.class_model.specs.declared.descriptor.Kind.TheVariants as kinds
-use Rattle.class_model.specs.declared.frame.Frame.{Frame}
 use Rattle.class_model.specs.declared.frame.VType.{VType}
 use Rattle.class_model.specs.declared.frame.VType.TheVariants as types
 use Rattle.class_tree.specs.Headers.{Headers, headers_of}
 use Rattle.flow_code.specs.ReadTypes.{read_type}
 use Rattle.flow_code.specs.declared.point.Site.{Site}
-use Rattle.making_code.specs.Items.{WInstr, WItem, item, load}
-use Rattle.making_code.specs.MakeCode.{Entry, entries_from, from_lowest, kind_of_type, load_entry, names_in}
+use Rattle.making_code.specs.Items.{WInstr, item, load}
+use Rattle.making_code.specs.MakeCode.{entries_from, from_lowest, kind_of_type, load_entry}
 use Rattle.making_code.specs.Units.{first_object_unit, first_scratch_unit, object_unit, scratch}
 use Rattle.member_link.specs.Assignability.{IsAssignable}
 use Rattle.member_link.specs.Rows.FrameAssignability.{AreAssignable}
@@ -26,8 +24,9 @@ use Rattle.written_types.proofs.MakingObjects.{and_carries}
 use Rattle.written_types.proofs.MakingStack.{depth_both, entries_by_item, entry_type, saved_kind, saves_of}
 use Rattle.written_types.proofs.MakingSteps.{load_carries}
 use Rattle.written_types.proofs.NoThis.{NotThis}
-use Rattle.written_types.specs.FitsTypes.{HasType, HaveTypes, IsOfType}
-use Rattle.written_types.specs.Writing.{Carries, Writing, carries_none}
+use Rattle.written_types.specs.FitsTypes.{HaveTypes, IsOfType}
+use Rattle.written_types.specs.Inner.CarriedFrames.{Carries, carries_none}
+use Rattle.written_types.specs.Writing.{Writing}
 
 module _ (w : Writing) (sites : List ℕ) (headers_same : w.host.headers ≡ headers_of w.s.classes) where
   abbrev made : List Slot → List Slot

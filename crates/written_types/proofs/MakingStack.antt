@@ -1,45 +1,38 @@
 -- The stack around make code: the plain entries above the lowest object that is made are saved, and all are loaded again.
-use Rattle.std.proofs.Common.{◌≡◌, ◌≢◌, ◌⊎◌, ◌+◌, ◌<◌, ◌≤◌, ℕ, zero, suc, Bool, true, false, List, [], ◌∷◌, ◌++◌, length, map, reverse, slice_get, Option, Some, None, IsTrue, refl, sym, ap, subst, ◌∙◌, inl, inr, arith}
-use Rattle.std.specs.List.{AllByRecursion, filter, flat_map}
+use Rattle.std.proofs.Common.{◌≡◌, ◌≢◌, ◌+◌, ◌≤◌, ℕ, suc, Bool, true, false, List, [], ◌∷◌, ◌++◌, length, map, reverse, Option, Some, None, refl, sym, ap, subst, ◌∙◌, arith}
+use Rattle.std.specs.List.{AllByRecursion, filter}
 use Rattle.std.proofs.lemmas.Bool.{false≢true}
 use Rattle.std.proofs.lemmas.List.{append-nil, append_assoc, length-append, map-append, reverse-append}
 use Rattle.class_model.specs.Frames.{depth, is_top, is_wide, units, units_of_entries}
-use Rattle.class_model.specs.declared.descriptor.Kind.TheVariants as kinds
-use Rattle.class_model.specs.declared.frame.Frame.{Frame}
 use Rattle.class_model.specs.declared.frame.VType.{VType}
 use Rattle.class_model.specs.declared.frame.VType.TheVariants as types
 use Rattle.class_tree.specs.Headers.{Headers, headers_of}
-use Rattle.flow_code.specs.FlatCode.{FlatCode}
 use Rattle.flow_code.specs.ReadTypes.{class_of_site, read_type}
-use Rattle.flow_code.specs.WrittenUnits.{greatest_depth, written_units}
+use Rattle.flow_code.specs.WrittenUnits.{greatest_depth}
 use Rattle.flow_code.specs.declared.point.Point.{Point}
-use Rattle.flow_code.specs.declared.point.Site.{Site}
-use Rattle.making_code.specs.Items.{WInstr, WItem, item, load, store}
-use Rattle.making_code.specs.MakeCode.{Entry, entries_from, from_lowest, is_plain, kind_of_type, load_entry, names_in, save, saved}
+use Rattle.making_code.specs.Items.{WInstr, item}
+use Rattle.making_code.specs.MakeCode.{Entry, entries_from, is_plain, kind_of_type, save}
 use Rattle.making_code.specs.StateFrames.{entry_types_from}
-use Rattle.making_code.specs.Units.{first_object_unit, first_scratch_unit, object_unit, scratch}
+use Rattle.making_code.specs.Units.{first_scratch_unit, scratch}
 use Rattle.member_link.specs.Assignability.{IsAssignable, from_null, of_names, to_same, to_top}
 use Rattle.member_link.specs.Rows.FrameAssignability.{AreAssignable}
 use Rattle.member_link.specs.Rows.LocalRows.{HasRoom, stored}
 use Rattle.member_link.specs.Rows.Operands.{IsOfKind, IsReference}
-use Rattle.plan_flow.specs.Written.Finish.{Finished}
 use Rattle.plan_flow.specs.Written.FramedCode.{is_of_point, type_by_item}
-use Rattle.plan_flow.specs.Written.WrittenCode.{Form, start_of}
-use Rattle.virtual_state.specs.Sites.{has}
+use Rattle.plan_flow.specs.Written.WrittenCode.{start_of}
 use Rattle.virtual_state.specs.States.{State}
-use Rattle.virtual_state.specs.Without.{made_plain}
 use Rattle.virtual_state.specs.declared.slot.Slot.{Slot}
 use Rattle.virtual_state.specs.declared.slot.Slot.TheVariants.{Plain, Virt, Unusable}
-use Rattle.written_types.proofs.Given.{NoTops, NoTopsAbove}
+use Rattle.written_types.proofs.Given.{NoTops}
 use Rattle.written_types.proofs.MakingLocals.{Kept, kept_by_save}
-use Rattle.written_types.proofs.MakingObjects.{and_carries, then_carries}
-use Rattle.written_types.proofs.MakingSteps.{load_carries, store_carries}
+use Rattle.written_types.proofs.MakingObjects.{then_carries}
+use Rattle.written_types.proofs.MakingSteps.{store_carries}
 use Rattle.written_types.proofs.NoThis.{NotThis}
 use Rattle.written_types.proofs.SlotTypes.{read_wide}
 use Rattle.written_types.proofs.StoredLocals.{stored_is, units_long}
 use Rattle.written_types.proofs.UnitTypes.{UnitTypes, item_wide}
-use Rattle.written_types.specs.FitsTypes.{HaveTypes}
-use Rattle.written_types.specs.Writing.{Carries, Writing, carries_none}
+use Rattle.written_types.specs.Inner.CarriedFrames.{Carries, carries_none}
+use Rattle.written_types.specs.Writing.{Writing}
 
 -- ---- kinds and units of entries
 

@@ -1,35 +1,24 @@
 -- The items of make code, one by one: the frame behind each.
-use Rattle.std.proofs.Common.{◌≡◌, ◌≢◌, ◌+◌, ◌-◌, ◌<◌, ◌≤◌, ℕ, zero, suc, Bool, true, false, List, [], ◌∷◌, ◌++◌, drop, length, map, take, slice_get, Option, Some, None, refl, sym, ap, subst, ◌∙◌, arith}
+use Rattle.std.proofs.Common.{◌≡◌, ◌≢◌, ◌-◌, ℕ, suc, List, [], ◌∷◌, ◌++◌, drop, length, map, take, slice_get, Some, refl, sym, ap, subst, ◌∙◌, arith}
 use Rattle.std.specs.List.{AllByRecursion}
-use Rattle.std.proofs.lemmas.List.{append-nil, append_assoc, length-append}
-use Rattle.class_model.specs.Code.{verification_type}
-use Rattle.class_model.specs.Descriptors.{parameters_of}
-use Rattle.class_model.specs.Names.{init}
-use Rattle.class_model.specs.Pool.{constant_at}
-use Rattle.class_model.specs.declared.descriptor.FieldType.{FieldType}
+use Rattle.std.proofs.lemmas.List.{append-nil, length-append}
 use Rattle.class_model.specs.declared.descriptor.Kind.{Kind}
 use Rattle.class_model.specs.declared.descriptor.Kind.TheVariants as kinds
 use Rattle.class_model.specs.declared.frame.Frame.{Frame}
 use Rattle.class_model.specs.declared.frame.VType.{VType}
 use Rattle.class_model.specs.declared.frame.VType.TheVariants as types
 use Rattle.class_model.specs.declared.instr.Imm.TheVariants as imms
-use Rattle.class_model.specs.declared.instr.Instr.TheVariants.{Const, Enter, Shuffle}
-use Rattle.class_model.specs.declared.opcodes.TheConstants.{DUP}
+use Rattle.class_model.specs.declared.instr.Instr.TheVariants.{Const, Enter}
 use Rattle.class_tree.specs.Headers.{Name}
-use Rattle.making_code.specs.Constants.{constructor_needs}
-use Rattle.making_code.specs.IndexedMaking.{index_of_last}
-use Rattle.making_code.specs.Items.{WInstr, WItem, constructs, item, load, makes, plain, store}
+use Rattle.making_code.specs.Items.{WItem, item, load, makes, plain, store}
 use Rattle.making_code.specs.Units.{WUnit, unit_number}
 use Rattle.member_link.specs.Bodies.{flows_on}
-use Rattle.member_link.specs.References.{Reference}
-use Rattle.member_link.specs.RowScope.{RowScope}
 use Rattle.member_link.specs.Rows.LocalRows.{HasRoom, local_entry, stored}
-use Rattle.member_link.specs.Rows.MemberRows.{argument_needs, initialised_type}
-use Rattle.member_link.specs.Rows.Operands.{AllFit, IsOfKind, IsReference, assignable_to, of_kind, topmost, under}
+use Rattle.member_link.specs.Rows.Operands.{AllFit, IsOfKind, IsReference, of_kind, topmost, under}
 use Rattle.member_link.specs.Rows.Table.{without_older}
-use Rattle.member_link.specs.Signatures.{reference_of, result_of}
 use Rattle.written_types.proofs.BlockEnds.{topmost_none, under_none}
-use Rattle.written_types.specs.Writing.{Carries, ItemHolds, Writing, carries_none, carries_on, point_in, scope_in}
+use Rattle.written_types.specs.Inner.CarriedFrames.{Carries, ItemHolds, carries_none, carries_on}
+use Rattle.written_types.specs.Writing.{Writing, point_in, scope_in}
 
 -- ---- the topmost entries
 

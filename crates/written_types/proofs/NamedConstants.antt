@@ -1,6 +1,6 @@
 -- What rows read of a constant is the same in the pool that written code has: where that begins with the pool of the instruction's class, and where
 -- it has grown by what the instruction needs.
-use Rattle.std.proofs.Common.{◌≡◌, ◌++◌, ℕ, zero, suc, List, [], ◌∷◌, slice_get, Option, Some, None, option_and_then, refl, sym, ap, subst, ◌∙◌}
+use Rattle.std.proofs.Common.{◌≡◌, ◌++◌, ℕ, zero, suc, List, [], ◌∷◌, slice_get, Option, Some, None, option_and_then, refl, ap, ◌∙◌}
 use Rattle.std.proofs.lemmas.Option.{none-some, same_Some}
 use Rattle.class_model.specs.Pool.{Constants, constant_at}
 use Rattle.class_model.specs.PoolChecks.{class_at, class_name_of, descriptor_at, name_and_type_of, name_at, text_of, utf8_at}
@@ -13,7 +13,7 @@ use Rattle.making_code.specs.Laws.GrownPools.{Begins}
 use Rattle.member_link.specs.References.{Reference, reference_at}
 use Rattle.member_link.specs.Signatures.{reference_of}
 use Rattle.written_types.proofs.KeptRows.{loaded}
-use Rattle.written_types.proofs.MeantConstants.{Means, NamesMember, NamesString}
+use Rattle.making_code.specs.Laws.MeantConstants.{Means}
 
 -- the descriptor of an invokedynamic
 abbrev pub dynamic_desc : Constants → Option Const → Option (List ℕ)

@@ -1,5 +1,5 @@
 -- What a row asks of operands holds of what agrees with them as they are written.
-use Rattle.std.proofs.Common.{◌≡◌, ◌⊎◌, ◌≢◌, ℕ, zero, suc, Bool, true, false, List, [], ◌∷◌, length, map, IsTrue, refl, sym, ap, subst, ◌∙◌, inl, inr}
+use Rattle.std.proofs.Common.{◌≡◌, List, [], ◌∷◌, map, refl, sym, ap, subst, ◌∙◌, inl, inr}
 use Rattle.std.specs.List.{AllByRecursion}
 use Rattle.std.proofs.lemmas.Bool.{false≢true}
 use Rattle.class_model.specs.Frames.{is_wide}
@@ -11,10 +11,11 @@ use Rattle.class_tree.specs.Headers.{Headers, Name}
 use Rattle.class_tree.specs.Subtype.{IsArray, IsReferenceComponent}
 use Rattle.member_link.specs.Assignability.{IsAssignable, from_null, of_names, to_same, to_top}
 use Rattle.member_link.specs.RowScope.{RowScope}
-use Rattle.member_link.specs.Rows.Operands.{AllFit, Fits, IsAmong, IsInitialised, IsNullOr, IsOfKind, IsReference, IsUninitialised, Need, array_among, array_of_references, assignable_or_this, assignable_to, double, initialised, is_single, nothing, of_kind, single, some_array, uninitialised}
+use Rattle.member_link.specs.Rows.Operands.{AllFit, Fits, IsAmong, IsInitialised, IsNullOr, IsOfKind, IsUninitialised, Need, array_among, array_of_references, assignable_or_this, assignable_to, double, initialised, is_single, nothing, of_kind, single, some_array, uninitialised}
 use Rattle.written_types.proofs.AgreeLists.{AgreeAt}
 use Rattle.written_types.proofs.WrittenTypes.{IsSteady, by_item, item_assignable, item_top, steady_item}
-use Rattle.written_types.specs.Writing.{AgreeIn, Writing}
+use Rattle.written_types.specs.Inner.CarriedFrames.{AgreeIn}
+use Rattle.written_types.specs.Writing.{Writing}
 
 -- what is asked names no uninitialised object
 abbrev pub IsSteadyNeed : Need → Type 0

@@ -1,32 +1,26 @@
 -- News that are written as they are stand at items of their own, which are news of the same classes.
-use Rattle.std.proofs.Common.{◌≡◌, ◌≢◌, ◌⊎◌, ◌+◌, ◌<◌, ◌≤◌, ◌++◌, ℕ, zero, suc, Bool, true, false, List, [], ◌∷◌, drop, length, map, slice_get, take, Option, Some, None, option_and_then, IsTrue, is_some, refl, sym, ap, subst, ◌∙◌, inl, inr, arith}
-use Rattle.std.specs.Prelude.{◌==◌}
+use Rattle.std.proofs.Common.{◌≡◌, ◌⊎◌, ◌+◌, ◌<◌, ◌≤◌, ◌++◌, ℕ, zero, suc, false, List, [], ◌∷◌, drop, length, slice_get, take, Option, Some, None, refl, sym, ap, subst, ◌∙◌, inl, inr, arith}
 use Rattle.std.specs.List.{AllByRecursion, flat_map}
-use Rattle.std.specs.Option.{option_flatten}
-use Rattle.std.proofs.lemmas.Bool.{eq-eqb, false≢true}
+use Rattle.std.proofs.lemmas.Bool.{eq-eqb}
 use Rattle.std.proofs.lemmas.List.{append_assoc, length-append}
 use Rattle.std.proofs.lemmas.Option.{none-some, same_Some}
 use Rattle.class_model.specs.declared.instr.Instr.TheVariants.{New}
-use Rattle.class_tree.specs.Headers.{Name}
 use Rattle.flow_code.specs.FlatCode.{FlatCode, point_at}
 use Rattle.flow_code.specs.ReadTypes.{class_of_site}
-use Rattle.flow_code.specs.declared.point.FlatInstr.{FlatInstr}
 use Rattle.flow_code.specs.declared.point.FlatInstr.TheVariants.{Of}
 use Rattle.flow_code.specs.declared.point.Point.{Point}
-use Rattle.flow_code.specs.declared.point.Site.{Site}
 use Rattle.making_code.specs.Items.{WItem, carried}
-use Rattle.plan_flow.specs.Laws.WrittenBlocks.{IsFirstOf, block_finished, blocks_left, before_blocks, behind_own, first_item, first_of, holds_of_both, next_starts, own_number, own_of, split_at, split_own, starts_at, take_left}
+use Rattle.plan_flow.specs.Laws.WrittenBlocks.{IsFirstOf, block_finished, blocks_left, before_blocks, behind_own, first_item, first_of, holds_of_both, own_number, own_of, split_own, starts_at, take_left}
 use Rattle.plan_flow.specs.PlanScope.{PlanScope, site_at}
 use Rattle.plan_flow.specs.Written.Blocks.{Block, BlockOf, before_point, blocks_of, handler_pad, instruction_block, jump_pad, make_block, of_point, on_next_edge}
-use Rattle.plan_flow.specs.Written.Finish.{Finished, begins_point, end_items, end_of, finish, finished_items}
+use Rattle.plan_flow.specs.Written.Finish.{Finished, begins_point, end_items, end_of, finish}
 use Rattle.plan_flow.specs.Written.FramedCode.{is_of_point}
 use Rattle.plan_flow.specs.Written.Routes.{Route, Routes}
-use Rattle.plan_flow.specs.Written.Templates.{as_it_is, catches_at}
-use Rattle.plan_flow.specs.Written.WrittenCode.{Form, block_items, in_form, short, start_from, start_of, wide, widened, written_items}
-use Rattle.written_types.proofs.ChangedTypes.{IsOwnNew, new_item}
+use Rattle.plan_flow.specs.Written.Templates.{catches_at}
+use Rattle.plan_flow.specs.Written.WrittenCode.{Form, block_items, in_form, short, wide, widened, written_items}
+use Rattle.written_types.proofs.ChangedTypes.{new_item}
 use Rattle.written_types.proofs.Given.{Given}
-use Rattle.written_types.proofs.MemberRows.{IsSiteAt, site_of_point}
-use Rattle.written_types.specs.FitsTypes.{is_reached}
+use Rattle.written_types.proofs.MemberRows.{site_of_point}
 use Rattle.written_types.specs.Writing.{Writing}
 
 -- ---- blocks before one

@@ -1,14 +1,11 @@
 -- A new of a candidate site carries each frame to the next point.
-use Rattle.std.proofs.Common.{◌≡◌, ◌≢◌, ◌⊎◌, ◌+◌, ◌-◌, ◌==◌, ◌≤◌, ℕ, suc, Bool, true, false, List, [], ◌∷◌, ◌++◌, drop, length, map, replicate, slice_get, take, Option, Some, None, refl, sym, ap, subst, ◌∙◌, inl, inr, arith}
-use Rattle.std.specs.Prelude.{if◌then◌else◌}
+use Rattle.std.proofs.Common.{◌≡◌, ◌≢◌, ◌+◌, ◌-◌, ◌==◌, ℕ, suc, Bool, true, false, List, [], ◌∷◌, ◌++◌, drop, length, map, replicate, take, Option, Some, refl, sym, ap, subst, ◌∙◌, arith}
 use Rattle.std.specs.List.{AllByRecursion, flat_map}
-use Rattle.std.proofs.lemmas.Bool.{eq-eqb, eqb-true, false≢true}
+use Rattle.std.proofs.lemmas.Bool.{eq-eqb, eqb-true}
 use Rattle.std.proofs.lemmas.List.{append-nil, append_assoc}
-use Rattle.class_model.specs.Code.{verification_type}
 use Rattle.class_model.specs.Descriptors.{kind_of, parameter_units}
 use Rattle.class_model.specs.declared.descriptor.FieldType.{FieldType}
 use Rattle.class_model.specs.declared.descriptor.FieldType.TheVariants as field_types
-use Rattle.class_model.specs.declared.frame.Frame.{Frame}
 use Rattle.class_model.specs.declared.frame.VType.{VType}
 use Rattle.class_model.specs.declared.frame.VType.TheVariants as types
 use Rattle.class_model.specs.declared.instr.Instr.TheVariants.{New}
@@ -18,20 +15,20 @@ use Rattle.flow_code.specs.declared.point.FlatInstr.{FlatInstr}
 use Rattle.flow_code.specs.declared.point.FlatInstr.TheVariants.{Of}
 use Rattle.flow_code.specs.declared.point.Point.{Point}
 use Rattle.flow_code.specs.declared.point.Site.{Site}
-use Rattle.making_code.specs.Items.{WInstr, WItem, item}
+use Rattle.making_code.specs.Items.{item}
 use Rattle.making_code.specs.StateFrames.{field_types as types_of_fields}
 use Rattle.making_code.specs.Units.{fields_at}
 use Rattle.member_link.specs.Assignability.{from_null}
 use Rattle.member_link.specs.Bodies.{item_row}
 use Rattle.member_link.specs.Rows.FrameAssignability.{AreAssignable}
 use Rattle.member_link.specs.Rows.LocalRows.{type_of_imm}
-use Rattle.member_link.specs.Rows.Operands.{topmost, under}
+use Rattle.member_link.specs.Rows.Operands.{under}
 use Rattle.member_link.specs.Rows.Readings.{row_by}
 use Rattle.member_link.specs.Rows.Row.{Row, stack_behind}
 use Rattle.plan_flow.specs.PlanRows.{PlanRow, from_new}
 use Rattle.plan_flow.specs.PlanScope.{PlanScope, site_at}
 use Rattle.plan_flow.specs.PlanSlots.{changed, is_open, slots_from}
-use Rattle.plan_flow.specs.PlanTable.{falls_on, held_from, held_locals, new_row}
+use Rattle.plan_flow.specs.PlanTable.{falls_on, held_from, new_row}
 use Rattle.plan_flow.specs.Written.Routes.{Route, RouteEdge, edge_by}
 use Rattle.plan_flow.specs.Written.Templates.{cleared_fields, items_at}
 use Rattle.plan_flow.specs.declared.edge.EdgeKind.TheVariants as edges
@@ -39,14 +36,14 @@ use Rattle.same_runs.specs.Flats.{flat_item, instr_scope}
 use Rattle.same_runs.specs.TypedFlats.{reading_of_new}
 use Rattle.virtual_state.specs.States.{State, is_present}
 use Rattle.virtual_state.specs.declared.slot.Slot.{Slot}
-use Rattle.virtual_state.specs.declared.slot.Slot.TheVariants.{Plain, Virt, Unusable}
+use Rattle.virtual_state.specs.declared.slot.Slot.TheVariants.{Virt}
 use Rattle.virtual_state.specs.declared.slot.VObject.{VObject}
 use Rattle.written_types.proofs.BlockEnds.{topmost_none}
 use Rattle.written_types.proofs.EdgeFrames.{tops_assignable}
 use Rattle.written_types.proofs.FieldFits.{NotThis, fits_by_units}
 use Rattle.written_types.proofs.FieldPlaces.{IsValue, declared_value, value_of}
 use Rattle.written_types.proofs.FieldStores.{UnitParts, unit_parts}
-use Rattle.written_types.proofs.FieldUnits.{fields_long, narrow_both, units_for}
+use Rattle.written_types.proofs.FieldUnits.{narrow_both, units_for}
 use Rattle.written_types.proofs.FieldWrites.{both_agree, own_narrow, own_types, own_types_long}
 use Rattle.written_types.proofs.Given.{EdgesFit, EndsCarry, FitsState, Given, entries_in}
 use Rattle.written_types.proofs.ItemSteps.{frame_of}
@@ -57,9 +54,10 @@ use Rattle.written_types.proofs.Placing.{IsMade}
 use Rattle.written_types.proofs.SlotFrames.{units_behind}
 use Rattle.written_types.proofs.TemplateEnds.{fitting_template}
 use Rattle.written_types.proofs.TemplateRows.{plan_for, row_for}
-use Rattle.written_types.proofs.Templates.{Before, By, Taken, along, entries, moved_slots, number, objects_behind, own_stays, plan_row, read, row, stack_along, state, taken}
+use Rattle.written_types.proofs.Templates.{Before, By, Taken, entries, moved_slots, number, objects_behind, own_stays, plan_row, read, row, stack_along, state, taken}
 use Rattle.written_types.proofs.UnitTemplates.{assigned_both, site_units_long}
-use Rattle.written_types.specs.Writing.{AgreeIn, BlockCarries, Carries, Writing, scope_in}
+use Rattle.written_types.specs.Inner.CarriedFrames.{AgreeIn, BlockCarries}
+use Rattle.written_types.specs.Writing.{Writing, scope_in}
 
 made_cleared : (site place : ℕ) (fields : List FieldType) → AllByRecursion IsMade (cleared_fields site place fields)
 made_cleared site place [] = tt

@@ -1,12 +1,11 @@
 -- A new object comes to lie on top of the stack alone.
-use Rattle.std.proofs.Common.{◌≡◌, ◌+◌, ◌-◌, ◌==◌, ℕ, zero, suc, Bool, true, false, List, [], ◌∷◌, ◌++◌, length, map, Option, Some, None, refl, if◌then◌else◌}
+use Rattle.std.proofs.Common.{◌≡◌, ◌+◌, ◌-◌, ◌==◌, ℕ, zero, suc, Bool, true, false, List, [], ◌∷◌, ◌++◌, length, Option, Some, None, refl}
 use Rattle.class_model.specs.Descriptors.{parameters_of}
 use Rattle.class_model.specs.Pool.{Constants, constant_at}
 use Rattle.class_model.specs.PoolChecks.{class_at, descriptor_at}
 use Rattle.class_model.specs.declared.descriptor.FieldType.{FieldType}
 use Rattle.class_model.specs.declared.descriptor.Kind.{Kind}
 use Rattle.class_model.specs.declared.frame.Frame.{Frame}
-use Rattle.class_model.specs.declared.instr.Instr.{Instr}
 use Rattle.class_model.specs.declared.instr.Instr.TheVariants.{ArrayLoad, ArrayStore, Cast, Const, Divide, Dynamic, Enter, FloatAsk, GetField, GetStatic, Goto, If, If2, IfNull, IfSame, Iinc, InstanceOf, Invoke, Ldc, Ldc2, Leave, Length, Load, Lookup, New, NewArray, NewMulti, NewRefArray, Nop, Pure, PutField, PutStatic, Return, Shuffle, Store, Table, Throw}
 use Rattle.class_model.specs.declared.opcodes.TheConstants.{IF_ACMPEQ, IFNULL}
 use Rattle.class_model.specs.declared.pool.Const.{Const as PoolConst}

@@ -1,33 +1,25 @@
 -- The items at which uninitialised objects are named stand outside of each block that is not that of their new.
-use Rattle.std.proofs.Common.{◌≡◌, ◌≢◌, ◌⊎◌, ◌+◌, ◌==◌, ◌<◌, ◌≤◌, ℕ, zero, suc, Bool, true, false, List, [], ◌∷◌, ◌++◌, length, map, slice_get, Option, Some, None, option_map, refl, sym, ap, subst, ◌∙◌, inl, inr, arith}
+use Rattle.std.proofs.Common.{◌≡◌, ◌≢◌, ◌⊎◌, ◌+◌, ◌==◌, ◌<◌, ◌≤◌, ℕ, Bool, true, false, List, [], ◌∷◌, ◌++◌, length, Option, Some, None, refl, sym, ap, ◌∙◌, inl, inr, arith}
 use Rattle.std.specs.List.{AllByRecursion, flat_map}
-use Rattle.std.proofs.lemmas.Bool.{eq-eqb, eqb-true, false≢true}
+use Rattle.std.proofs.lemmas.Bool.{eqb-true, false≢true}
 use Rattle.std.proofs.lemmas.List.{append_assoc, length-append}
-use Rattle.std.proofs.lemmas.Option.{none-some, same_Some, slice_get-map}
-use Rattle.class_model.specs.Code.{verification_type}
-use Rattle.class_model.specs.declared.descriptor.FieldType.{FieldType}
+use Rattle.std.proofs.lemmas.Option.{none-some, same_Some}
 use Rattle.class_model.specs.declared.frame.VType.{VType}
 use Rattle.class_model.specs.declared.frame.VType.TheVariants as types
 use Rattle.class_model.specs.declared.instr.Instr.TheVariants.{New}
-use Rattle.flow_code.specs.FlatCode.{FlatCode, point_at}
+use Rattle.flow_code.specs.FlatCode.{point_at}
 use Rattle.flow_code.specs.ReadTypes.{class_of_site, read_type}
-use Rattle.flow_code.specs.declared.point.FlatInstr.{FlatInstr}
 use Rattle.flow_code.specs.declared.point.FlatInstr.TheVariants.{Of}
 use Rattle.flow_code.specs.declared.point.Point.{Point}
 use Rattle.flow_code.specs.declared.point.Site.{Site}
 use Rattle.making_code.specs.Items.{WItem}
-use Rattle.making_code.specs.StateFrames.{type_of_slot}
 use Rattle.member_link.specs.Machine.Programs.{number_of_first}
-use Rattle.plan_flow.specs.PlanScope.{site_at}
 use Rattle.plan_flow.specs.Written.Blocks.{Block, BlockOf, before_point, handler_pad, instruction_block, jump_pad, of_point, on_next_edge}
 use Rattle.plan_flow.specs.Written.Finish.{Finished, end_items, is_empty}
 use Rattle.plan_flow.specs.Written.FramedCode.{is_of_point, type_by_item}
 use Rattle.plan_flow.specs.Written.Routes.{Route}
-use Rattle.plan_flow.specs.Written.Templates.{as_it_is, items_at}
+use Rattle.plan_flow.specs.Written.Templates.{as_it_is}
 use Rattle.plan_flow.specs.Written.WrittenCode.{Form, block_items, short, start_from, start_of, wide, widened, written_items}
-use Rattle.virtual_state.specs.States.{State}
-use Rattle.virtual_state.specs.declared.slot.Slot.{Slot}
-use Rattle.virtual_state.specs.declared.slot.Slot.TheVariants.{Plain, Virt, Unusable}
 use Rattle.written_types.proofs.BlockKinds.{BlockKind, IsPad, kind_of_block, makes_before_point, makes_on_next, of_instruction, of_pad}
 use Rattle.written_types.proofs.EdgeTargets.{edges_fit}
 use Rattle.written_types.proofs.Given.{Given, IsOfNoNew}

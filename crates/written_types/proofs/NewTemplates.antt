@@ -1,15 +1,11 @@
 -- A new of a candidate site: the units of its fields are set to zero and null.
-use Rattle.std.proofs.Common.{◌≡◌, ◌≢◌, ◌⊎◌, ◌+◌, ◌-◌, ◌==◌, ◌≤◌, ℕ, zero, suc, Bool, true, false, List, [], ◌∷◌, ◌++◌, drop, length, map, pos, replicate, slice_get, take, Option, Some, None, refl, sym, ap, subst, ◌∙◌, inl, inr, arith}
-use Rattle.std.specs.Prelude.{if◌then◌else◌}
+use Rattle.std.proofs.Common.{◌≡◌, ◌≢◌, ◌+◌, ℕ, zero, suc, List, [], ◌∷◌, ◌++◌, length, map, pos, replicate, slice_get, take, Option, Some, refl, sym, ap, subst, ◌∙◌, arith}
 use Rattle.std.specs.List.{AllByRecursion, flat_map}
-use Rattle.std.proofs.lemmas.Bool.{eq-eqb, eqb-true, false≢true}
-use Rattle.std.proofs.lemmas.List.{append-nil, append_assoc, length-append, length-map, length-replicate, map-append}
+use Rattle.std.proofs.lemmas.List.{append-nil, append_assoc, length-append, length-replicate}
 use Rattle.std.proofs.lemmas.List.Sums.{sum_by-cons}
-use Rattle.class_model.specs.Code.{verification_type}
 use Rattle.class_model.specs.Descriptors.{kind_of, parameter_units, units_of}
 use Rattle.class_model.specs.Frames.{units}
 use Rattle.class_model.specs.declared.descriptor.FieldType.{FieldType}
-use Rattle.class_model.specs.declared.descriptor.FieldType.TheVariants as field_types
 use Rattle.class_model.specs.declared.descriptor.Kind.{Kind}
 use Rattle.class_model.specs.declared.descriptor.Kind.TheVariants as kinds
 use Rattle.class_model.specs.declared.frame.Frame.{Frame}
@@ -23,25 +19,24 @@ use Rattle.class_tree.specs.Headers.{Headers}
 use Rattle.flow_code.specs.FlatCode.{FlatCode}
 use Rattle.flow_code.specs.WrittenUnits.{field_units, greatest_depth}
 use Rattle.flow_code.specs.declared.point.Site.{Site}
-use Rattle.making_code.specs.Items.{WInstr, WItem, item, plain, store}
+use Rattle.making_code.specs.Items.{WItem, item, plain, store}
 use Rattle.making_code.specs.StateFrames.{field_types as types_of_fields, site_types_from}
 use Rattle.making_code.specs.Units.{field_unit, unit_number}
-use Rattle.member_link.specs.Assignability.{from_null}
 use Rattle.member_link.specs.Rows.FrameAssignability.{AreAssignable}
 use Rattle.member_link.specs.Rows.LocalRows.{stored, type_of_imm}
 use Rattle.plan_flow.specs.Written.Templates.{cleared_fields, zero_of}
-use Rattle.virtual_state.specs.States.{State, is_present}
+use Rattle.virtual_state.specs.States.{is_present}
 use Rattle.virtual_state.specs.declared.slot.VObject.{VObject}
-use Rattle.written_types.proofs.AgreeingFrames.{assignable_to_itself}
 use Rattle.written_types.proofs.FieldFits.{NotThis, assigned_long}
-use Rattle.written_types.proofs.FieldPlaces.{FieldPlace, IsValue, declared_value, field_unit_is, value_of}
-use Rattle.written_types.proofs.FieldStores.{BothParts, StoredParts, UnitParts, parts_room, stored_parts}
+use Rattle.written_types.proofs.FieldPlaces.{FieldPlace, IsValue, field_unit_is}
+use Rattle.written_types.proofs.FieldStores.{StoredParts, UnitParts, parts_room, stored_parts}
 use Rattle.written_types.proofs.FieldUnits.{EndsNarrow, bare, fields_long, fields_narrow, narrow_both, site_narrow_of, units_for, units_long}
 use Rattle.written_types.proofs.ItemSteps.{const_carries, frame_of, store_carries}
 use Rattle.written_types.proofs.SlotFrames.{take_front, units_behind}
 use Rattle.written_types.proofs.StoredUnits.{Suits, stored_all}
 use Rattle.written_types.proofs.UnitTemplates.{assigned_both, site_units_long}
-use Rattle.written_types.specs.Writing.{Carries, Writing, carries_none, scope_in}
+use Rattle.written_types.specs.Inner.CarriedFrames.{Carries, carries_none}
+use Rattle.written_types.specs.Writing.{Writing, scope_in}
 
 -- ---- field units of two states that differ in one site
 

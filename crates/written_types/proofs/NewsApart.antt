@@ -1,27 +1,19 @@
 -- News that are written as they are: they stand at items apart, which make objects of the same classes.
-use Rattle.std.proofs.Common.{◌≡◌, ◌≢◌, ◌⊎◌, ◌+◌, ◌<◌, ◌≤◌, ◌++◌, ℕ, zero, suc, Bool, true, false, List, [], ◌∷◌, drop, length, map, slice_get, take, Option, Some, None, option_and_then, IsTrue, is_some, refl, sym, ap, subst, ◌∙◌, inl, inr, arith}
-use Rattle.std.specs.Prelude.{◌==◌}
-use Rattle.std.specs.List.{AllByRecursion}
+use Rattle.std.proofs.Common.{◌≡◌, ◌⊎◌, ◌+◌, ◌<◌, ◌++◌, ℕ, zero, suc, List, [], ◌∷◌, drop, length, slice_get, take, Option, Some, None, IsTrue, is_some, refl, sym, ap, subst, ◌∙◌, inl, inr, arith}
 use Rattle.std.specs.Option.{option_flatten}
 use Rattle.std.proofs.lemmas.Bool.{eq-eqb, false≢true, true≢false}
-use Rattle.std.proofs.lemmas.List.{append_assoc}
-use Rattle.std.proofs.lemmas.Option.{none-some, same_Some}
-use Rattle.class_model.specs.Pool.{Constants}
+use Rattle.std.proofs.lemmas.Option.{same_Some}
 use Rattle.class_model.specs.PoolChecks.{class_at}
 use Rattle.class_model.specs.declared.instr.Instr.{Instr}
 use Rattle.class_model.specs.declared.instr.Instr.TheVariants.{New}
 use Rattle.class_tree.specs.Headers.{Name}
 use Rattle.flow_code.specs.FlatCode.{point_at}
-use Rattle.flow_code.specs.ReadTypes.{class_of_site}
-use Rattle.flow_code.specs.declared.point.FlatInstr.{FlatInstr}
 use Rattle.flow_code.specs.declared.point.FlatInstr.TheVariants.{Of}
 use Rattle.flow_code.specs.declared.point.Point.{Point}
-use Rattle.making_code.specs.IndexedItems.{IndexedItem}
 use Rattle.making_code.specs.Items.{WItem, carried}
 use Rattle.member_link.specs.Machine.Replaced.{map_numbered}
 use Rattle.plan_flow.specs.Laws.WrittenBlocks.{first_item, split_at}
-use Rattle.plan_flow.specs.PlanScope.{PlanScope, pool_of}
-use Rattle.plan_flow.specs.Written.Blocks.{Block, BlockOf, of_point}
+use Rattle.plan_flow.specs.Written.Blocks.{Block, of_point}
 use Rattle.plan_flow.specs.Written.Finish.{Finished, end_items}
 use Rattle.plan_flow.specs.Written.FramedCode.{new_class_in}
 use Rattle.plan_flow.specs.Written.Routes.{Route, Routes}

@@ -1,5 +1,5 @@
 -- The frame of no block has an uninitialised this, and that of the code fits the first one.
-use Rattle.std.proofs.Common.{◌≡◌, ◌≢◌, ◌+◌, ◌-◌, ◌≤◌, ℕ, zero, suc, Bool, true, false, List, [], ◌∷◌, ◌++◌, drop, length, map, replicate, Option, Some, None, slice_get, refl, sym, ap, subst, ◌∙◌, if◌then◌else◌, arith}
+use Rattle.std.proofs.Common.{◌≡◌, ◌≢◌, ℕ, zero, suc, Bool, true, false, List, [], ◌∷◌, ◌++◌, length, map, replicate, Option, refl, sym, ap, subst}
 use Rattle.std.specs.List.{AllByRecursion, flat_map}
 use Rattle.class_model.specs.Code.{verification_type}
 use Rattle.class_model.specs.Descriptors.{parameter_units}
@@ -9,14 +9,13 @@ use Rattle.class_model.specs.declared.descriptor.FieldType.TheVariants as field_
 use Rattle.class_model.specs.declared.frame.Frame.{Frame}
 use Rattle.class_model.specs.declared.frame.VType.{VType}
 use Rattle.class_model.specs.declared.frame.VType.TheVariants as types
-use Rattle.flow_code.specs.FlatCode.{FlatCode, point_at}
 use Rattle.flow_code.specs.ReadTypes.{read_type}
 use Rattle.flow_code.specs.WrittenUnits.{greatest_depth}
 use Rattle.flow_code.specs.declared.point.Point.{Point}
 use Rattle.flow_code.specs.declared.point.Site.{Site}
-use Rattle.making_code.specs.StateFrames.{field_types as unit_types, frame_in, local_types_from, site_types_from, state_frame, type_of_slot}
+use Rattle.making_code.specs.StateFrames.{field_types as unit_types, frame_in, local_types_from, site_types_from, type_of_slot}
 use Rattle.plan_flow.specs.PlanScope.{PlanScope}
-use Rattle.plan_flow.specs.Written.Blocks.{Block, state_written}
+use Rattle.plan_flow.specs.Written.Blocks.{Block}
 use Rattle.plan_flow.specs.Written.Finish.{Finished}
 use Rattle.plan_flow.specs.Written.FramedCode.{type_by_item}
 use Rattle.plan_flow.specs.Written.WrittenCode.{Form}
@@ -28,7 +27,8 @@ use Rattle.written_types.proofs.EdgeTargets.{edges_fit}
 use Rattle.written_types.proofs.Given.{Given, frame_at_state}
 use Rattle.written_types.proofs.Standing.{all_joined}
 use Rattle.written_types.specs.FitsTypes.{FitsTypes, HasItsNew, is_reached}
-use Rattle.written_types.specs.Writing.{Writing, frame_in as frame_of_block}
+use Rattle.written_types.specs.Inner.CarriedFrames.{frame_in as frame_of_block}
+use Rattle.written_types.specs.Writing.{Writing}
 
 -- ---- types that are none
 

@@ -40,7 +40,8 @@ use Rattle.written_types.proofs.TemplateRows.{nothing_template, plan_for, row_fo
 use Rattle.written_types.proofs.Templates.{Before, entries, locals_stay, number, plan_row, read, state}
 use Rattle.written_types.proofs.WrittenPool.{PoolLaws}
 use Rattle.written_types.specs.FitsTypes.{is_reached}
-use Rattle.written_types.specs.Writing.{Agrees, BlockCarries, LeadsIn, Writing, frame_in, point_in}
+use Rattle.written_types.specs.Inner.CarriedFrames.{Agrees, BlockCarries, LeadsIn}
+use Rattle.written_types.specs.Writing.{Writing, point_in}
 
 module _ (w : Writing) (given : Given w) (laws : PoolLaws) (b : Before w given) (fit : EdgesFit w given) (stand : TargetsStand w given)
     (ends : EndsCarry w given) (local : ℕ) (is : b.point.instr ≡ NullTest local) where

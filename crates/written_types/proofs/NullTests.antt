@@ -1,10 +1,8 @@
 -- A test of a plain local unit for null: it is loaded, and null is thrown where it is null.
-use Rattle.std.proofs.Common.{◌≡◌, ◌≢◌, ◌⊎◌, ◌+◌, ◌-◌, ◌≤◌, ◌<◌, ℕ, zero, suc, Bool, true, false, List, [], ◌∷◌, ◌++◌, drop, length, map, slice_get, take, Option, Some, None, option_map, refl, sym, ap, subst, ◌∙◌, inl, inr, arith}
+use Rattle.std.proofs.Common.{◌≡◌, ◌+◌, ◌-◌, ◌<◌, ℕ, zero, suc, List, [], ◌∷◌, ◌++◌, drop, length, map, slice_get, take, Option, Some, None, option_map, refl, sym, ap, subst, ◌∙◌, arith}
 use Rattle.std.specs.List.{AllByRecursion}
-use Rattle.std.proofs.lemmas.Bool.{false≢true}
 use Rattle.std.proofs.lemmas.List.{append-nil, append_assoc, length-append, length-map}
 use Rattle.std.proofs.lemmas.Option.{none-some, same_Some, slice_get-map}
-use Rattle.class_model.specs.Frames.{is_top}
 use Rattle.class_model.specs.declared.descriptor.Kind.TheVariants as kinds
 use Rattle.class_model.specs.declared.frame.Frame.{Frame}
 use Rattle.class_model.specs.declared.frame.VType.{VType}
@@ -21,21 +19,21 @@ use Rattle.flow_code.specs.declared.point.FlatInstr.TheVariants.{NullTest}
 use Rattle.making_code.specs.Items.{WItem, ahead, item, load, plain}
 use Rattle.making_code.specs.Units.{own}
 use Rattle.member_link.specs.Assignability.{from_null}
-use Rattle.member_link.specs.Bodies.{BodyCatch, catch_frame, frame_behind}
-use Rattle.member_link.specs.Rows.Operands.{AllFit, IsOfKind, IsReference, assignable_to, of_kind, topmost, under}
+use Rattle.member_link.specs.Bodies.{BodyCatch, catch_frame}
+use Rattle.member_link.specs.Rows.Operands.{AllFit, IsReference, assignable_to, of_kind, under}
 use Rattle.member_link.specs.Rows.Row.{stack_behind}
 use Rattle.plan_flow.specs.PlanSlots.{changed, held, is_open, readable}
 use Rattle.plan_flow.specs.PlanTable.{falls_on}
-use Rattle.plan_flow.specs.Written.Blocks.{Block, blocks_of, leaves_to}
-use Rattle.plan_flow.specs.Written.Finish.{End, Finished, end_items, end_of, no_end}
+use Rattle.plan_flow.specs.Written.Blocks.{Block, blocks_of}
+use Rattle.plan_flow.specs.Written.Finish.{Finished, end_items, end_of, no_end}
 use Rattle.plan_flow.specs.Written.FramedCode.{frame_by_item, type_by_item}
 use Rattle.plan_flow.specs.Written.Routes.{Route, RouteEdge, edge_by}
-use Rattle.plan_flow.specs.Written.Templates.{catches_at, items_at, null_test}
+use Rattle.plan_flow.specs.Written.Templates.{catches_at}
 use Rattle.plan_flow.specs.Written.WrittenCode.{Form, block_items, in_form, written_items}
 use Rattle.plan_flow.specs.declared.edge.EdgeKind.TheVariants as edges
 use Rattle.virtual_state.specs.States.{State, is_present}
 use Rattle.virtual_state.specs.declared.slot.Slot.{Slot}
-use Rattle.virtual_state.specs.declared.slot.Slot.TheVariants.{Plain, Virt, Unusable}
+use Rattle.virtual_state.specs.declared.slot.Slot.TheVariants.{Plain}
 use Rattle.written_types.proofs.BlockEnds.{topmost_none}
 use Rattle.written_types.proofs.DecidedJumps.{reference_single}
 use Rattle.written_types.proofs.EmptyBlocks.{ends_so}
@@ -43,13 +41,14 @@ use Rattle.written_types.proofs.FieldWrites.{own_types}
 use Rattle.written_types.proofs.Given.{ComesNext, EdgesFit, EndsCarry, FitsState, Given, entries_in, locals_in}
 use Rattle.written_types.proofs.ItemPlaces.{written_apart}
 use Rattle.written_types.proofs.ItemSteps.{const_carries, frame_of, load_carries}
-use Rattle.written_types.proofs.Placing.{IsMade, fits_before, items_and_end, same_form}
+use Rattle.written_types.proofs.Placing.{fits_before, items_and_end, same_form}
 use Rattle.written_types.proofs.SlotFrames.{agree_at, as_read, by_top, read_slot, topmost_is, under_is, units_behind}
 use Rattle.written_types.proofs.SlotTypes.{item_before}
 use Rattle.written_types.proofs.TemplateEnds.{along_fits}
 use Rattle.written_types.proofs.TemplateRows.{holds_for, plan_for, row_for}
-use Rattle.written_types.proofs.Templates.{Before, By, Taken, agrees_behind, along, entries, locals_agree, locals_stay, next_there, number, places, plan_row, read, row, state, taken}
-use Rattle.written_types.specs.Writing.{AgreeIn, Agrees, BlockCarries, Carries, IsPlaced, ItemHolds, LeadsIn, Writing, carries_away, carries_on, point_in, scope_in}
+use Rattle.written_types.proofs.Templates.{Before, By, Taken, agrees_behind, along, entries, locals_agree, locals_stay, next_there, number, places, read, state, taken}
+use Rattle.written_types.specs.Inner.CarriedFrames.{AgreeIn, Agrees, BlockCarries, Carries, IsPlaced, ItemHolds, LeadsIn, carries_away, carries_on}
+use Rattle.written_types.specs.Writing.{Writing, point_in, scope_in}
 
 -- ---- lists
 

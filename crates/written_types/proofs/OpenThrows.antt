@@ -1,5 +1,5 @@
 -- Which instructions are written as they are: those with a jump edge that are not decided, and those whose handlers may be reached.
-use Rattle.std.proofs.Common.{◌≡◌, ◌≢◌, ◌⊎◌, ◌+◌, ◌==◌, ◌&&◌, ◌||◌, ℕ, zero, suc, Bool, true, false, List, [], ◌∷◌, ◌++◌, length, slice_get, Option, Some, None, refl, sym, ap, subst, ◌∙◌, inl, inr, if◌then◌else◌, arith}
+use Rattle.std.proofs.Common.{◌≡◌, ◌+◌, ◌==◌, ◌||◌, ℕ, zero, suc, Bool, true, false, List, [], ◌∷◌, ◌++◌, slice_get, Option, Some, None, refl, sym, ap, ◌∙◌, arith}
 use Rattle.std.specs.List.{AllByRecursion, filter}
 use Rattle.std.proofs.lemmas.Bool.{false≢true}
 use Rattle.std.proofs.lemmas.Option.{none-some, same_Some}
@@ -8,7 +8,7 @@ use Rattle.class_model.specs.PoolChecks.{class_at}
 use Rattle.class_model.specs.declared.descriptor.Kind.{Kind}
 use Rattle.class_model.specs.declared.frame.Frame.{Frame}
 use Rattle.class_model.specs.declared.instr.Instr.{Instr}
-use Rattle.class_model.specs.declared.instr.Instr.TheVariants.{ArrayLoad, ArrayStore, Cast, Const, Divide, Dynamic, Enter, FloatAsk, GetField, GetStatic, Goto, If, If2, IfNull, IfSame, Iinc, InstanceOf, Invoke, Ldc, Ldc2, Leave, Length, Load, Lookup, New, NewArray, NewMulti, NewRefArray, Nop, Pure, PutField, PutStatic, Return, Shuffle, Store, Table, Throw}
+use Rattle.class_model.specs.declared.instr.Instr.TheVariants.{ArrayLoad, ArrayStore, Cast, Divide, Dynamic, Enter, GetField, Goto, If, If2, IfNull, IfSame, Invoke, Leave, Length, Lookup, New, NewArray, NewMulti, NewRefArray, PutField, PutStatic, Return, Shuffle, Table, Throw}
 use Rattle.class_model.specs.declared.opcodes.TheConstants.{IFNULL, IF_ACMPEQ, INVOKESPECIAL}
 use Rattle.class_tree.specs.Headers.{Name}
 use Rattle.flow_code.specs.declared.handlers.FlatHandler.{FlatHandler}
@@ -20,19 +20,18 @@ use Rattle.member_link.specs.Machine.CallSteps.{is_object_init}
 use Rattle.member_link.specs.References.{Reference}
 use Rattle.member_link.specs.Rows.ShuffleRows.{Form, form_in, forms_of}
 use Rattle.plan_flow.specs.Must.{row_of_point}
-use Rattle.plan_flow.specs.PlanRows.{Guard, PlanRow, RowEdge, in_each_state, where_plain}
+use Rattle.plan_flow.specs.PlanRows.{Guard, PlanRow, RowEdge, where_plain}
 use Rattle.plan_flow.specs.PlanScope.{PlanScope, field_of, member_of, pool_of, site_at}
 use Rattle.plan_flow.specs.PlanSlots.{held, is_open, is_plain}
 use Rattle.plan_flow.specs.PlanTable.{call_row, cast_row, edges_of, falls_on, get_field_row, handler_edges, jump_edges, new_row, next_edges, null_row, operand, put_field_row, return_row, row_at, same_row, shuffle_row, targets_at, thrown_edges}
 use Rattle.plan_flow.specs.Written.Blocks.{is_decided, state_written}
 use Rattle.plan_flow.specs.Written.Routes.{Route}
-use Rattle.plan_flow.specs.Written.Templates.{get_template, init_template, is_virtual, nothing_of, null_template, put_template, same_template, template}
-use Rattle.plan_flow.specs.declared.edge.EdgeKind.{EdgeKind}
+use Rattle.plan_flow.specs.Written.Templates.{get_template, init_template, is_virtual, nothing_of, null_template, put_template, template}
 use Rattle.plan_flow.specs.declared.edge.EdgeKind.TheVariants as edges
 use Rattle.virtual_state.specs.States.{State}
 use Rattle.virtual_state.specs.declared.slot.Slot.{Slot}
 use Rattle.virtual_state.specs.declared.slot.Slot.TheVariants.{Plain, Virt, Unusable}
-use Rattle.written_types.proofs.Standing.{all_at, all_joined}
+use Rattle.written_types.proofs.Standing.{all_joined}
 
 -- ---- rows of edges
 

@@ -1,27 +1,26 @@
 -- The opposite of a conditional jump: it takes the same operands, and leads where its target says.
-use Rattle.std.proofs.Common.{◌≡◌, ℕ, Bool, true, false, List, [], ◌∷◌, length, map, Option, Some, None, if◌then◌else◌, refl, sym, ap, subst, ◌∙◌}
+use Rattle.std.proofs.Common.{◌≡◌, ℕ, Bool, true, false, List, [], ◌∷◌, length, Some, if◌then◌else◌, refl, sym, ap, subst, ◌∙◌}
 use Rattle.std.specs.Prelude.{◌==◌, ◌&&◌, nat_le}
-use Rattle.std.specs.List.{AllByRecursion}
 use Rattle.std.proofs.lemmas.Bool.{eqb-true, false≢true}
 use Rattle.std.proofs.lemmas.Option.{none-some, same_Some}
 use Rattle.class_model.specs.Instructions.{targets}
 use Rattle.class_model.specs.declared.descriptor.Kind.TheVariants as kinds
 use Rattle.class_model.specs.declared.frame.Frame.{Frame}
 use Rattle.class_model.specs.declared.instr.Instr.{Instr}
-use Rattle.class_model.specs.declared.instr.Instr.TheVariants.{Nop, Const, Ldc, Ldc2, Load, Store, Iinc, ArrayLoad, ArrayStore, Shuffle, Pure, Divide, FloatAsk, If, If2, IfSame, IfNull, Goto, Table, Lookup, Return, GetStatic, PutStatic, GetField, PutField, Invoke, Dynamic, New, NewArray, NewRefArray, NewMulti, Length, Throw, Cast, InstanceOf, Enter, Leave}
+use Rattle.class_model.specs.declared.instr.Instr.TheVariants.{If, If2, IfSame, IfNull}
 use Rattle.class_model.specs.declared.opcodes.TheConstants.{IFEQ, IFGE, IFGT, IFLE, IFLT, IFNE, IFNONNULL, IFNULL, IF_ACMPEQ, IF_ACMPNE, IF_ICMPEQ, IF_ICMPGE, IF_ICMPGT, IF_ICMPLE, IF_ICMPLT, IF_ICMPNE}
 use Rattle.class_model.specs.Pool.{Constants}
 use Rattle.making_code.specs.Opposites.{opposite, opposite_instr}
 use Rattle.member_link.specs.Bodies.{falls_through}
 use Rattle.member_link.specs.RowScope.{RowScope}
-use Rattle.member_link.specs.Rows.Operands.{AllFit, Need, of_kind, topmost}
-use Rattle.member_link.specs.Rows.Row.{Row, access_aside, either, plain}
+use Rattle.member_link.specs.Rows.Operands.{Need, of_kind}
+use Rattle.member_link.specs.Rows.Row.{access_aside, plain}
 use Rattle.member_link.specs.Rows.Table.{jump_row, row_of}
 use Rattle.plan_flow.specs.PlanScope.{PlanScope}
 use Rattle.plan_flow.specs.Written.WrittenCode.{jumping_to}
 use Rattle.plan_flow.specs.Written.WrittenConstants.{carried_instr, with_index}
 use Rattle.written_types.proofs.OperandRows.{Fit, no_operand}
-use Rattle.written_types.specs.Writing.{RowFits}
+use Rattle.written_types.specs.Inner.CarriedFrames.{RowFits}
 
 -- ---- opcodes of a family
 

@@ -1,8 +1,7 @@
 -- Rows give no uninitialised object but that of their own new.
-use Rattle.std.proofs.Common.{◌≡◌, ◌≢◌, ◌-◌, ◌+◌, ◌⊎◌, ℕ, zero, suc, Bool, true, false, List, [], ◌∷◌, ◌++◌, length, map, slice_get, Option, Some, None, if◌then◌else◌, refl, sym, ap, subst, ◌∙◌}
-use Rattle.std.specs.Prelude.{◌==◌, ◌&&◌, nat_le, slice_set, bytes_eq, option_and_then}
+use Rattle.std.proofs.Common.{◌≡◌, ◌≢◌, ◌-◌, ◌+◌, ℕ, zero, suc, Bool, true, false, List, [], ◌∷◌, ◌++◌, length, slice_get, Option, Some, None, if◌then◌else◌, refl, subst}
+use Rattle.std.specs.Prelude.{◌==◌, ◌&&◌, nat_le, slice_set, bytes_eq}
 use Rattle.std.specs.List.{AllByRecursion}
-use Rattle.std.proofs.lemmas.Option.{same_Some}
 use Rattle.class_model.specs.Code.{verification_type}
 use Rattle.class_model.specs.Frames.{is_wide, units}
 use Rattle.class_model.specs.Names.{init}
@@ -26,7 +25,7 @@ use Rattle.class_tree.specs.Headers.{Name}
 use Rattle.member_link.specs.References.{Reference}
 use Rattle.member_link.specs.RowScope.{RowScope}
 use Rattle.member_link.specs.Rows.ArithmeticRows.{Operation, divide_operations, float_operations, operation_in, operation_row, pure_operations, type_of_kind}
-use Rattle.member_link.specs.Rows.ArrayRows.{Elements, array_load_row, array_of, array_store_row, component_type, elements_from, elements_load_row, elements_of, elements_store_row, made_row, primitive_array}
+use Rattle.member_link.specs.Rows.ArrayRows.{Elements, array_of, component_type, elements_from, elements_load_row, elements_of, elements_store_row, made_row, primitive_array}
 use Rattle.member_link.specs.Rows.LocalRows.{const_row, cut_before, local_entry, stored, type_of_imm, with_units}
 use Rattle.member_link.specs.Rows.MemberRows.{call_row, dynamic_row, get_field_row, get_static_row, init_row, initialised_type, put_field_row, put_static_row, receiver, result_types, return_row}
 use Rattle.member_link.specs.Rows.Operands.{Need, lowest_of, topmost, under}

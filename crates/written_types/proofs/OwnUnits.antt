@@ -1,10 +1,10 @@
 -- The local units of the flat code as they are written: by number, and where some of them are set.
-use Rattle.std.proofs.Common.{◌≡◌, ◌≢◌, ◌⊎◌, ◌+◌, ◌<◌, ◌≤◌, ℕ, zero, suc, Bool, true, false, List, [], ◌∷◌, ◌++◌, length, map, slice_get, Option, Some, None, if◌then◌else◌, refl, sym, ap, subst, ◌∙◌, inl, inr, arith}
+use Rattle.std.proofs.Common.{◌≡◌, ◌≢◌, ◌+◌, ◌<◌, ◌≤◌, ℕ, zero, suc, Bool, true, false, List, [], ◌∷◌, ◌++◌, length, slice_get, Option, Some, None, if◌then◌else◌, refl, sym, ap, subst, ◌∙◌, inl, inr, arith}
 use Rattle.std.specs.Prelude.{slice_set}
 use Rattle.std.specs.List.{AllByRecursion}
 use Rattle.std.proofs.lemmas.List.{length-append, length-map}
 use Rattle.std.proofs.lemmas.Option.{none-some, same_Some}
-use Rattle.class_model.specs.Frames.{is_wide, units}
+use Rattle.class_model.specs.Frames.{is_wide}
 use Rattle.class_model.specs.declared.frame.VType.{VType}
 use Rattle.class_model.specs.declared.frame.VType.TheVariants as types
 use Rattle.member_link.specs.Rows.LocalRows.{cut_before, stored, with_units}
@@ -18,7 +18,8 @@ use Rattle.written_types.proofs.SlotTypes.{item_before, not_wide}
 use Rattle.written_types.proofs.TwoUnits.{UnitsOf, one_unit, two_units, units_of}
 use Rattle.written_types.proofs.WrittenTypes.{by_item, own_types}
 use Rattle.written_types.specs.FitsTypes.{HasType, HaveTypes}
-use Rattle.written_types.specs.Writing.{AgreeIn, Writing}
+use Rattle.written_types.specs.Inner.CarriedFrames.{AgreeIn}
+use Rattle.written_types.specs.Writing.{Writing}
 
 -- ---- by number
 

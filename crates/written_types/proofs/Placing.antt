@@ -1,18 +1,19 @@
 -- From a frame that fits a state to the blocks that begin with that state, and from the items of a block and its end to the block.
-use Rattle.std.proofs.Common.{◌≡◌, ◌+◌, ℕ, suc, List, [], ◌∷◌, ◌++◌, length, Option, Some, None, refl, sym, ap, subst, ◌∙◌, inl, arith}
+use Rattle.std.proofs.Common.{◌≡◌, ◌+◌, ℕ, suc, List, [], ◌∷◌, ◌++◌, length, Option, Some, refl, sym, ap, subst, ◌∙◌, inl, arith}
 use Rattle.std.specs.List.{AllByRecursion, flat_map}
 use Rattle.std.proofs.lemmas.Grind.{flat_map-append}
 use Rattle.std.proofs.lemmas.Option.{none-some, same_Some}
 use Rattle.class_model.specs.declared.frame.Frame.{Frame}
-use Rattle.making_code.specs.Items.{WInstr, WItem, carried, constructs, item, load, makes, plain, store}
+use Rattle.making_code.specs.Items.{WInstr, WItem, carried, constructs, load, makes, plain, store}
 use Rattle.member_link.specs.Rows.Assigning.{IsFrameAssignableIn}
-use Rattle.plan_flow.specs.Written.Finish.{End, Finished, end_items, finished_items, goto_end, no_end, nop_end}
+use Rattle.plan_flow.specs.Written.Finish.{End, Finished, end_items, goto_end, no_end, nop_end}
 use Rattle.plan_flow.specs.Written.FramedCode.{frame_by_item}
 use Rattle.making_code.specs.StateFrames.{state_frame}
 use Rattle.plan_flow.specs.Written.WrittenCode.{Form, block_items, in_form, short, wide, widened}
 use Rattle.virtual_state.specs.States.{State}
 use Rattle.written_types.proofs.Given.{BeginsAt, ComesNext, EndCarries, FitsState, StandsFor, frame_at_state}
-use Rattle.written_types.specs.Writing.{BlockCarries, Carries, FitsBefore, GoesBehind, LeadsIn, Writing, carries_away, carries_none, carries_on, scope_in}
+use Rattle.written_types.specs.Inner.CarriedFrames.{BlockCarries, Carries, FitsBefore, GoesBehind, LeadsIn, carries_away, carries_none, carries_on}
+use Rattle.written_types.specs.Writing.{Writing, scope_in}
 
 -- ---- frames that fit
 

@@ -1,19 +1,18 @@
 -- Operands of instructions that are written as they are hold no virtual object: their types are none of an object's, or a row asks for them.
-use Rattle.std.proofs.Common.{◌≡◌, ◌⊎◌, ◌+◌, ◌-◌, ◌≤◌, ◌<◌, ℕ, zero, suc, Bool, true, false, List, [], ◌∷◌, ◌++◌, drop, length, map, replicate, slice_get, Option, Some, None, refl, sym, ap, subst, ◌∙◌, inl, inr, arith}
+use Rattle.std.proofs.Common.{◌≡◌, ◌⊎◌, ◌+◌, ◌-◌, ◌<◌, ℕ, zero, suc, Bool, List, [], ◌∷◌, drop, length, map, replicate, slice_get, Some, refl, sym, ap, subst, ◌∙◌, inl, inr, arith}
 use Rattle.std.specs.List.{AllByRecursion}
-use Rattle.std.proofs.lemmas.List.{length-drop, length-map}
-use Rattle.std.proofs.lemmas.Option.{none-some, same_Some}
+use Rattle.std.proofs.lemmas.List.{length-drop}
+use Rattle.std.proofs.lemmas.Option.{none-some}
 use Rattle.class_model.specs.declared.descriptor.Kind.{Kind}
 use Rattle.class_model.specs.declared.descriptor.Kind.TheVariants as kinds
 use Rattle.class_model.specs.declared.frame.Frame.{Frame}
 use Rattle.class_model.specs.declared.frame.VType.{VType}
 use Rattle.class_model.specs.declared.frame.VType.TheVariants as types
-use Rattle.class_tree.specs.Headers.{Headers, IsThere, Name, class_named, headers_of}
-use Rattle.class_tree.specs.Hierarchy.{IsHierarchy}
+use Rattle.class_tree.specs.Headers.{IsThere, Name, headers_of}
 use Rattle.class_tree.specs.Laws.Above.{above_is_there, hierarchy_is_sound, there_is_no_array}
 use Rattle.class_tree.specs.Laws.Arrays.{is_array_of}
 use Rattle.class_tree.specs.Subtype.{IsArray, IsReferenceComponent}
-use Rattle.flow_code.specs.ReadTypes.{read_frame, read_type}
+use Rattle.flow_code.specs.ReadTypes.{read_frame}
 use Rattle.member_link.specs.Assignability.{IsAssignable, IsNameAssignable, from_array, from_null, of_components, of_names, to_class_above, to_interface, to_itself, to_same, to_top}
 use Rattle.member_link.specs.RowScope.{RowScope}
 use Rattle.member_link.specs.Rows.Operands.{AllFit, Fits, IsAmong, Need, array_among, array_of_references, assignable_or_this, assignable_to, double, initialised, nothing, of_kind, single, some_array, topmost, uninitialised}
@@ -24,7 +23,7 @@ use Rattle.plan_flow.specs.PlanSlots.{held}
 use Rattle.plan_flow.specs.PlanTable.{operand, operands_asked, positions}
 use Rattle.virtual_state.specs.States.{State}
 use Rattle.virtual_state.specs.declared.slot.Slot.{Slot}
-use Rattle.virtual_state.specs.declared.slot.Slot.TheVariants.{Plain, Virt, Unusable}
+use Rattle.virtual_state.specs.declared.slot.Slot.TheVariants.{Plain, Virt}
 use Rattle.written_types.proofs.SiteFields.{SitesKnown}
 use Rattle.written_types.proofs.SlotTypes.{IsOpen, is_open_type, item_before, open_object, open_top}
 use Rattle.written_types.proofs.Standing.{Standing, fit_long, operand_has}

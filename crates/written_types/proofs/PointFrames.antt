@@ -1,9 +1,8 @@
 -- The frame before an instruction that is written as it is stands as that of its point, and the one behind agrees with what comes along its edges.
-use Rattle.std.proofs.Common.{◌≡◌, ◌≢◌, ◌+◌, ℕ, zero, suc, Bool, true, false, List, [], ◌∷◌, ◌++◌, drop, length, map, replicate, slice_get, Option, Some, None, refl, sym, ap, subst, ◌∙◌, inr, arith}
+use Rattle.std.proofs.Common.{◌≡◌, ◌+◌, ℕ, zero, suc, Bool, true, false, List, [], ◌∷◌, ◌++◌, drop, length, map, replicate, slice_get, Some, refl, sym, ap, subst, ◌∙◌, inr, arith}
 use Rattle.std.specs.List.{AllByRecursion, flat_map}
-use Rattle.std.proofs.lemmas.Bool.{false≢true, true≢false}
+use Rattle.std.proofs.lemmas.Bool.{true≢false}
 use Rattle.std.proofs.lemmas.List.{append_assoc, drop-map, length-map, map-append}
-use Rattle.std.proofs.lemmas.Option.{none-some, same_Some}
 use Rattle.class_model.specs.Code.{verification_type}
 use Rattle.class_model.specs.Descriptors.{parameter_units}
 use Rattle.class_model.specs.Frames.{is_top, units}
@@ -19,7 +18,6 @@ use Rattle.flow_code.specs.declared.point.Point.{Point}
 use Rattle.flow_code.specs.declared.point.Site.{Site}
 use Rattle.making_code.specs.StateFrames.{field_types as unit_types, site_types_from}
 use Rattle.plan_flow.specs.PlanRows.{PlanRow, no_change}
-use Rattle.plan_flow.specs.PlanScope.{PlanScope, local_types, stack_types}
 use Rattle.plan_flow.specs.PlanSlots.{held, readable, slots_from}
 use Rattle.plan_flow.specs.PlanTable.{held_from, held_locals}
 use Rattle.plan_flow.specs.Written.FramedCode.{frame_by_item}
@@ -30,11 +28,11 @@ use Rattle.virtual_state.specs.declared.slot.VObject.{VObject}
 use Rattle.written_types.proofs.AgreeingFrames.{is_a_top}
 use Rattle.written_types.proofs.Arrivals.{FitsPoint, begins}
 use Rattle.written_types.proofs.Given.{entries_in, entries_with, frame_in_slots, locals_in, type_in, written_before}
-use Rattle.written_types.proofs.KeptMembers.{type_steady}
 use Rattle.written_types.proofs.Standing.{all_joined, item_of_dropped}
 use Rattle.written_types.proofs.StandingFrames.{Follows, Stands, held_same}
-use Rattle.written_types.proofs.WrittenTypes.{IsSteady, all_steady, by_item, entry_types, own_types, steady_item}
-use Rattle.written_types.specs.Writing.{AgreeIn, Agrees, Writing}
+use Rattle.written_types.proofs.WrittenTypes.{IsSteady, all_steady, by_item, own_types, steady_item}
+use Rattle.written_types.specs.Inner.CarriedFrames.{AgreeIn, Agrees}
+use Rattle.written_types.specs.Writing.{Writing}
 
 -- ---- units behind those of the flat code
 

@@ -1,9 +1,7 @@
 -- What instructions name that are ready: fields that are found, and constants whose texts are there.
-use Rattle.std.proofs.Common.{◌≡◌, ◌≢◌, ◌+◌, ◌++◌, ℕ, zero, suc, Bool, true, false, List, [], ◌∷◌, length, slice_get, Option, Some, None, IsSome, option_and_then, option_map, refl, sym, ap, subst, ◌∙◌}
-use Rattle.std.specs.List.{AllByRecursion}
+use Rattle.std.proofs.Common.{◌≡◌, ◌+◌, ℕ, zero, suc, List, [], ◌∷◌, length, slice_get, Option, Some, None, IsSome, option_and_then, option_map, refl, sym, ap, subst, ◌∙◌}
 use Rattle.std.proofs.lemmas.Option.{none-some, same_Some}
 use Rattle.class_model.specs.Checks.{AllHold}
-use Rattle.class_model.specs.Code.{IsLoadable}
 use Rattle.class_model.specs.Header.{header_of}
 use Rattle.class_model.specs.Laws.Checks.{first_holds, others_hold}
 use Rattle.class_model.specs.Laws.ClassFiles.{parts_hold}
@@ -12,7 +10,7 @@ use Rattle.class_model.specs.PoolChecks.{IsClassAt, IsFieldConstant, class_at, c
 use Rattle.class_model.specs.Spelling.{constant_bytes}
 use Rattle.class_model.specs.declared.class_file.ClassFile.{ClassFile}
 use Rattle.class_model.specs.declared.header.Member.{Member}
-use Rattle.class_model.specs.declared.instr.Instr.TheVariants.{GetField, InstanceOf, Ldc, PutField}
+use Rattle.class_model.specs.declared.instr.Instr.TheVariants.{GetField, PutField}
 use Rattle.class_model.specs.declared.pool.Const.{Const}
 use Rattle.class_model.specs.declared.pool.Const.TheVariants.{Class, Double, Fieldref, Float, Integer, InterfaceMethodref, InvokeDynamic, Long, MethodHandle, MethodType, Methodref, NameAndType, String, Utf8}
 use Rattle.class_tree.specs.Headers.{Classes, Headers, IsClassFile, Name, headers_of}

@@ -1,5 +1,5 @@
 -- The edges of a reached point's route: each is that of an edge of the point's row, and what comes along it may go to the target.
-use Rattle.std.proofs.Common.{◌≡◌, ◌+◌, ◌==◌, ℕ, zero, suc, Bool, true, false, List, [], ◌∷◌, ◌++◌, length, Option, Some, None, slice_get, refl, sym, ap, subst, ◌∙◌, arith}
+use Rattle.std.proofs.Common.{◌≡◌, ◌+◌, ℕ, zero, suc, Bool, true, false, List, [], ◌∷◌, ◌++◌, Option, Some, None, slice_get, refl, sym, ap, subst, ◌∙◌, arith}
 use Rattle.std.specs.Prelude.{is_some}
 use Rattle.std.specs.List.{AllByRecursion, filter, find}
 use Rattle.std.proofs.lemmas.Bool.{eqb-true, false≢true}
@@ -10,7 +10,7 @@ use Rattle.flow_code.specs.declared.handlers.FlatHandler.{FlatHandler}
 use Rattle.flow_code.specs.declared.point.Point.{Point}
 use Rattle.plan_flow.specs.Effect.{AreEdges, IsEffectIn, IsStateBehind}
 use Rattle.plan_flow.specs.Laws.OpenEdges.{IsOfRow}
-use Rattle.plan_flow.specs.Laws.RoutedPlans.{EdgeLeads, IsRouteOf, leads_of, route_at, route_of}
+use Rattle.plan_flow.specs.Laws.RoutedPlans.{EdgeLeads, IsRouteOf, leads_of, route_of}
 use Rattle.plan_flow.specs.Must.{open_edges, row_of_point}
 use Rattle.plan_flow.specs.PlanRows.{Guard, PlanRow, RowEdge}
 use Rattle.plan_flow.specs.PlanScope.{PlanScope}

@@ -1,14 +1,12 @@
 -- The operands of pop, dup, swap and the like: what the written stack has of them, and of those that are given.
-use Rattle.std.proofs.Common.{◌≡◌, ◌+◌, ◌-◌, ◌≤◌, ◌<◌, ℕ, zero, suc, Bool, true, false, List, [], ◌∷◌, ◌++◌, drop, length, map, reverse, slice_get, take, Option, Some, None, refl, sym, ap, subst, ◌∙◌, inl, inr, arith}
-use Rattle.std.specs.Prelude.{◌&&◌, not}
+use Rattle.std.proofs.Common.{◌≡◌, ◌<◌, ℕ, zero, suc, Bool, true, false, List, [], ◌∷◌, ◌++◌, length, map, slice_get, Option, Some, refl, sym, ap, ◌∙◌, inl, inr, arith}
+use Rattle.std.specs.Prelude.{not}
 use Rattle.std.specs.List.{AllByRecursion}
 use Rattle.std.proofs.lemmas.Bool.{and_parts, false≢true}
-use Rattle.std.proofs.lemmas.List.{map-append}
-use Rattle.std.proofs.lemmas.Option.{none-some, same_Some}
 use Rattle.class_model.specs.Frames.{depth, is_top, is_wide}
 use Rattle.class_model.specs.declared.frame.VType.{VType}
 use Rattle.class_model.specs.declared.frame.VType.TheVariants as types
-use Rattle.member_link.specs.Rows.ShuffleRows.{Form, Width, has_width, have_widths, one, picked, two}
+use Rattle.member_link.specs.Rows.ShuffleRows.{Width, has_width, have_widths, one, picked}
 use Rattle.plan_flow.specs.PlanScope.{PlanScope}
 use Rattle.plan_flow.specs.PlanSlots.{readable}
 use Rattle.plan_flow.specs.Written.Templates.{Cell, cells_from}
@@ -19,8 +17,8 @@ use Rattle.written_types.proofs.Given.{entries_in, entries_with}
 use Rattle.written_types.proofs.ShuffleForms.{FitAll, Fits, and_fit, cells_of, chosen_lists, gone, joined, list_or_none, narrow, no_fits, wide}
 use Rattle.written_types.proofs.SlotFrames.{Usable}
 use Rattle.written_types.proofs.SlotTypes.{not_wide}
-use Rattle.written_types.specs.FitsTypes.{HaveTypes, IsOfType}
-use Rattle.written_types.specs.Writing.{AgreeIn}
+use Rattle.written_types.specs.FitsTypes.{HaveTypes}
+use Rattle.written_types.specs.Inner.CarriedFrames.{AgreeIn}
 
 -- ---- cells
 

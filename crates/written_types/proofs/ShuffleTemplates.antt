@@ -5,10 +5,9 @@ use Rattle.std.proofs.lemmas.List.{length-drop, length-map, reverse-append, take
 use Rattle.class_model.specs.declared.frame.Frame.{Frame}
 use Rattle.class_model.specs.declared.frame.VType.{VType}
 use Rattle.class_model.specs.declared.instr.Instr.TheVariants.{Shuffle}
-use Rattle.flow_code.specs.ReadTypes.{read_type}
 use Rattle.flow_code.specs.declared.point.FlatInstr.{FlatInstr}
 use Rattle.flow_code.specs.declared.point.FlatInstr.TheVariants.{Of}
-use Rattle.making_code.specs.Items.{WInstr, WItem, item, plain}
+use Rattle.making_code.specs.Items.{WInstr, item, plain}
 use Rattle.member_link.specs.Bodies.{item_row}
 use Rattle.member_link.specs.BodyTyping.{RowHolds}
 use Rattle.member_link.specs.Rows.Operands.{topmost, under}
@@ -17,9 +16,8 @@ use Rattle.member_link.specs.Rows.Row.{Row, stack_behind}
 use Rattle.member_link.specs.Rows.ShuffleRows.{Form, form_in, form_row, forms_of, have_widths, need_of, picked}
 use Rattle.plan_flow.specs.PlanRows.{PlanRow, Source}
 use Rattle.plan_flow.specs.PlanSlots.{changed, held, is_open, readable}
-use Rattle.plan_flow.specs.PlanTable.{falls_on, held_locals, moving, operand, picked_operands, row_at, shuffle_row}
-use Rattle.plan_flow.specs.Written.Blocks.{leaves_to}
-use Rattle.plan_flow.specs.Written.Templates.{Cell, cells, cells_from, items_at, shuffles}
+use Rattle.plan_flow.specs.PlanTable.{falls_on, operand, picked_operands, row_at, shuffle_row}
+use Rattle.plan_flow.specs.Written.Templates.{Cell, cells, cells_from, shuffles}
 use Rattle.same_runs.specs.Flats.{flat_item, instr_scope}
 use Rattle.same_runs.specs.TypedFlats.{reading_of}
 use Rattle.virtual_state.specs.States.{is_present, is_unusable}
@@ -32,14 +30,15 @@ use Rattle.written_types.proofs.ItemSteps.{frame_of, shuffle_carries}
 use Rattle.written_types.proofs.OperandRows.{Fit, no_operand}
 use Rattle.written_types.proofs.ShuffleForms.{IsChecked, MovesTo, all_checked, cells_of, chosen_lists, joined, moves, stays}
 use Rattle.written_types.proofs.ShuffleOperands.{agree_same, all_fit, cells_are, cells_both, chosen_slots, given_are, lists_joined, lists_of, none_top}
-use Rattle.written_types.proofs.SlotFrames.{Usable, as_long_dropped, as_long_taken, by_top, by_wide, drop_in_map}
+use Rattle.written_types.proofs.SlotFrames.{Usable, as_long_dropped, as_long_taken, by_top, by_wide}
 use Rattle.written_types.proofs.StackRows.{read_form}
 use Rattle.written_types.proofs.Standing.{all_dropped, item_of_dropped}
 use Rattle.written_types.proofs.TemplateEnds.{template_carries}
 use Rattle.written_types.proofs.Templates.{Before, Taken, agrees_behind, entries, entries_have, entries_long, have_dropped, locals_stay, number, places, plan_row, read, read_long, row, state, taken, typed, By, along, moved_slots}
 use Rattle.written_types.proofs.TopForms.{FormMoves, form_fits, form_moves, long_widths, moved}
 use Rattle.written_types.specs.FitsTypes.{HaveTypes}
-use Rattle.written_types.specs.Writing.{AgreeIn, Agrees, BlockCarries, Carries, Writing, carries_none}
+use Rattle.written_types.specs.Inner.CarriedFrames.{AgreeIn, Agrees, BlockCarries, Carries, carries_none}
+use Rattle.written_types.specs.Writing.{Writing}
 
 -- a form that is found is one of the forms
 found_checked : (P : Form → Type 0) (forms : List Form) (stack : List VType) (form : Form) → AllByRecursion P forms → form_in forms stack ≡ Some form

@@ -1,8 +1,8 @@
 -- Written frames by types and slots: parts of stacks, slots that instructions keep, and types by the numbers of items.
-use Rattle.std.proofs.Common.{◌≡◌, ◌≢◌, ◌⊎◌, ◌+◌, ◌-◌, ◌≤◌, ◌<◌, ℕ, zero, suc, Bool, true, false, List, [], ◌∷◌, ◌++◌, drop, length, map, replicate, slice_get, take, Option, Some, None, refl, sym, ap, subst, ◌∙◌, inl, inr, arith}
+use Rattle.std.proofs.Common.{◌≡◌, ◌⊎◌, ◌+◌, ◌-◌, ◌≤◌, ◌<◌, ℕ, zero, suc, Bool, false, List, [], ◌∷◌, ◌++◌, drop, length, map, replicate, slice_get, take, Option, Some, refl, sym, ap, ◌∙◌, inl, inr, arith}
 use Rattle.std.specs.List.{AllByRecursion}
 use Rattle.std.proofs.lemmas.Bool.{false≢true}
-use Rattle.std.proofs.lemmas.List.{append_assoc, length-append, length-map, map-append, take-append-drop}
+use Rattle.std.proofs.lemmas.List.{append_assoc, length-append, take-append-drop}
 use Rattle.std.proofs.lemmas.Option.{none-some, same_Some}
 use Rattle.class_model.specs.Frames.{is_top, is_wide}
 use Rattle.class_model.specs.declared.frame.Frame.{Frame}
@@ -15,7 +15,7 @@ use Rattle.flow_code.specs.declared.point.Point.{Point}
 use Rattle.flow_code.specs.declared.point.Site.{Site}
 use Rattle.making_code.specs.StateFrames.{entry_types_from, field_types, frame_in, local_types_from, site_types_from, state_frame}
 use Rattle.member_link.specs.Rows.Operands.{topmost, under}
-use Rattle.plan_flow.specs.PlanRows.{Change, Source, from_place}
+use Rattle.plan_flow.specs.PlanRows.{Change}
 use Rattle.plan_flow.specs.PlanScope.{PlanScope}
 use Rattle.plan_flow.specs.PlanSlots.{readable, slots_from}
 use Rattle.plan_flow.specs.PlanTable.{held_from}
@@ -28,7 +28,7 @@ use Rattle.virtual_state.specs.declared.slot.Slot.TheVariants.{Plain, Virt, Unus
 use Rattle.virtual_state.specs.declared.slot.VObject.{VObject}
 use Rattle.written_types.proofs.AgreeingFrames.{is_a_top}
 use Rattle.written_types.proofs.Given.{entries_in, entries_with, frame_in_slots, locals_in, type_in}
-use Rattle.written_types.specs.Writing.{AgreeIn}
+use Rattle.written_types.specs.Inner.CarriedFrames.{AgreeIn}
 
 -- ---- frames in slots, with all units behind those of the method together
 

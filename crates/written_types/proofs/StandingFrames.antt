@@ -1,7 +1,7 @@
 -- A frame before an instruction that is written as it is, and what comes behind it where the instruction moves values and gives others.
-use Rattle.std.proofs.Common.{◌≡◌, ◌≢◌, ◌⊎◌, ◌+◌, ◌-◌, ◌≤◌, ◌<◌, ℕ, zero, suc, Bool, true, List, [], ◌∷◌, ◌++◌, length, map, take, drop, slice_get, Option, Some, None, refl, sym, ap, subst, ◌∙◌, inl, inr, arith}
+use Rattle.std.proofs.Common.{◌≡◌, ◌≢◌, ◌+◌, ◌-◌, ◌≤◌, ◌<◌, ℕ, zero, suc, Bool, true, List, [], ◌∷◌, ◌++◌, length, map, slice_get, Option, Some, None, refl, sym, ap, subst, ◌∙◌, arith}
 use Rattle.std.specs.List.{AllByRecursion}
-use Rattle.std.proofs.lemmas.List.{length-append, length-drop, length-map, length-take-le, map-append, take-append-drop}
+use Rattle.std.proofs.lemmas.List.{length-drop, length-map, length-take-le, map-append, take-append-drop}
 use Rattle.class_model.specs.declared.frame.Frame.{Frame}
 use Rattle.class_model.specs.declared.frame.VType.{VType}
 use Rattle.class_model.specs.declared.frame.VType.TheVariants as types
@@ -10,7 +10,7 @@ use Rattle.member_link.specs.RowScope.{RowScope}
 use Rattle.member_link.specs.Rows.Operands.{AllFit, Need, topmost, under}
 use Rattle.member_link.specs.Rows.Row.{Row, access_aside, plain, stack_behind}
 use Rattle.plan_flow.specs.PlanRows.{Change, PlanRow, Source, from_place, no_change}
-use Rattle.plan_flow.specs.PlanSlots.{changed, held, readable, slot_from, slots_from}
+use Rattle.plan_flow.specs.PlanSlots.{changed, held, slot_from, slots_from}
 use Rattle.plan_flow.specs.PlanTable.{held_from, held_locals, operand}
 use Rattle.virtual_state.specs.States.{State}
 use Rattle.virtual_state.specs.declared.slot.Slot.{Slot}
@@ -19,7 +19,8 @@ use Rattle.written_types.proofs.AgreeLists.{agree_joined, apart}
 use Rattle.written_types.proofs.NeedsKept.{AreSteady, all_agreeing}
 use Rattle.written_types.proofs.Standing.{Standing, fit_long}
 use Rattle.written_types.proofs.WrittenTypes.{ArePlain, IsSteady, by_item, entry_types, own_types, written_joined, written_plain}
-use Rattle.written_types.specs.Writing.{AgreeIn, RowFits, Writing, scope_in}
+use Rattle.written_types.specs.Inner.CarriedFrames.{AgreeIn, RowFits}
+use Rattle.written_types.specs.Writing.{Writing, scope_in}
 
 -- ---- what places hold
 

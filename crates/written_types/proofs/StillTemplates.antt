@@ -1,47 +1,41 @@
 -- Instructions that only move virtual objects, or change them: nothing is written, and each frame stays.
-use Rattle.std.proofs.Common.{◌≡◌, ◌≢◌, ◌+◌, ◌-◌, ◌≤◌, ℕ, suc, Bool, true, false, List, [], ◌∷◌, ◌++◌, drop, length, map, slice_get, take, Option, Some, None, refl, sym, ap, subst, ◌∙◌, arith}
+use Rattle.std.proofs.Common.{◌≡◌, ◌+◌, ◌-◌, ◌≤◌, ℕ, Bool, true, false, List, [], ◌∷◌, ◌++◌, drop, length, map, take, Option, Some, None, refl, sym, ap, subst, ◌∙◌}
 use Rattle.std.specs.Prelude.{slice_set}
 use Rattle.class_model.specs.Frames.{is_wide, units}
-use Rattle.class_model.specs.Pool.{Constants, constant_at}
+use Rattle.class_model.specs.Pool.{Constants}
 use Rattle.class_model.specs.PoolChecks.{class_at}
 use Rattle.class_model.specs.declared.descriptor.Kind.{Kind}
 use Rattle.class_model.specs.declared.descriptor.Kind.TheVariants as kinds
 use Rattle.class_model.specs.declared.frame.VType.{VType}
 use Rattle.class_model.specs.declared.frame.VType.TheVariants as types
-use Rattle.class_model.specs.declared.instr.Instr.{Instr}
-use Rattle.class_model.specs.declared.instr.Instr.TheVariants.{Load, Store, Cast, Enter, Leave, GetField, PutField}
+use Rattle.class_model.specs.declared.instr.Instr.TheVariants.{Load, Store, Cast, Enter, Leave}
 use Rattle.class_tree.specs.Headers.{Name}
 use Rattle.flow_code.specs.declared.point.FlatInstr.{FlatInstr}
 use Rattle.flow_code.specs.declared.point.FlatInstr.TheVariants.{Of}
-use Rattle.member_link.specs.References.{Reference}
 use Rattle.member_link.specs.RowScope.{RowScope}
 use Rattle.member_link.specs.Rows.LocalRows.{cut_before, local_entry, stored, with_units}
-use Rattle.member_link.specs.Rows.MemberRows.{get_field_row, put_field_row}
-use Rattle.member_link.specs.Rows.Operands.{Need, initialised, lowest_of, of_kind, topmost, under}
-use Rattle.member_link.specs.Rows.Row.{Row, stack_behind}
+use Rattle.member_link.specs.Rows.Operands.{Need, initialised, lowest_of, of_kind, topmost}
+use Rattle.member_link.specs.Rows.Row.{stack_behind}
 use Rattle.member_link.specs.Rows.Table.{cast_row}
-use Rattle.member_link.specs.Signatures.{field_type, reference_of}
-use Rattle.plan_flow.specs.PlanRows.{PlanRow, Source, from_field, from_place}
-use Rattle.plan_flow.specs.PlanScope.{field_number, field_of, pool_of}
-use Rattle.plan_flow.specs.PlanSlots.{at_depth, changed, field_held, field_of_slot, held, is_open, put_in, slot_from, slots_from}
-use Rattle.plan_flow.specs.PlanTable.{cast_row as plan_cast, falls_on, get_field_row as plan_get, held_locals, operand, put_field_row as plan_put}
-use Rattle.plan_flow.specs.Written.Blocks.{leaves_to}
-use Rattle.plan_flow.specs.Written.Templates.{items_at}
+use Rattle.plan_flow.specs.PlanRows.{from_place}
+use Rattle.plan_flow.specs.PlanScope.{pool_of}
+use Rattle.plan_flow.specs.PlanSlots.{at_depth, changed, held, is_open, slot_from}
+use Rattle.plan_flow.specs.PlanTable.{cast_row as plan_cast, falls_on, held_locals, operand}
 use Rattle.same_runs.specs.Flats.{pool_of as flat_pool}
 use Rattle.virtual_state.specs.States.{State, is_present}
 use Rattle.virtual_state.specs.declared.slot.Slot.{Slot}
-use Rattle.virtual_state.specs.declared.slot.Slot.TheVariants.{Plain, Virt, Unusable}
-use Rattle.virtual_state.specs.declared.slot.VObject.{VObject}
+use Rattle.virtual_state.specs.declared.slot.Slot.TheVariants.{Virt}
 use Rattle.written_types.proofs.BlockEnds.{topmost_none}
 use Rattle.written_types.proofs.Given.{EdgesFit, EndsCarry, Given, entries_in, locals_in}
 use Rattle.written_types.proofs.OperandRows.{Fit, map_set, no_operand}
 use Rattle.written_types.proofs.RowTable.{same_pool}
 use Rattle.written_types.proofs.SlotFrames.{units_behind, SayLess, agree_less, as_read, less_both, less_mapped, say_same}
 use Rattle.written_types.proofs.SlotTypes.{not_wide}
-use Rattle.written_types.proofs.TemplateRows.{OneType, as_many, depth_present, field_present, holds_for, less_cut, less_set, nothing_template, one_type, operand_slots, operands_are, plan_for, row_for, scope_for, two_types}
-use Rattle.written_types.proofs.Templates.{Before, By, along, entries, entries_have, entries_long, have_dropped, held_locals_are, locals_agree, locals_stay, moved_slots, number, objects_behind, places, plan_row, read, row, state, units_alike}
+use Rattle.written_types.proofs.TemplateRows.{OneType, as_many, depth_present, holds_for, less_cut, less_set, nothing_template, one_type, operand_slots, operands_are, plan_for, row_for, scope_for}
+use Rattle.written_types.proofs.Templates.{Before, By, along, entries, entries_have, have_dropped, held_locals_are, locals_agree, locals_stay, moved_slots, number, objects_behind, places, plan_row, read, state, units_alike}
 use Rattle.written_types.specs.FitsTypes.{HaveTypes, IsOfType}
-use Rattle.written_types.specs.Writing.{AgreeIn, BlockCarries, Writing}
+use Rattle.written_types.specs.Inner.CarriedFrames.{AgreeIn, BlockCarries}
+use Rattle.written_types.specs.Writing.{Writing}
 
 pub one_unit : (type : VType) → is_wide type ≡ false → units type ≡ type ∷ []
 one_unit types.Long narrow = absurd cc

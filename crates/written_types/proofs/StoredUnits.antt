@@ -1,10 +1,10 @@
 -- Stores to units behind others: what becomes of the units before them, and of types that all local units have.
-use Rattle.std.proofs.Common.{◌≡◌, ◌≢◌, ◌⊎◌, ◌+◌, ℕ, zero, suc, Bool, true, false, List, [], ◌∷◌, ◌++◌, length, map, slice_get, Option, Some, None, refl, sym, ap, subst, ◌∙◌, inl, inr, arith}
+use Rattle.std.proofs.Common.{◌≡◌, ◌⊎◌, ◌+◌, ℕ, zero, suc, Bool, true, false, List, [], ◌∷◌, ◌++◌, length, slice_get, Option, Some, None, refl, sym, ap, subst, ◌∙◌, inl, inr}
 use Rattle.std.specs.Prelude.{slice_set, if◌then◌else◌}
 use Rattle.std.specs.List.{AllByRecursion}
 use Rattle.std.proofs.lemmas.Bool.{false≢true}
 use Rattle.std.proofs.lemmas.List.{append_assoc, length-append}
-use Rattle.class_model.specs.Frames.{is_top, is_wide, units}
+use Rattle.class_model.specs.Frames.{is_wide, units}
 use Rattle.class_model.specs.declared.frame.VType.{VType}
 use Rattle.class_model.specs.declared.frame.VType.TheVariants as types
 use Rattle.class_tree.specs.Headers.{Headers}
@@ -12,7 +12,7 @@ use Rattle.member_link.specs.Assignability.{IsAssignable, from_null, of_names, t
 use Rattle.member_link.specs.Rows.FrameAssignability.{AreAssignable}
 use Rattle.member_link.specs.Rows.LocalRows.{cut_before, stored, with_units}
 use Rattle.written_types.proofs.FieldUnits.{EndsNarrow, narrow_right}
-use Rattle.written_types.specs.Writing.{AgreeIn}
+use Rattle.written_types.specs.Inner.CarriedFrames.{AgreeIn}
 
 -- ---- the unit before
 

@@ -1,13 +1,11 @@
 -- Where targets and handlers lead: the first block of a point stands at the item that a goto there names, and so does each pad; and what a block ends
 -- with leads on.
-use Rattle.std.proofs.Common.{◌≡◌, ◌+◌, ◌==◌, ◌&&◌, ℕ, suc, Bool, true, false, List, [], ◌∷◌, ◌++◌, drop, length, take, Option, Some, None, slice_get, refl, sym, ap, subst, ◌∙◌, inl, inr, arith}
+use Rattle.std.proofs.Common.{◌≡◌, ◌+◌, ◌==◌, ◌&&◌, ℕ, suc, Bool, true, false, List, [], ◌∷◌, drop, length, take, Some, slice_get, refl, sym, ap, subst, ◌∙◌, arith}
 use Rattle.std.specs.List.{AllByRecursion}
-use Rattle.std.proofs.lemmas.Bool.{eq-eqb, eqb-true, false≢true}
-use Rattle.std.proofs.lemmas.Option.{none-some, same_Some}
-use Rattle.class_model.specs.declared.frame.Frame.{Frame}
-use Rattle.flow_code.specs.FlatCode.{FlatCode, point_at}
+use Rattle.std.proofs.lemmas.Bool.{eq-eqb}
+use Rattle.flow_code.specs.FlatCode.{point_at}
 use Rattle.flow_code.specs.declared.point.Point.{Point}
-use Rattle.making_code.specs.Items.{WItem, WTarget, to_handler_pad, to_jump_pad, to_point}
+use Rattle.making_code.specs.Items.{WTarget, to_handler_pad, to_jump_pad, to_point}
 use Rattle.plan_flow.specs.Laws.WrittenBlocks.{block_finished, first_block, first_of, first_begins, split_at, starts_at}
 use Rattle.plan_flow.specs.Laws.WrittenPads.{AreNone, StandsFirst, handler_pad_stands, jump_pad_stands, none_finished, pad_block}
 use Rattle.plan_flow.specs.Written.Blocks.{Block, BlockOf, blocks_of, handler_pad, is_decided, jump_pad}
@@ -21,10 +19,9 @@ use Rattle.virtual_state.specs.Sites.{has}
 use Rattle.virtual_state.specs.States.{State}
 use Rattle.virtual_state.specs.Without.{without}
 use Rattle.written_types.proofs.BlockKinds.{first_at, first_state}
-use Rattle.written_types.proofs.Given.{BeginsAt, EdgeTarget, EdgesFit, Given, StandsFor, TargetsStand}
+use Rattle.written_types.proofs.Given.{EdgeTarget, EdgesFit, Given, StandsFor, TargetsStand}
 use Rattle.written_types.proofs.RouteEdges.{edge_number}
-use Rattle.written_types.specs.FitsTypes.{FitsTypes, is_reached}
-use Rattle.written_types.specs.Writing.{IsPlaced, Writing}
+use Rattle.written_types.specs.Writing.{Writing}
 
 module _ (w : Writing) (given : Given w) (fit : EdgesFit w given) where
   abbrev routes : Routes

@@ -1,18 +1,18 @@
 -- The block of an instruction that has a template carries each frame to what is behind it, whichever instruction it is.
-use Rattle.std.proofs.Common.{◌≡◌, ◌≢◌, ◌⊎◌, ◌+◌, ℕ, Bool, true, false, List, [], ◌∷◌, ◌++◌, length, slice_get, Option, Some, None, option_and_then, refl, sym, ap, subst, ◌∙◌, inl, inr}
+use Rattle.std.proofs.Common.{◌≡◌, ℕ, Bool, true, false, List, [], ◌∷◌, ◌++◌, length, slice_get, Option, Some, None, option_and_then, refl, sym, ap, subst, ◌∙◌}
 use Rattle.std.specs.Prelude.{◌==◌, ◌&&◌, ◌||◌, if◌then◌else◌}
-use Rattle.std.proofs.lemmas.Bool.{eqb-true, false≢true}
-use Rattle.std.proofs.lemmas.Option.{none-some, same_Some}
+use Rattle.std.proofs.lemmas.Bool.{false≢true}
+use Rattle.std.proofs.lemmas.Option.{none-some}
 use Rattle.class_model.specs.Descriptors.{parameters_of}
 use Rattle.class_model.specs.Pool.{Constants, constant_at}
 use Rattle.class_model.specs.PoolChecks.{class_at}
 use Rattle.class_model.specs.declared.instr.Instr.{Instr}
-use Rattle.class_model.specs.declared.instr.Instr.TheVariants.{Nop, Const, Ldc, Ldc2, Load, Store, Iinc, ArrayLoad, ArrayStore, Shuffle, Pure, Divide, FloatAsk, If, If2, IfSame, IfNull, Goto, Table, Lookup, Return, GetStatic, PutStatic, GetField, PutField, Invoke, Dynamic, New, NewArray, NewRefArray, NewMulti, Length, Throw, Cast, InstanceOf, Enter, Leave}
+use Rattle.class_model.specs.declared.instr.Instr.TheVariants.{Load, Store, Shuffle, IfSame, IfNull, Goto, GetField, PutField, Invoke, New, Cast, InstanceOf, Enter, Leave}
 use Rattle.class_model.specs.declared.opcodes.TheConstants.{INVOKESPECIAL}
 use Rattle.class_tree.specs.Headers.{Name}
 use Rattle.flow_code.specs.ReadTypes.{is_site_object}
 use Rattle.flow_code.specs.declared.point.FlatInstr.{FlatInstr}
-use Rattle.flow_code.specs.declared.point.FlatInstr.TheVariants.{Of, NullTest}
+use Rattle.flow_code.specs.declared.point.FlatInstr.TheVariants.{Of}
 use Rattle.flow_code.specs.declared.point.Point.{Point}
 use Rattle.making_code.specs.Items.{WInstr}
 use Rattle.member_link.specs.Machine.CallSteps.{is_object_init}
@@ -26,7 +26,6 @@ use Rattle.plan_flow.specs.PlanScope.{field_of, member_of, pool_of, site_at}
 use Rattle.plan_flow.specs.PlanSlots.{changed, held, is_open, readable}
 use Rattle.plan_flow.specs.PlanTable.{falls_on, operand, put_field_row as plan_put}
 use Rattle.plan_flow.specs.Written.Templates.{get_template, init_template, instance_template, is_virtual, new_template, nothing_of, null_template, put_template, same_template, template}
-use Rattle.same_runs.specs.Flats.{pool_of as flat_pool}
 use Rattle.same_runs.specs.ReadyCode.{IsReadyItem}
 use Rattle.virtual_state.specs.States.{State, is_present}
 use Rattle.virtual_state.specs.declared.slot.Slot.{Slot}
@@ -47,8 +46,9 @@ use Rattle.written_types.proofs.Standing.{all_at}
 use Rattle.written_types.proofs.StillTemplates.{cast_template, enter_template, leave_template, load_template, store_template}
 use Rattle.written_types.proofs.OperandRows.{Fit, no_operand}
 use Rattle.written_types.proofs.TemplateRows.{TwoTypes, as_many, holds_for, nothing_template, operands_are, plan_for, row_for, scope_for, two_types}
-use Rattle.written_types.proofs.Templates.{Before, locals_stay, number, read, row, state}
-use Rattle.written_types.specs.Writing.{BlockCarries, Writing}
+use Rattle.written_types.proofs.Templates.{Before, locals_stay, number, read, state}
+use Rattle.written_types.specs.Inner.CarriedFrames.{BlockCarries}
+use Rattle.written_types.specs.Writing.{Writing}
 
 module _ (w : Writing) (given : Given w) (fit : EdgesFit w given) (ends : EndsCarry w given) (makes : MakesCarry w given) (known : SitesKnown w.s)
     (numbers : FieldsNumbered w) (b : Before w given) (class : ℕ) where

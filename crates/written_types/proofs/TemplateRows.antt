@@ -1,15 +1,11 @@
 -- The rows of an instruction that has a template, its operands, and templates of which nothing is written.
-use Rattle.std.proofs.Common.{◌≡◌, ◌≢◌, ◌⊎◌, ◌==◌, ◌+◌, ◌-◌, ◌≤◌, ◌<◌, ℕ, zero, suc, Bool, true, false, List, [], ◌∷◌, ◌++◌, drop, length, map, slice_get, take, Option, Some, None, is_some, refl, sym, ap, subst, ◌∙◌, inl, inr, arith}
-use Rattle.std.specs.Prelude.{slice_set, if◌then◌else◌}
-use Rattle.std.specs.List.{AllByRecursion}
+use Rattle.std.proofs.Common.{◌≡◌, ◌==◌, ◌+◌, ◌-◌, ◌≤◌, ℕ, zero, suc, Bool, true, false, List, [], ◌∷◌, ◌++◌, drop, length, map, slice_get, Option, Some, None, is_some, refl, sym, ap, subst, ◌∙◌, inl, inr, arith}
+use Rattle.std.specs.Prelude.{slice_set}
 use Rattle.std.proofs.lemmas.Bool.{eqb-true}
 use Rattle.std.proofs.lemmas.List.{length-drop}
-use Rattle.class_model.specs.Frames.{is_wide}
-use Rattle.class_model.specs.declared.frame.Frame.{Frame}
 use Rattle.class_model.specs.declared.frame.VType.{VType}
 use Rattle.class_model.specs.declared.frame.VType.TheVariants as types
 use Rattle.flow_code.specs.declared.point.FlatInstr.{FlatInstr}
-use Rattle.making_code.specs.Items.{WItem}
 use Rattle.member_link.specs.Bodies.{item_row}
 use Rattle.member_link.specs.BodyTyping.{RowHolds}
 use Rattle.member_link.specs.RowScope.{RowScope}
@@ -18,7 +14,7 @@ use Rattle.member_link.specs.Rows.Operands.{AllFit, Fits, Need, topmost, under}
 use Rattle.member_link.specs.Rows.Readings.{row_by}
 use Rattle.member_link.specs.Rows.Row.{Row, stack_behind}
 use Rattle.plan_flow.specs.PlanRows.{PlanRow, Source}
-use Rattle.plan_flow.specs.PlanSlots.{changed, held, is_open, readable, with_depth_of, with_field}
+use Rattle.plan_flow.specs.PlanSlots.{held, is_open, readable, with_depth_of, with_field}
 use Rattle.plan_flow.specs.PlanTable.{falls_on, held_from, operand, row_at}
 use Rattle.plan_flow.specs.Written.Blocks.{leaves_to}
 use Rattle.plan_flow.specs.Written.FramedCode.{frame_by_item}
@@ -30,7 +26,6 @@ use Rattle.virtual_state.specs.States.{is_present, is_unusable, object_of}
 use Rattle.virtual_state.specs.declared.slot.Slot.{Slot}
 use Rattle.virtual_state.specs.declared.slot.Slot.TheVariants.{Plain, Virt, Unusable}
 use Rattle.virtual_state.specs.declared.slot.VObject.{VObject}
-use Rattle.written_types.proofs.BlockEnds.{topmost_none}
 use Rattle.written_types.proofs.Given.{EdgesFit, EndsCarry, Given, entries_in, locals_in, type_in}
 use Rattle.written_types.proofs.ItemSteps.{frame_of}
 use Rattle.written_types.proofs.OperandRows.{Cut, cut_of, no_cut, one_cut}
@@ -38,7 +33,8 @@ use Rattle.written_types.proofs.SlotFrames.{SayLess, get_is, read_slot, say_same
 use Rattle.written_types.proofs.Standing.{all_at, item_of_dropped}
 use Rattle.written_types.proofs.TemplateEnds.{template_carries}
 use Rattle.written_types.proofs.Templates.{Before, By, Taken, agrees_behind, along, entries, entries_long, moved_slots, number, places, plan_row, read, read_long, row, state, taken, typed}
-use Rattle.written_types.specs.Writing.{AgreeIn, Agrees, BlockCarries, Carries, Writing, carries_none}
+use Rattle.written_types.specs.Inner.CarriedFrames.{AgreeIn, Agrees, BlockCarries, carries_none}
+use Rattle.written_types.specs.Writing.{Writing}
 
 -- ---- operands that fit
 

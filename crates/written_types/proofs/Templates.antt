@@ -1,18 +1,16 @@
 -- Where the items of a template begin: the parts of the stack and of the local units, and what their frame has to be behind them.
-use Rattle.std.proofs.Common.{◌≡◌, ◌≢◌, ◌⊎◌, ◌==◌, ◌+◌, ◌-◌, ◌≤◌, ℕ, zero, suc, Bool, true, false, List, [], ◌∷◌, ◌++◌, drop, length, map, replicate, slice_get, take, Option, Some, None, is_some, refl, sym, ap, subst, ◌∙◌, inl, inr, arith}
+use Rattle.std.proofs.Common.{◌≡◌, ◌≢◌, ◌-◌, ℕ, zero, suc, true, false, List, [], ◌∷◌, ◌++◌, drop, length, map, replicate, slice_get, take, Option, Some, refl, sym, ap, subst, ◌∙◌, arith}
 use Rattle.std.specs.List.{AllByRecursion}
 use Rattle.std.proofs.lemmas.List.{length-map, map-append}
 use Rattle.std.proofs.lemmas.Option.{same_Some}
-use Rattle.class_model.specs.Frames.{is_top}
 use Rattle.class_model.specs.declared.frame.Frame.{Frame}
 use Rattle.class_model.specs.declared.frame.VType.{VType}
 use Rattle.class_model.specs.declared.frame.VType.TheVariants as types
-use Rattle.flow_code.specs.FlatCode.{FlatCode, point_at}
+use Rattle.flow_code.specs.FlatCode.{FlatCode}
 use Rattle.flow_code.specs.ReadTypes.{read_frame, read_type}
 use Rattle.flow_code.specs.WrittenUnits.{greatest_depth}
 use Rattle.flow_code.specs.declared.point.Point.{Point}
 use Rattle.flow_code.specs.declared.point.Site.{Site}
-use Rattle.making_code.specs.Items.{WInstr, WItem, item}
 use Rattle.making_code.specs.StateFrames.{field_types, site_types_from}
 use Rattle.member_link.specs.Rows.Operands.{topmost, under}
 use Rattle.member_link.specs.Rows.Row.{Row, stack_behind}
@@ -24,13 +22,12 @@ use Rattle.plan_flow.specs.PlanRows.{PlanRow, Source}
 use Rattle.plan_flow.specs.PlanScope.{PlanScope}
 use Rattle.plan_flow.specs.PlanSlots.{changed, is_open, slot_from, slots_from}
 use Rattle.plan_flow.specs.PlanTable.{falls_on, held_from, held_locals, targets_at}
-use Rattle.plan_flow.specs.Plans.{PlannedPoint, state_left}
-use Rattle.plan_flow.specs.Written.Blocks.{Block, leaves_to, state_written}
+use Rattle.plan_flow.specs.Plans.{state_left}
+use Rattle.plan_flow.specs.Written.Blocks.{Block, state_written}
 use Rattle.plan_flow.specs.Written.Finish.{Finished}
 use Rattle.plan_flow.specs.Written.FramedCode.{frame_by_item, type_by_item}
 use Rattle.plan_flow.specs.Written.Routes.{IsRoute, Route, RouteEdge, edge_by}
-use Rattle.plan_flow.specs.Written.Templates.{items_at}
-use Rattle.plan_flow.specs.Written.WrittenCode.{in_form, written_items}
+use Rattle.plan_flow.specs.Written.WrittenCode.{written_items}
 use Rattle.plan_flow.specs.Written.WrittenFrames.{written_frame}
 use Rattle.plan_flow.specs.declared.edge.EdgeKind.TheVariants as edges
 use Rattle.same_runs.specs.TypedFlats.{TypesPoint, read_row}
@@ -40,14 +37,13 @@ use Rattle.virtual_state.specs.Without.{without}
 use Rattle.virtual_state.specs.declared.slot.Slot.{Slot}
 use Rattle.virtual_state.specs.declared.slot.VObject.{VObject}
 use Rattle.written_types.proofs.Arrivals.{FitsPoint, begins, fits_point}
-use Rattle.written_types.proofs.Given.{AtInstruction, EdgesFit, EndsCarry, Given, entries_in, locals_in, written_along}
+use Rattle.written_types.proofs.Given.{AtInstruction, Given, entries_in, locals_in}
 use Rattle.written_types.proofs.ItemSteps.{frame_of}
-use Rattle.written_types.proofs.Placing.{IsMade, block_carries, goes_behind, same_form}
-use Rattle.written_types.proofs.SlotFrames.{slots_frame, units_behind, grouped, AgreeingParts, UsablePlaces, agree_both, agreeing_parts, all_usable_read, as_long_dropped, as_long_taken, as_read, entries_both, held_slots, state_is, stack_parts, take_in_map, usable_places}
-use Rattle.written_types.proofs.SlotFrames.{Usable}
+use Rattle.written_types.proofs.SlotFrames.{slots_frame, units_behind, AgreeingParts, UsablePlaces, agree_both, agreeing_parts, all_usable_read, as_long_taken, as_read, entries_both, held_slots, state_is, stack_parts, usable_places}
 use Rattle.written_types.proofs.Standing.{Standing, all_taken}
 use Rattle.written_types.specs.FitsTypes.{HaveTypes, is_reached}
-use Rattle.written_types.specs.Writing.{AgreeIn, Agrees, BlockCarries, Carries, GoesBehind, IsFresh, Writing, frame_in}
+use Rattle.written_types.specs.Inner.CarriedFrames.{AgreeIn, Agrees, IsFresh, frame_in}
+use Rattle.written_types.specs.Writing.{Writing}
 
 -- ---- units of fields by the sites that are present
 

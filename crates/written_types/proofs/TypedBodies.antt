@@ -13,9 +13,10 @@ use Rattle.plan_flow.specs.Written.FramedCode.{IsFramed, body_catch, flow_into, 
 use Rattle.plan_flow.specs.Written.WrittenCode.{written_items}
 use Rattle.plan_flow.specs.Written.WrittenConstants.{indexed_item}
 use Rattle.written_types.proofs.CarriedBlocks.{AllCarry, HoldFrom, all_hold, flows_next}
-use Rattle.written_types.proofs.FramedBodies.{AreHad, From, Known, body_in, flows_from_there, frame_at_number, frame_there, known_of, leads_stated, leads_to_item, next_from, same_flow, stands_from}
+use Rattle.written_types.proofs.FramedBodies.{AreHad, From, Known, flows_from_there, frame_at_number, frame_there, known_of, leads_stated, leads_to_item, next_from, same_flow, stands_from}
 use Rattle.written_types.proofs.ItemPlaces.{StandsAt, numbered_long}
-use Rattle.written_types.specs.Writing.{IsDeepEnough, LeadsIn, Writing, comes, had_in, items_in, point_in, scope_in, stated_in}
+use Rattle.written_types.specs.Inner.CarriedFrames.{IsDeepEnough, LeadsIn, comes, had_in, stated_in}
+use Rattle.written_types.specs.Writing.{Writing, body_in, items_in, point_in, scope_in}
 
 -- ---- targets and handlers
 

@@ -1,42 +1,29 @@
 -- Templates that change field units: what is stored may stand for what a field is declared as.
-use Rattle.std.proofs.Common.{◌≡◌, ◌≢◌, ◌⊎◌, ◌+◌, ◌≤◌, ℕ, zero, suc, Bool, true, false, List, [], ◌∷◌, ◌++◌, drop, length, map, replicate, slice_get, take, Option, Some, None, IsTrue, refl, sym, ap, subst, ◌∙◌, inl, inr, arith}
-use Rattle.std.specs.List.{AllByRecursion, flat_map, list_any}
-use Rattle.std.proofs.lemmas.Bool.{false≢true}
-use Rattle.std.proofs.lemmas.List.{append_assoc, length-append, length-map, length-replicate, map-append}
-use Rattle.std.proofs.lemmas.Option.{none-some}
+use Rattle.std.proofs.Common.{◌≡◌, ◌≢◌, ◌⊎◌, ◌+◌, ℕ, zero, suc, Bool, true, false, List, [], ◌∷◌, ◌++◌, length, map, replicate, refl, sym, ap, subst, ◌∙◌, inl, inr}
+use Rattle.std.specs.List.{flat_map}
+use Rattle.std.proofs.lemmas.List.{length-append, length-replicate, map-append}
 use Rattle.class_model.specs.Code.{verification_type}
-use Rattle.class_model.specs.Descriptors.{kind_of, parameter_units}
-use Rattle.class_model.specs.Frames.{is_top, is_wide, units}
+use Rattle.class_model.specs.Descriptors.{parameter_units}
+use Rattle.class_model.specs.Frames.{is_top, is_wide}
 use Rattle.class_model.specs.declared.descriptor.FieldType.{FieldType}
 use Rattle.class_model.specs.declared.descriptor.FieldType.TheVariants as field_types
-use Rattle.class_model.specs.declared.frame.Frame.{Frame}
 use Rattle.class_model.specs.declared.frame.VType.{VType}
 use Rattle.class_model.specs.declared.frame.VType.TheVariants as types
 use Rattle.class_tree.specs.Headers.{Headers}
-use Rattle.flow_code.specs.FlatCode.{FlatCode, point_at}
-use Rattle.flow_code.specs.ReadTypes.{read_frame, read_type}
+use Rattle.flow_code.specs.FlatCode.{FlatCode}
 use Rattle.flow_code.specs.WrittenUnits.{greatest_depth}
-use Rattle.flow_code.specs.declared.point.Point.{Point}
 use Rattle.flow_code.specs.declared.point.Site.{Site}
-use Rattle.making_code.specs.StateFrames.{field_types as types_of_fields, site_types_from, state_frame}
+use Rattle.making_code.specs.StateFrames.{field_types as types_of_fields, site_types_from}
 use Rattle.member_link.specs.Assignability.{IsAssignable, from_null, of_names, to_same, to_top}
-use Rattle.member_link.specs.Rows.FrameAssignability.{AreAssignable, is_uninit_this}
-use Rattle.plan_flow.specs.Written.FramedCode.{frame_by_item, type_by_item}
+use Rattle.member_link.specs.Rows.FrameAssignability.{AreAssignable}
+use Rattle.plan_flow.specs.Written.FramedCode.{type_by_item}
 use Rattle.plan_flow.specs.Written.Finish.{Finished}
-use Rattle.plan_flow.specs.Written.Routes.{RouteEdge, edge_by}
 use Rattle.plan_flow.specs.Written.WrittenCode.{Form}
-use Rattle.plan_flow.specs.declared.edge.EdgeKind.TheVariants as edges
-use Rattle.virtual_state.specs.States.{State, is_present}
-use Rattle.virtual_state.specs.declared.slot.Slot.{Slot}
+use Rattle.virtual_state.specs.States.{is_present}
 use Rattle.virtual_state.specs.declared.slot.VObject.{VObject}
-use Rattle.written_types.proofs.AgreeingFrames.{agrees_with_itself, keeps_no_this}
-use Rattle.written_types.proofs.Given.{EdgesFit, EndsCarry, FitsState, Given, frame_at_state, locals_in, written_along}
-use Rattle.written_types.proofs.ItemSteps.{frame_of}
-use Rattle.written_types.proofs.SlotFrames.{agree_both, agree_long, grouped, slots_frame, state_is, units_behind}
+use Rattle.written_types.proofs.SlotFrames.{units_behind}
 use Rattle.written_types.proofs.FieldUnits.{bare, fields_long, units_for}
-use Rattle.written_types.proofs.StoredUnits.{Suits}
-use Rattle.written_types.proofs.Templates.{Before, By, along, fits, objects_behind, read, state}
-use Rattle.written_types.specs.Writing.{AgreeIn, Agrees, Writing, scope_in}
+use Rattle.written_types.specs.Inner.CarriedFrames.{AgreeIn}
 
 -- ---- types of values
 

@@ -1,27 +1,19 @@
 -- Each edge of a plan is written: control falls on to its target, an item leads there, or blocks between write nothing.
-use Rattle.std.proofs.Common.{◌≡◌, ◌≢◌, ◌⊎◌, ◌+◌, ◌==◌, ◌||◌, ◌<◌, ◌≤◌, ℕ, zero, suc, Bool, true, false, List, [], ◌∷◌, ◌++◌, drop, length, map, take, slice_get, Option, Some, None, option_map, refl, sym, ap, subst, ◌∙◌, inl, inr, arith}
-use Rattle.std.specs.List.{AllByRecursion, find, flat_map, list_any}
-use Rattle.std.proofs.lemmas.Bool.{eq-eqb, eqb-true, false≢true}
-use Rattle.std.proofs.lemmas.List.{append-nil, append_assoc, length-append}
+use Rattle.std.proofs.Common.{◌≡◌, ◌+◌, ◌<◌, ◌≤◌, ℕ, zero, suc, Bool, true, false, List, [], ◌∷◌, ◌++◌, drop, length, take, slice_get, Some, refl, sym, ap, subst, ◌∙◌, arith}
+use Rattle.std.specs.List.{AllByRecursion, find}
+use Rattle.std.proofs.lemmas.Bool.{eq-eqb, false≢true}
 use Rattle.std.proofs.lemmas.Option.{none-some, same_Some}
-use Rattle.class_model.specs.Instructions.{targets}
-use Rattle.class_model.specs.declared.instr.Instr.{Instr}
-use Rattle.class_model.specs.declared.instr.Instr.TheVariants.{Goto, If, If2, IfNull, IfSame, Lookup, Table}
-use Rattle.flow_code.specs.FlatCode.{FlatCode, point_at}
-use Rattle.flow_code.specs.declared.point.FlatInstr.{FlatInstr}
-use Rattle.flow_code.specs.declared.point.FlatInstr.TheVariants.{Of, NullTest}
+use Rattle.flow_code.specs.FlatCode.{point_at}
 use Rattle.flow_code.specs.declared.point.Point.{Point}
-use Rattle.making_code.specs.Items.{WItem, WTarget, to_handler_pad, to_jump_pad, to_point}
-use Rattle.plan_flow.specs.Laws.RoutedPlans.{HasRoute, route_at}
+use Rattle.making_code.specs.Items.{WItem}
 use Rattle.plan_flow.specs.Laws.WrittenBlocks.{block_finished, split_at}
-use Rattle.plan_flow.specs.Laws.WrittenPads.{ComesTo, StandsFirst, comes_nowhere, comes_over, handler_pad_stands, jump_pad_stands, pad_block}
-use Rattle.plan_flow.specs.Plans.{AllLead, MadeEdge, Plan, PlannedPoint, planned, state_left}
-use Rattle.plan_flow.specs.Written.Blocks.{Block, BlockOf, blocks_of, handler_pad, instruction_block, is_decided, jump_pad, of_point}
+use Rattle.plan_flow.specs.Laws.WrittenPads.{ComesTo, StandsFirst, comes_nowhere, comes_over, pad_block}
+use Rattle.plan_flow.specs.Plans.{AllLead, MadeEdge, Plan}
+use Rattle.plan_flow.specs.Written.Blocks.{Block, BlockOf, blocks_of, instruction_block}
 use Rattle.plan_flow.specs.Written.Finish.{End, Finished, begins_point, comes_to, end_items, end_of, finish, finished_items, goto_end, is_empty}
-use Rattle.plan_flow.specs.Written.FramedCode.{is_led_to, leads_to}
-use Rattle.plan_flow.specs.Written.Routes.{AreEdgeRoutes, IsRoute, Route, RouteEdge, Routes, edge_by, is_kind}
-use Rattle.plan_flow.specs.Written.WrittenCode.{Form, block_items, in_form, short, start_of, target_number, wide, written_items}
-use Rattle.plan_flow.specs.Written.WrittenConstants.{indexed_item}
+use Rattle.plan_flow.specs.Written.FramedCode.{is_led_to}
+use Rattle.plan_flow.specs.Written.Routes.{AreEdgeRoutes, Route, RouteEdge, Routes, is_kind}
+use Rattle.plan_flow.specs.Written.WrittenCode.{Form, block_items, in_form, short, start_of, wide, written_items}
 use Rattle.plan_flow.specs.declared.edge.Edge.{Edge}
 use Rattle.plan_flow.specs.declared.edge.EdgeKind.{EdgeKind}
 use Rattle.plan_flow.specs.declared.edge.EdgeKind.TheVariants as edges
@@ -29,12 +21,11 @@ use Rattle.written_types.proofs.BlockEnds.{goto_item}
 use Rattle.written_types.proofs.BlockKinds.{finished}
 use Rattle.written_types.proofs.CarriedBlocks.{Inside, stands_inside}
 use Rattle.written_types.proofs.EdgeTargets.{edges_fit}
-use Rattle.written_types.proofs.EdgesWritten.{EdgeWritten, EdgesWritten, goes_next, is_led, over_empties}
+use Rattle.written_types.proofs.EdgesWritten.{EdgeWritten, is_led, over_empties}
 use Rattle.written_types.proofs.FramedBodies.{leads_to_item}
 use Rattle.written_types.proofs.Given.{Given}
 use Rattle.written_types.proofs.NewItems.{OwnBlock, own_block}
 use Rattle.written_types.proofs.Placing.{items_and_end}
-use Rattle.written_types.proofs.RouteEdges.{EdgeComes, edge_comes, edge_number, next_to}
 use Rattle.written_types.specs.Writing.{Writing, items_in}
 
 -- ---- lists

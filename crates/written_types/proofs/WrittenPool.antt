@@ -1,8 +1,7 @@
 -- What the constants of an instruction that is written as it is mean in the pool of written code.
-use Rattle.std.proofs.Common.{◌≡◌, ◌≢◌, ◌+◌, ◌++◌, ℕ, zero, suc, Bool, true, false, List, [], ◌∷◌, drop, length, map, slice_get, take, Option, Some, None, option_and_then, option_map, if◌then◌else◌, refl, sym, ap, subst, ◌∙◌, arith}
+use Rattle.std.proofs.Common.{◌≡◌, ◌++◌, ℕ, false, List, [], ◌∷◌, slice_get, Option, Some, None, option_and_then, option_map, refl, sym, ap, subst, ◌∙◌}
 use Rattle.std.specs.Prelude.{◌==◌}
-use Rattle.std.specs.List.{AllByRecursion, flat_map}
-use Rattle.std.proofs.lemmas.Bool.{eqb-true, eq-eqb}
+use Rattle.std.specs.List.{flat_map}
 use Rattle.std.proofs.lemmas.List.{append_assoc}
 use Rattle.std.proofs.lemmas.Option.{none-some, same_Some}
 use Rattle.class_model.specs.Pool.{Constants, constant_at}
@@ -21,13 +20,12 @@ use Rattle.making_code.specs.IndexedMaking.{index_of_last}
 use Rattle.making_code.specs.Items.{WCatch, WItem, carried}
 use Rattle.making_code.specs.Laws.GrownPools.{Begins, begins_through, grow_begins, grow_both}
 use Rattle.member_link.specs.Signatures.{reference_of}
-use Rattle.member_link.specs.Scope.{Scope, scope_at, scope_of}
+use Rattle.member_link.specs.Scope.{Scope, scope_of}
 use Rattle.plan_flow.specs.PlanScope.{PlanScope, pool_of}
 use Rattle.plan_flow.specs.Written.WrittenCode.{short, written_items}
-use Rattle.plan_flow.specs.Written.WrittenConstants.{carried_instr, carried_needs, catch_needs, code_needs, instr_needs, item_needs, named_index, needs_of_index, with_index}
+use Rattle.plan_flow.specs.Written.WrittenConstants.{carried_needs, catch_needs, code_needs, instr_needs, item_needs, named_index, needs_of_index}
 use Rattle.written_types.proofs.Given.{Given}
-use Rattle.written_types.proofs.ItemRows.{own_index, with_own}
-use Rattle.written_types.proofs.MeantConstants.{Means}
+use Rattle.making_code.specs.Laws.MeantConstants.{Means}
 use Rattle.written_types.proofs.NamedConstants.{meant_named}
 use Rattle.written_types.specs.Writing.{Writing}
 

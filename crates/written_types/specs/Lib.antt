@@ -1,3 +1,4 @@
 pub mod FitsTypes
+pub mod Inner
 pub mod Setting
 pub mod Writing

@@ -1,19 +1,24 @@
 //! Types along the ways that a plan leads.
-ghost use Rattle.std.specs.Prelude.{ℕ, Bool};
+ghost use Rattle.std.specs.Prelude.{ℕ, Bool, List, Option, ◌≤◌};
+ghost use Rattle.class_model.specs.declared.frame.Frame.{Frame};
 ghost use Rattle.class_tree.specs.Headers.{Classes, headers_of};
 ghost use Rattle.class_tree.specs.Trees.{IsTree};
 ghost use Rattle.expanded_code.specs.CandidateSites.{HasCandidateSites};
 ghost use Rattle.flow_code.specs.FlatCode.{FlatCode};
+ghost use Rattle.member_link.specs.BodyTyping.{HasFrames};
 ghost use Rattle.member_link.specs.Machine.Links.{AreLinksOf};
 ghost use Rattle.member_link.specs.Machine.Programs.{Links};
 ghost use Rattle.member_link.specs.Scope.{Scope};
 ghost use Rattle.plan_flow.specs.PlanScope.{PlanScope, scope_of};
 ghost use Rattle.plan_flow.specs.Plans.{IsValid, Plan};
+ghost use Rattle.plan_flow.specs.Written.FramedCode.{IsFramed, greatest_of};
 ghost use Rattle.plan_flow.specs.Written.Routes.{IsRouted, Routes};
 ghost use Rattle.same_runs.specs.ReadyCode.{IsReadyCode};
 ghost use Rattle.virtual_state.specs.States.{State};
 ghost use Rattle.virtual_state.specs.Without.{without};
 ghost use Rattle.written_types.specs.FitsTypes.{FitsRoutes, FitsTypes};
+ghost use Rattle.written_types.specs.Setting.{Setting};
+ghost use Rattle.written_types.specs.Writing.{Writing, body_in, items_in, points_in};
 
 /// A valid plan of a flat code from which code can be written keeps its types: in the state of each reached point, before and after objects are made
 /// there, and in the state behind each edge, what holds a virtual object may hold one of its class; each uninitialised object that is none of a
@@ -38,3 +43,26 @@ pub fn made_objects_keep_types()
         → FitsTypes s reached at state
         → FitsTypes s reached at (without state away) }
 {}
+
+/// Frames type written code (JVM Specification SE 8, 4.10.1), and there are such frames.
+///
+/// The code is written by the routes of a valid plan of a flat code that is ready, in the short or in the wide form, in a pool that has its constants;
+/// its frames are stated where the definition of written code states them, and its stack may be as deep as those frames are.
+pub fn frames_type_written_code()
+    ensures types { (w : Writing) (state : ℕ → Option Frame) (frames : List Frame)
+        → Setting w
+        → IsFramed w.s.flat w.form w.blocks (items_in w) (body_in w state) frames
+        → greatest_of (points_in w) frames ≤ w.max_stack
+        → HasFrames (body_in w state) frames }
+    ensures there { (w : Writing)
+        → Setting w
+        → (state : ℕ → Option Frame) × (frames : List Frame)
+        × IsFramed w.s.flat w.form w.blocks (items_in w) (body_in w state) frames }
+{
+    class_model::parameters_of_bytes_are_spelled();
+    class_model::constants_compare_by_value();
+    class_tree::classes_of_a_tree_are_a_hierarchy();
+    member_link::a_look_up_finds_one_field();
+    member_link::a_found_field_is_above();
+    plan_flow::effect_grows();
+}

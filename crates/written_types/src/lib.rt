@@ -3,4 +3,4 @@
 
 mod laws;
 
-pub use laws::{made_objects_keep_types, ways_of_a_plan_keep_types};
+pub use laws::{frames_type_written_code, made_objects_keep_types, ways_of_a_plan_keep_types};

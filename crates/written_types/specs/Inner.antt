@@ -1,0 +1,2 @@
+-- Words of this crate's proofs.
+pub mod CarriedFrames
