@@ -29,6 +29,3 @@ pub mod Meanings
 pub mod Complete
 pub mod SettledRuns
 pub mod WrittenTrees
-pub mod WordBounds
-pub mod GeneratedTrees
-pub mod RunsTold

@@ -5,7 +5,6 @@ pub mod ReadingSteps
 pub mod ReadFiles
 pub mod Optimising
 pub mod Both
-pub mod Generating
 pub mod Scripts
 pub mod Listing
 pub mod Linking

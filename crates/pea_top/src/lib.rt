@@ -4,7 +4,6 @@
 mod both;
 mod explaining;
 mod folder;
-mod generating;
 mod laws;
 mod lines;
 mod linking;
