@@ -3,3 +3,4 @@ pub mod Methods
 pub mod Folders
 pub mod Lines
 pub mod WellWritten
+pub mod Verifying
