@@ -2,3 +2,4 @@ pub mod AlonePrograms
 pub mod ByteCodes
 pub mod CarriedConstants
 pub mod ExpandedPrograms
+pub mod UsableNames
