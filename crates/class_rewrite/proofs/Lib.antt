@@ -14,4 +14,7 @@ pub mod WrittenMethods
 pub mod WrittenSorts
 pub mod WrittenClasses
 pub mod MadeClasses
+pub mod GrownFolders
+pub mod GrownTrees
+pub mod StackRoom
 pub mod WholeFolders

@@ -3,6 +3,7 @@
 
 mod folder;
 mod laws;
+mod ready_laws;
 mod reasons;
 mod report;
 
