@@ -1,26 +1,24 @@
 -- The classes of a written folder are a tree as those of the folder are: they have the same names and the same classes above them.
-use Rattle.std.proofs.Common.{◌≡◌, ◌+◌, ◌<◌, ◌≤◌, ◌++◌, ◌∙◌, ℕ, zero, suc, Bool, true, false, cond, List, [], ◌∷◌, length, map, bytes_eq, count_by, slice_index_or, Option, Some, None, IfSome, IsSome, IsTrue, IsFalse, option_map, refl, sym, ap, subst, arith}
+use Rattle.std.proofs.Common.{◌≡◌, ◌+◌, ◌≤◌, ◌++◌, ◌∙◌, ℕ, zero, suc, Bool, true, false, cond, List, [], ◌∷◌, length, bytes_eq, count_by, slice_index_or, Option, Some, None, IfSome, IsSome, IsTrue, IsFalse, option_map, refl, sym, ap, subst, arith}
 use Rattle.std.specs.List.{AllByRecursion, list_any}
 use Rattle.std.specs.Cmp.Lexicographic.{slice_cmp}
 use Rattle.std.specs.Ordering.{is_lt, nat_cmp}
-use Rattle.std.proofs.lemmas.Bool.{false≢true}
 use Rattle.std.proofs.lemmas.List.Sums.{sum_by-cons}
-use Rattle.std.proofs.lemmas.Option.{none-some, same_Some}
+use Rattle.std.proofs.lemmas.Option.{none-some}
 use Rattle.std.proofs.lemmas.Slice.Eq.{bytes_eq-Decides}
 use Rattle.class_model.specs.Checks.{AllHold, Check, asked_each, asked_if}
-use Rattle.class_model.specs.Header.{header_of}
 use Rattle.class_model.specs.Laws.Checks.{both_hold, first_holds, others_hold}
 use Rattle.class_model.specs.Laws.Lists.{AllByRecursion-weaker}
 use Rattle.class_model.specs.Members.{FINAL, INTERFACE, has}
 use Rattle.class_model.specs.declared.class_file.ClassFile.{ClassFile}
 use Rattle.class_model.specs.declared.header.Header.{Header}
 use Rattle.class_model.specs.declared.pool.Const.{Const}
-use Rattle.class_tree.specs.Alike.{AreAllAlike, AreAlike, IsAlike}
+use Rattle.class_tree.specs.Alike.{AreAllAlike, AreAlike}
 use Rattle.class_tree.specs.Headers.{Classes, Headers, IsClassFile, IsThere, Name, class_named, headers_of, named}
 use Rattle.class_tree.specs.Laws.Alike.{alike_shape, alike_shapes, below_alike, class_same, shape_of, shapes, there_alike}
 use Rattle.class_tree.specs.Names.{base_names, cloneable, is_interface, machine_throwables, method_handle, method_type, object, serializable, throwable}
 use Rattle.class_tree.specs.Problems.{Problem, check}
-use Rattle.class_tree.specs.Steps.{FitsKinds, HasOneConstructor, IsExtensible, IsOutside, base_checks, folder_checks, has_constant, hierarchy_checks, is_method_handle, is_method_type, library_checks, needed_class_checks, step_checks, supers}
+use Rattle.class_tree.specs.Steps.{FitsKinds, HasOneConstructor, IsOutside, base_checks, folder_checks, has_constant, hierarchy_checks, is_method_handle, is_method_type, library_checks, needed_class_checks, supers}
 use Rattle.class_tree.specs.Subtype.{IsBelow}
 use Rattle.class_tree.specs.declared.fault.LinkRule.TheVariants as rules
 use Rattle.class_tree.specs.Trees.{AreHeadersInOrder, IsInOrder, IsTree, times}

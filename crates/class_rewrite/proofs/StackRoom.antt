@@ -1,5 +1,5 @@
 -- How deep the stack may be is read neither by the frame behind an instruction, nor by the frames of written code.
-use Rattle.std.proofs.Common.{◌≡◌, ◌==◌, ℕ, zero, suc, max, Bool, true, false, List, [], ◌∷◌, ◌++◌, bytes_eq, length, map, slice_get, Option, Some, None, option_map, if◌then◌else◌, refl, sym, ap, subst, ◌∙◌}
+use Rattle.std.proofs.Common.{◌≡◌, ◌==◌, ℕ, zero, suc, max, Bool, true, false, List, [], ◌∷◌, ◌++◌, bytes_eq, length, map, slice_get, Option, Some, None, option_map, if◌then◌else◌, refl, sym, ap, ◌∙◌}
 use Rattle.class_model.specs.Frames.{depth}
 use Rattle.class_model.specs.Names.{init}
 use Rattle.class_model.specs.Pool.{Constants, constant_at}
@@ -15,11 +15,11 @@ use Rattle.class_model.specs.declared.pool.Const.{Const}
 use Rattle.class_model.specs.declared.pool.Const.TheVariants as consts
 use Rattle.flow_code.specs.FlatCode.{FlatCode}
 use Rattle.making_code.specs.IndexedItems.{IndexedItem}
-use Rattle.member_link.specs.Bodies.{Body, BodyPoint, frame_behind, item_falls_through}
+use Rattle.member_link.specs.Bodies.{Body, frame_behind, item_falls_through}
 use Rattle.member_link.specs.Machine.Replaced.{map_numbered}
 use Rattle.member_link.specs.References.{Reference}
 use Rattle.member_link.specs.RowScope.{RowScope}
-use Rattle.member_link.specs.Rows.MemberRows.{call_row, dynamic_row, get_field_row, init_row, initialised_type, put_field_row, receiver, result_types, return_row, special_row, static_row}
+use Rattle.member_link.specs.Rows.MemberRows.{call_row, dynamic_row, get_field_row, init_row, initialised_type, put_field_row, receiver, result_types, return_row}
 use Rattle.member_link.specs.Rows.Operands.{under}
 use Rattle.member_link.specs.Rows.Row.{Row, either, row_frame}
 use Rattle.member_link.specs.Rows.Table.{row_of}

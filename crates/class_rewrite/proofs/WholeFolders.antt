@@ -1,5 +1,5 @@
 -- What typing, laying out and linking say of a written folder, put together.
-use Rattle.std.proofs.Common.{◌≡◌, ℕ, zero, suc, nat_le, Bool, true, false, List, [], ◌∷◌, length, slice_get, Some, if◌then◌else◌, sym, ap, subst, ◌∙◌}
+use Rattle.std.proofs.Common.{◌≡◌, ℕ, zero, suc, List, [], ◌∷◌, length, slice_get, Some, ap, subst, ◌∙◌}
 use Rattle.std.specs.List.{AllByRecursion}
 use Rattle.std.proofs.lemmas.Option.{none-some, same_Some}
 use Rattle.class_model.specs.Code.{OperandFits}
@@ -11,14 +11,14 @@ use Rattle.class_model.specs.declared.class_file.Method.{Method}
 use Rattle.class_model.specs.declared.class_file.MethodAt.{MethodAt}
 use Rattle.class_model.specs.declared.instr.Instr.{Instr}
 use Rattle.making_code.specs.Laws.AddedConstants.{Compares}
-use Rattle.class_rewrite.proofs.NoHandles.{AddsNoHandles, adds_nothing, adds_through, code_none, constructor_none, grow_none, table_none}
+use Rattle.class_rewrite.proofs.AddedConstants.{class_adds}
 use Rattle.class_rewrite.proofs.WrittenClasses.{IsKnown}
 use Rattle.class_rewrite.proofs.WrittenFolders.{IsRewrittenHost, rewritten_host}
 use Rattle.class_rewrite.proofs.WrittenSorts.{sorts_are}
 use Rattle.class_rewrite.specs.Inner.ReadyFolders.{IsReadyFolder}
 use Rattle.class_rewrite.specs.Optimised.{with_folder}
-use Rattle.class_rewrite.specs.Rewriting.Folders.{AddsMethods, IsClassWritten, IsFolderWritten, IsMade, IsPoolBefore, IsRewrittenAt, adds_none, adds_one, at_first, behind_kept, behind_rewritten}
-use Rattle.class_rewrite.specs.Rewriting.Methods.{IsRewritten, Rewriting, Rewritten, short_items}
+use Rattle.class_rewrite.specs.Rewriting.Folders.{IsClassWritten, IsFolderWritten, IsMade, IsPoolBefore, IsRewrittenAt}
+use Rattle.class_rewrite.specs.Rewriting.Methods.{Rewriting, Rewritten}
 use Rattle.class_rewrite.specs.Rewriting.WellWritten.{IsWellWritten}
 use Rattle.class_tree.specs.Headers.{Headers, IsClassFile, headers_of}
 use Rattle.class_tree.specs.Trees.{IsTree}
@@ -36,9 +36,7 @@ use Rattle.member_link.specs.Machine.Codes.{call_op, instr_op}
 use Rattle.member_link.specs.Machine.Programs.{Links}
 use Rattle.member_link.specs.References.{Reference}
 use Rattle.member_link.specs.RowScope.{RowScope}
-use Rattle.plan_flow.specs.Written.WrittenConstants.{code_needs}
 use Rattle.plan_flow.specs.Written.WrittenPrograms.{constructor_method, plan_scope}
-use Rattle.stackmap_emit.specs.FrameConstants.{table_needs}
 use Rattle.stackmap_emit.specs.PlacedFrames.{spelled_in}
 use Rattle.type_rules.specs.Grown.{AreGrownHeaders, IsGrownClass, IsGrownHeader, IsGrownOver}
 
@@ -75,37 +73,10 @@ module _ (laws : HaveLaws) (r : Rewriting) (files : List ClassFile) (w : IsFolde
   where
     -- ---- method handles
 
-    method_adds : (at : MethodAt) (pool : Constants) (v : Rewritten) → IsRewritten r at pool v → AddsNoHandles pool v.pool
-    method_adds at pool v is =
-        adds_through pool v.code_pool v.pool
-        (grow_none 64535 (code_needs (plan_scope r.classes r.links v.one) r.constructor (short_items r v.one)) pool v.code_pool
-        (code_none (plan_scope r.classes r.links v.one) r.constructor (short_items r v.one)) is.coded.grows)
-        (by (nat_le 50 is.host.class.major) is.grows) where
-          by : (b : Bool) → (if b then grow 64535 v.code_pool (table_needs v.stated) else Some v.code_pool) ≡ Some v.pool → AddsNoHandles v.code_pool v.pool
-          by true e = grow_none 64535 (table_needs v.stated) v.code_pool v.pool (table_none v.stated) e
-          by false e = subst (AddsNoHandles v.code_pool) (same_Some v.code_pool v.pool e) (adds_nothing v.code_pool)
-
-    methods_add : (class : ℕ) (file : ClassFile) (number : ℕ) (pool : Constants) → IsPoolBefore r class file number pool → AddsNoHandles file.pool pool
-    methods_add class file zero pool at_first = adds_nothing file.pool
-    methods_add class file (suc number) pool (behind_kept before has kept) = methods_add class file number pool before
-    methods_add class file (suc number) _ (behind_rewritten {pool = pool} {w = v} before is) =
-        adds_through file.pool pool v.pool (methods_add class file number pool before) (method_adds (record { class = class; method = number }) pool v is)
-
-    class_adds : (class : ℕ) (file also : ClassFile) → IsClassWritten r w.written w.s class file also → AddsNoHandles file.pool also.pool
-    class_adds class file also is =
-        subst (AddsNoHandles file.pool) (sym (ap (λ (c : ClassFile). c.pool) is.is))
-        (adds_through file.pool is.code_pool is.pool (methods_add class file (length file.methods) is.code_pool is.before_constructors)
-        (by is.added is.adds)) where
-          by : {pool last : Constants} (added : List Method) → AddsMethods r w.written file pool last added → AddsNoHandles pool last
-          by {pool} _ (adds_none none) = adds_nothing pool
-          by {pool} {last} _ (adds_one made grows is_method) =
-              grow_none 65535 (constructor_method_needs (headers_of r.classes) r.constructor (header_of file).name) pool last
-              (constructor_none (headers_of r.classes) r.constructor (header_of file).name) grows
-
     class_handles : (class : ℕ) (file also : ClassFile) → slice_get r.classes.folder class ≡ Some file → IsClassWritten r w.written w.s class file also
         → handles_in also.pool also.pool ≡ handles_in file.pool file.pool
     class_handles class file also there is =
-        let adds = class_adds class file also is in
+        let adds = class_adds r w.written w.s class file also is in
         laws.handles file also (record (ready.grown class file also there is) { more = adds.more; pool = adds.is })
         (each_file r.classes.folder class file tree.folder there) adds.none
 

@@ -1,6 +1,6 @@
 -- What is known of a written folder by the laws of the crates below, where the folder verifies: its methods' flat codes are ready, its classes have
 -- grown, and the field constructors that are added are new.
-use Rattle.std.specs.Prelude.{◌≡◌, ℕ, List, [], ◌∷◌, length, slice_get, Option, Some, None, option_map}
+use Rattle.std.specs.Prelude.{◌≡◌, ℕ, List, [], ◌∷◌, length, slice_get, Some, None, option_map}
 use Rattle.class_model.specs.Header.{header_of}
 use Rattle.class_model.specs.Names.{init}
 use Rattle.class_model.specs.Pool.{Constants}
