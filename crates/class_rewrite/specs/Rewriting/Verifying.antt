@@ -48,7 +48,7 @@ pub record IsAddedIn (r : Rewriting) (files : List ClassFile) (w : IsFolderWritt
     (file : ClassFile) (s : Scope)
     : Type 0 where
   pub of_folder : slice_get r.classes.folder class ≡ Some file
-  pub class : slice_get files class ≡ Some s.class
+  pub of_written : slice_get files class ≡ Some s.class
   pub written : IsClassWritten r w.written w.s class file s.class
   pub headers : s.headers ≡ headers_of (with_folder r.classes files)
   pub made : IsMade r w.written (header_of file).name
@@ -82,7 +82,7 @@ pub record IsMethodSound (r : Rewriting) (at : MethodAt) (v : Rewritten) (host n
 -- there.
 pub record IsFolderSound (r : Rewriting) (files : List ClassFile) (w : IsFolderWritten r files)
     : Type 0 where
-  pub files : AllByRecursion IsClassFile files
+  pub class_files : AllByRecursion IsClassFile files
   pub methods : (at : MethodAt) (v : Rewritten) (host now : Scope)
       → IsWrittenIn r files w at v host now
       → IsMethodSound r at v host now

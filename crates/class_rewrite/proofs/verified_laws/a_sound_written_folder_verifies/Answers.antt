@@ -59,7 +59,7 @@ module _ (c : goal.After-what_types_items_types_the_laid_method) (r : Rewriting)
   tree =
       grown_tree r.classes.library r.classes.folder files
       (c.grown_classes_are_found_alike.ensures.alike (headers_of r.classes) after ready.headers) (handles_same r files w) (types_same r files w)
-      sound.files verified.tree
+      sound.class_files verified.tree
 
   linked : IsLinked (with_folder r.classes files)
   linked =
