@@ -15,6 +15,7 @@ use Rattle.class_rewrite.specs.Optimised.{with_folder}
 use Rattle.class_rewrite.specs.Rewriting.Folders.{AddsMethods, AreMethodsWritten, IsFolderWritten, IsMade, IsMethodWritten, IsPoolBefore, adds_none, adds_one, is_kept, is_rewritten}
 use Rattle.class_rewrite.specs.Rewriting.Methods.{Rewriting}
 use Rattle.class_rewrite.specs.Rewriting.Verifying.{IsFolderSound, IsOfVerified, laid_of}
+use Rattle.class_rewrite.specs.Rewriting.WellWritten.{IsWellWritten}
 use Rattle.class_tree.specs.Headers.{Headers, IsClassFile, Name, headers_of}
 use Rattle.flow_code.specs.TypedFrames.{FolderFrames}
 use Rattle.making_code.specs.Constants.{grow}
@@ -52,7 +53,7 @@ both_typed headers class (method ∷ ones) others (one ∷ frames) more all rest
     (all.0, both_typed headers class ones others frames more all.1 rest)
 
 module _ (laws : KeptLaws) (r : Rewriting) (files : List ClassFile) (w : IsFolderWritten r files) (verified : IsOfVerified r)
-    (ready : IsReadyFolder r files w) (sound : IsFolderSound r files w) where
+    (ready : IsReadyFolder r files w) (well : IsWellWritten r files w) (sound : IsFolderSound r files w) where
   abbrev before : Headers
   before = headers_of r.classes
 
@@ -82,7 +83,7 @@ module _ (laws : KeptLaws) (r : Rewriting) (files : List ClassFile) (w : IsFolde
         let host : Scope = record { headers = before; class = file; method = method; part = here.part } in
         let now = now_scope r files w class file also pair method v.part in
         has_typing now.method now (frames_by_offset (laid_of host v is_at.is.framed.state)) here.scope
-        (method_typed r files w verified ready class file also pair number method got v is_at laws.typing
+        (method_typed r files w verified ready class file also pair number method got v is_at laws.typing (well.emitted (numbered r files w class file also pair number) v is_at)
         (sound.methods (numbered r files w class file also pair number) v host now here.is))
 
     abbrev HaveTyping : List Method → Type 0

@@ -18,6 +18,7 @@ use Rattle.class_rewrite.specs.Rewriting.Folders.{IsFolderWritten, IsPoolBefore,
 use Rattle.class_rewrite.specs.Rewriting.Methods.{Rewriting, Rewritten}
 use Rattle.class_rewrite.specs.Rewriting.Verifying.{IsMethodSound, IsOfVerified, laid_of}
 use Rattle.class_tree.specs.Headers.{IsClassFile, headers_of}
+use Rattle.code_layout.specs.Emitting.{IsEmitted}
 use Rattle.code_layout.specs.Layout.{start_in}
 use Rattle.code_layout.specs.PlainItems.{plain_items}
 use Rattle.making_code.specs.Constants.{grow}
@@ -150,7 +151,7 @@ module _ (r : Rewriting) (files : List ClassFile) (w : IsFolderWritten r files) 
     enough = enough;
   }
 
-  module _ (laws : TypingLaws) (sound : IsMethodSound r at v host now) where
+  module _ (laws : TypingLaws) (emitted : IsEmitted v.items) (sound : IsMethodSound r at v host now) where
     typed_items : HasFrames (body (plain_items v.items) room) v.frames
     typed_items =
         let wanted : List IndexedItem = indexed_items s r.constructor v.code_pool v.one.form (finished_of r.classes r.links v.one) in
@@ -181,7 +182,7 @@ module _ (r : Rewriting) (files : List ClassFile) (w : IsFolderWritten r files) 
 
     laid_code : HasLaidCode laid now
     laid_code = record {
-      emitted = sound.emitted;
+      emitted = emitted;
       laid = is_at.is.framed.laid;
       code = is_at.is.code;
       handlers = is_at.is.handlers;
