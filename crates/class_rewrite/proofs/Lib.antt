@@ -32,4 +32,3 @@ pub mod LastItems
 pub mod WrittenSettings
 pub mod EmittedItems
 pub mod LinkedParts
-pub mod SoundFolders

@@ -7,6 +7,7 @@ ghost use Rattle.class_rewrite.specs.Rewriting.Methods.{Rewriting};
 ghost use Rattle.class_rewrite.specs.Rewriting.Verifying.{IsFolderSound, IsOfVerified};
 ghost use Rattle.type_rules.specs.Verified.{IsVerified};
 
+use crate::emitted_laws::rewritten_items_are_emitted_code;
 use crate::laws::a_written_folder_runs_as_its_folder;
 use crate::ready_laws::a_written_folder_is_ready;
 use stackmap_emit::what_types_items_types_the_laid_method;
@@ -29,6 +30,7 @@ pub fn a_sound_written_folder_verifies()
         → IsVerified (with_folder r.classes files) }
 {
     a_written_folder_is_ready();
+    rewritten_items_are_emitted_code();
     grown_classes_are_found_alike();
     a_grown_class_has_a_grown_header();
     grown_classes_declare_what_passes();
@@ -49,5 +51,6 @@ pub fn a_sound_written_folder_keeps_its_meaning()
         → KeepsMeaning r.classes files }
 {
     a_sound_written_folder_verifies();
+    rewritten_items_are_emitted_code();
     a_written_folder_runs_as_its_folder();
 }

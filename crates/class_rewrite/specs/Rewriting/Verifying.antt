@@ -14,7 +14,6 @@ use Rattle.class_rewrite.specs.Rewriting.Folders.{IsClassWritten, IsFolderWritte
 use Rattle.class_rewrite.specs.Rewriting.Methods.{Rewriting, Rewritten}
 use Rattle.class_tree.specs.Headers.{IsClassFile, Name, headers_of}
 use Rattle.class_tree.specs.Trees.{IsTree}
-use Rattle.code_layout.specs.Emitting.{IsEmitted}
 use Rattle.expanded_runs.specs.ByteCodes.{HaveByteCodes}
 use Rattle.making_code.specs.ConstructorCode.{IsConstructorMethod}
 use Rattle.member_link.specs.Linked.{IsLinked}
@@ -74,11 +73,10 @@ laid_of host v state = record {
   frames = v.frames;
 }
 
--- What is asked of each method that is rewritten: its items are emitted code; what its instructions and handlers refer to, and the classes that its
--- frames name, are linked; each item may use the protected member that it names; and the frames that it states are whole.
+-- What is asked of each method that is rewritten: what its instructions and handlers refer to, and the classes that its frames name, are linked; each
+-- item may use the protected member that it names; and the frames that it states are whole.
 pub record IsMethodSound (r : Rewriting) (at : MethodAt) (v : Rewritten) (host now : Scope)
     : Type 0 where
-  pub emitted : IsEmitted v.items
   pub instrs : AllHold (instrs_checks (uses_in now) (decoded now.part.code))
   pub handlers : AllHold (asked_each (handler_use_checks (uses_in now)) now.part.handlers)
   pub stated : AllHold (asked_each (frame_checks (uses_in now))
