@@ -1,11 +1,15 @@
 //! The rewriting of a folder: what becomes of each method and why, and the folder that is written.
 #![tactic(auto)]
 
+mod emitted_laws;
 mod folder;
 mod laws;
+mod ready_laws;
 mod reasons;
 mod report;
+mod verified_laws;
 
+pub use emitted_laws::rewritten_items_are_emitted_code;
 pub use folder::{Optimised, optimise_folder};
 pub use laws::{
     a_method_has_one_reason, a_written_folder_runs_as_its_folder, a_written_folder_runs_the_same,
@@ -13,3 +17,4 @@ pub use laws::{
     expanded_flat_codes_of_a_verified_folder_run_equally,
 };
 pub use report::{Line, Report, is_rewritten, reason_name, rewritten};
+pub use verified_laws::a_sound_written_folder_verifies;
