@@ -31,3 +31,4 @@ pub mod SameHandles
 pub mod LastItems
 pub mod WrittenSettings
 pub mod EmittedItems
+pub mod AccessedItems

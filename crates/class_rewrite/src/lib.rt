@@ -1,6 +1,7 @@
 //! The rewriting of a folder: what becomes of each method and why, and the folder that is written.
 #![tactic(auto)]
 
+mod access_laws;
 mod emitted_laws;
 mod folder;
 mod laws;
@@ -9,6 +10,7 @@ mod reasons;
 mod report;
 mod verified_laws;
 
+pub use access_laws::rewritten_items_may_use_what_they_name;
 pub use emitted_laws::rewritten_items_are_emitted_code;
 pub use folder::{Optimised, optimise_folder};
 pub use laws::{
