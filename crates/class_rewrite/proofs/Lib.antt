@@ -32,3 +32,4 @@ pub mod LastItems
 pub mod WrittenSettings
 pub mod EmittedItems
 pub mod AccessedItems
+pub mod LinkedParts

@@ -3,7 +3,6 @@ ghost use Rattle.std.specs.Prelude.{List};
 ghost use Rattle.code_layout.specs.EmittedCode.{HasCodeOf};
 ghost use Rattle.code_layout.specs.Emitting.{IsEmitted};
 ghost use Rattle.code_layout.specs.Layout.{IsLaid, Spelled};
-ghost use Rattle.code_layout.specs.WideForm.{widened};
 ghost use Rattle.code_layout.specs.declared.emitted.EmitItem.{EmitItem};
 ghost use Rattle.code_layout.specs.declared.laid.Laid.{Laid};
 
@@ -18,8 +17,3 @@ pub fn a_laid_code_means_its_items()
 {
     instructions_are_consecutive();
 }
-
-/// Emitted code is emitted code in the wide form too.
-pub fn emitted_code_that_is_made_wide_is_emitted()
-    ensures { (items : List EmitItem) → IsEmitted items → IsEmitted (widened items) }
-{}

@@ -16,5 +16,5 @@ mod writing;
 pub use chosen_form::{is_short, layout};
 pub use emitted::{Catch, CatchList, EmitItem, EmitItemList, Emitted};
 pub use laid::{Laid, OffsetList};
-pub use laws::{a_laid_code_means_its_items, emitted_code_that_is_made_wide_is_emitted};
+pub use laws::a_laid_code_means_its_items;
 pub use wide_form::{wide_numbers, widened};
