@@ -4,6 +4,7 @@ use Rattle.std.specs.List.{AllByRecursion}
 use Rattle.std.proofs.lemmas.Option.{none-some, same_Some}
 use Rattle.class_model.specs.Checks.{AllHold, Check, asked_each}
 use Rattle.class_model.specs.Laws.Checks.{first_holds, others_hold}
+use Rattle.class_model.specs.Names.{init}
 use Rattle.class_model.specs.declared.class_file.ClassFile.{ClassFile}
 use Rattle.class_model.specs.declared.header.Header.{Header}
 use Rattle.class_tree.specs.Problems.{Problem}
@@ -12,7 +13,6 @@ use Rattle.class_model.specs.Descriptors.{parameters_of}
 use Rattle.class_model.specs.declared.descriptor.FieldType.{FieldType}
 use Rattle.class_model.specs.declared.descriptor.FieldType.TheVariants.{Named}
 use Rattle.class_model.specs.Characters.{boolean_letter, left_bracket}
-use Rattle.class_model.specs.Names.{init}
 use Rattle.class_tree.specs.Headers.{Classes, Headers, Name, class_named, headers_of}
 use Rattle.class_tree.specs.Hierarchy.{IsHierarchy}
 use Rattle.class_tree.specs.Laws.Headers.{own_name}

@@ -1,10 +1,10 @@
 -- Each block of written code carries each frame with which it can begin: so frames type the whole, and there are such frames.
 use Rattle.std.proofs.Common.{◌≡◌, ◌≤◌, ℕ, List, ◌∷◌, ◌++◌, length, slice_get, Option, Some, None, refl}
 use Rattle.class_model.specs.declared.frame.Frame.{Frame}
+use Rattle.expanded_runs.specs.UsableNames.{IsUsableCode}
 use Rattle.flow_code.specs.declared.point.FlatInstr.{FlatInstr}
 use Rattle.flow_code.specs.declared.point.FlatInstr.TheVariants.{Of, NullTest}
 use Rattle.flow_code.specs.declared.point.Point.{Point}
-use Rattle.expanded_runs.specs.UsableNames.{IsUsableCode}
 use Rattle.making_code.specs.IndexedItems.{IndexedItem}
 use Rattle.making_code.specs.Items.{WInstr}
 use Rattle.member_link.specs.BodyTyping.{HasFrames}
