@@ -31,4 +31,5 @@ pub mod SameHandles
 pub mod LastItems
 pub mod WrittenSettings
 pub mod EmittedItems
+pub mod AccessedItems
 pub mod LinkedParts

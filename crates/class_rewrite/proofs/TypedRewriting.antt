@@ -86,7 +86,7 @@ module _ (r : Rewriting) (files : List ClassFile) (w : IsFolderWritten r files) 
   less : number < length file.methods
   less = slice_get_within file.methods number method got
 
-  pool_in_class : Begins v.pool also.pool
+  pub pool_in_class : Begins v.pool also.pool
   pool_in_class =
       let gap : (n : ℕ) × (length file.methods ≡ suc (number + n)) = behind number (length file.methods) less in
       let last : IsPoolBefore r class file (suc (number + gap.0)) pair.is.code_pool =

@@ -2,6 +2,7 @@
 #![tactic(auto)]
 
 mod emitted_laws;
+mod access_laws;
 mod folder;
 mod laws;
 mod ready_laws;
@@ -10,6 +11,7 @@ mod report;
 mod verified_laws;
 
 pub use emitted_laws::rewritten_items_are_emitted_code;
+pub use access_laws::rewritten_items_may_use_what_they_name;
 pub use folder::{Optimised, optimise_folder};
 pub use laws::{
     a_method_has_one_reason, a_written_folder_runs_as_its_folder, a_written_folder_runs_the_same,

@@ -35,6 +35,7 @@ nop_holds w number frame = record {
   row = record { operands = subst (AllFit (scope_in w) []) (sym (topmost_none frame.stack)) tt; local = tt; further = tt; access = tt };
   targets = tt;
   handlers = tt;
+  access = λ usable. tt;
 }
 
 pub nop_carries : (w : Writing) (number : ℕ) (frame : Frame) → Carries w number (item (plain Nop) ∷ []) frame (Some frame)
@@ -54,4 +55,5 @@ goto_carries w number to frame leads =
       row = record { operands = subst (AllFit (scope_in w) []) (sym (topmost_none frame.stack)) tt; local = tt; further = tt; access = tt };
       targets = (subst (λ (from : Option Frame). LeadsIn w from (start_of w.form w.blocks (begins_point to))) (sym (kept_frame frame)) leads, tt);
       handlers = tt;
+      access = λ usable. tt;
     }) refl

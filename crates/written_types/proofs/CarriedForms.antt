@@ -15,7 +15,7 @@ use Rattle.making_code.specs.Items.{WItem, ahead, carried, plain}
 use Rattle.making_code.specs.Opposites.{opposite_instr}
 use Rattle.member_link.specs.Bodies.{falls_through, flows_on, frame_behind, point_row}
 use Rattle.member_link.specs.Rows.Operands.{AllFit, under}
-use Rattle.member_link.specs.Rows.Row.{access_aside, row_frame}
+use Rattle.member_link.specs.Rows.Row.{Row, access_aside, row_frame}
 use Rattle.member_link.specs.Rows.Table.{row_of}
 use Rattle.plan_flow.specs.Written.Blocks.{state_written}
 use Rattle.plan_flow.specs.Written.FramedCode.{frame_by_item}
@@ -26,7 +26,7 @@ use Rattle.plan_flow.specs.Written.WrittenConstants.{carried_instr}
 use Rattle.plan_flow.specs.declared.edge.EdgeKind.TheVariants as edges
 use Rattle.virtual_state.specs.States.{State}
 use Rattle.written_types.proofs.BlockEnds.{topmost_none, under_none}
-use Rattle.written_types.proofs.CarriedHolds.{behind_is, carried_item, index, row_is}
+use Rattle.written_types.proofs.CarriedHolds.{behind_is, carried_item, index, own_row}
 use Rattle.written_types.proofs.CarriedWays.{goes_on}
 use Rattle.written_types.proofs.ChangedTypes.{new_item}
 use Rattle.written_types.proofs.Given.{EdgesFit, FitsState, Given, TargetsStand, written_before}
@@ -34,7 +34,8 @@ use Rattle.written_types.proofs.ItemRows.{jumping_falls, jumping_row, jumping_ta
 use Rattle.written_types.proofs.ReadyPoints.{FindsOne}
 use Rattle.written_types.proofs.RowTable.{IsGoing}
 use Rattle.written_types.proofs.WrittenPool.{PoolLaws}
-use Rattle.written_types.specs.Inner.CarriedFrames.{Agrees, Carries, ItemHolds, LeadsIn, RowFits, carries_away, carries_none, carries_on}
+use Rattle.written_types.specs.HeldRows.{RowFits}
+use Rattle.written_types.specs.Inner.CarriedFrames.{Agrees, Carries, ItemHolds, LeadsIn, carries_away, carries_none, carries_on, instr_in}
 use Rattle.written_types.specs.Writing.{Writing, point_in, scope_in}
 use Rattle.written_types.proofs.CarriedHolds.{kept, next_frame}
 use Rattle.written_types.proofs.CarriedItems.{targets_many}
@@ -104,15 +105,17 @@ module _ (w : Writing) (given : Given w) (laws : PoolLaws) (one : FindsOne) (fit
     goes : IsGoing instr
     goes = goes_on instr falls
 
-    over_row : point_row (point_in w number over) frame ≡ point_row (point_in w number item) frame
-    over_row =
+    whole_row : row_of (scope_in w) frame number (instr_in w number over) ≡ row_of (scope_in w) frame number (instr_in w number item)
+    whole_row =
         let found = index w given laws one at base route class instr there is_route none number frame agree here fresh in
-        ap access_aside
-        (jumping_row (scope_in w) frame number ((number + 2) ∷ []) (carried_instr w.s w.pool class other)
+        jumping_row (scope_in w) frame number ((number + 2) ∷ []) (carried_instr w.s w.pool class other)
         ∙ ap (row_of (scope_in w) frame number) (opposite_carried w.s w.pool class instr other is_opposite)
         ∙ same_row (scope_in w) frame number found.new instr other is_opposite
-        (kept w given laws one at base route class instr there is_route none number frame agree here fresh).fits)
-        ∙ sym (row_is w given laws one at base route class instr there is_route none number frame agree here fresh)
+        (kept w given laws one at base route class instr there is_route none number frame agree here fresh).fits
+        ∙ sym (own_row w given laws one at base route class instr there is_route none number frame agree here fresh)
+
+    over_row : point_row (point_in w number over) frame ≡ point_row (point_in w number item) frame
+    over_row = ap access_aside whole_row
 
     over_behind : frame_behind (point_in w number over) frame ≡ Some next
     over_behind = ap (row_frame frame) over_row ∙ next_is goes
@@ -134,6 +137,7 @@ module _ (w : Writing) (given : Given w) (laws : PoolLaws) (one : FindsOne) (fit
           (sym (ap targets over_instr ∙ (opposite_jumps (number + 2) instr other is_opposite).0))
           (subst (λ (found : Option Frame). LeadsIn w found (number + 2)) (sym over_behind) leads, tt);
       handlers = tt;
+      access = λ usable. subst (λ (row : Row). row.access) (sym whole_row) (holds.access usable);
     }
 
     goto_behind : frame_behind (point_in w (suc number) goto) next ≡ Some next
@@ -162,6 +166,9 @@ module _ (w : Writing) (given : Given w) (laws : PoolLaws) (one : FindsOne) (fit
           (jumps_lead w given laws one fit stand at base route class instr there is_route none number frame agree here fresh goes (suc number) 0
           (targets instr) (λ k. let same : k ≡ 0 + k = omega arith in ap (slice_get (targets instr)) same)));
       handlers = tt;
+      access = λ usable.
+          subst (λ (row : Row). row.access)
+          (sym (jumping_row (scope_in w) next (suc number) (map (target_number w.form w.blocks (suc number)) item.targets) (Goto 0))) tt;
     }
 
     goto_away : flows_on (point_in w (suc number) goto) next ≡ None

@@ -9,6 +9,7 @@ use Rattle.class_model.specs.declared.instr.Instr.{Instr}
 use Rattle.class_model.specs.declared.instr.Instr.TheVariants.{New}
 use Rattle.class_tree.specs.Headers.{headers_of}
 use Rattle.expanded_code.specs.ExpandAnswers.{is_initialiser}
+use Rattle.expanded_runs.specs.UsableNames.{IsUsableCode}
 use Rattle.flow_code.specs.FlatCode.{point_at}
 use Rattle.flow_code.specs.ReadTypes.{read_frame}
 use Rattle.flow_code.specs.declared.point.FlatInstr.TheVariants.{Of}
@@ -46,10 +47,12 @@ use Rattle.written_types.proofs.RouteEdges.{planned_route, written_is}
 use Rattle.written_types.proofs.RowTable.{IsGoing, instr_leaves}
 use Rattle.written_types.proofs.SiteFields.{SitesKnown}
 use Rattle.written_types.proofs.StandingFrames.{RowFollows, Stands, left_by_row}
+use Rattle.written_types.proofs.UsedMembers.{instr_access}
 use Rattle.written_types.proofs.Ways.{headers_are, point_known, same_reached, sites}
 use Rattle.written_types.proofs.WrittenPool.{PoolLaws}
 use Rattle.written_types.specs.FitsTypes.{FitsTypes, IsReachedNew, is_reached}
-use Rattle.written_types.specs.Inner.CarriedFrames.{Agrees, RowFits}
+use Rattle.written_types.specs.HeldRows.{RowFits}
+use Rattle.written_types.specs.Inner.CarriedFrames.{Agrees, instr_in}
 use Rattle.written_types.specs.Writing.{Writing, point_in, scope_in}
 
 -- ---- what is known of each point
@@ -162,13 +165,22 @@ module _ (w : Writing) (given : Given w) (laws : PoolLaws) (one : FindsOne) (at 
   abbrev numbers : List ℕ
   numbers = map (target_number w.form w.blocks number) own_item.targets
 
+  pub own_row : row_of (scope_in w) frame number (instr_in w number own_item) ≡ written_own
+  own_row =
+      jumping_row (scope_in w) frame number numbers (carried_instr w.s w.pool class instr) ∙ ap (row_of (scope_in w) frame number) index.is
+
   pub row_is : point_row (point_in w number own_item) frame ≡ access_aside written_own
-  row_is =
-      ap access_aside (jumping_row (scope_in w) frame number numbers (carried_instr w.s w.pool class instr)
-      ∙ ap (row_of (scope_in w) frame number) index.is)
+  row_is = ap access_aside own_row
 
   pub row_holds : RowFits (scope_in w) frame (point_row (point_in w number own_item) frame)
   row_holds = subst (RowFits (scope_in w) frame) (sym row_is) kept.fits
+
+  -- it may use the member that it names
+  pub own_access : IsUsableCode w.s.classes w.host w.s.flat → (row_of (scope_in w) frame number (instr_in w number own_item)).access
+  own_access usable =
+      subst (λ (row : Row). row.access) (sym own_row)
+      (instr_access w given laws (is_reached given.setting.routes) point before (rest_of w.s.flat before.objects) frame stands (site_facts w given) at number
+      route class index.new instr none index.meant kept.operands known.typed.row.operands (usable at point class instr there refl))
 
   abbrev pub next_frame : Frame
   next_frame = left_by_row frame written_own

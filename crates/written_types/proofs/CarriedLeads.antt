@@ -48,7 +48,7 @@ use Rattle.written_types.proofs.WrittenPool.{PoolLaws}
 use Rattle.written_types.specs.FitsTypes.{is_reached}
 use Rattle.written_types.specs.Inner.CarriedFrames.{Agrees, ItemHolds, LeadsIn}
 use Rattle.written_types.specs.Writing.{Writing, point_in}
-use Rattle.written_types.proofs.CarriedHolds.{next_frame, own, own_items}
+use Rattle.written_types.proofs.CarriedHolds.{next_frame, own, own_access, own_items}
 use Rattle.written_types.proofs.CarriedItems.{caught_steady, handlers_lead, targets_many}
 
 module _ (w : Writing) (given : Given w) (laws : PoolLaws) (one : FindsOne) (fit : EdgesFit w given) (stand : TargetsStand w given) (at : ℕ) (base : Point)
@@ -171,4 +171,5 @@ module _ (w : Writing) (given : Given w) (laws : PoolLaws) (one : FindsOne) (fit
     row = row_holds w given laws one at base route class instr there is_route none number frame agree here fresh;
     targets = subst (AllByRecursion (LeadsIn w (frame_behind (point_in w number item) frame))) (sym targets_are) targets_lead;
     handlers = handlers_here;
+    access = own_access w given laws one at base route class instr there is_route none number frame agree here fresh;
   }

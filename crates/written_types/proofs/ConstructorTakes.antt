@@ -1,9 +1,10 @@
 -- The constructors of sites take the fields of their objects.
-use Rattle.std.proofs.Common.{◌≡◌, ◌≢◌, ◌≤◌, ◌++◌, ℕ, zero, suc, List, [], ◌∷◌, replicate, slice_get, Some, sym, ap, subst, ◌∙◌, arith}
+use Rattle.std.proofs.Common.{◌≡◌, ◌≢◌, ◌≤◌, ◌++◌, ℕ, zero, suc, List, [], ◌∷◌, replicate, slice_get, Some, None, sym, ap, subst, ◌∙◌, arith}
 use Rattle.std.specs.List.{AllByRecursion}
 use Rattle.std.proofs.lemmas.Option.{none-some, same_Some}
 use Rattle.class_model.specs.Checks.{AllHold, Check, asked_each}
 use Rattle.class_model.specs.Laws.Checks.{first_holds, others_hold}
+use Rattle.class_model.specs.Names.{init}
 use Rattle.class_model.specs.declared.class_file.ClassFile.{ClassFile}
 use Rattle.class_model.specs.declared.header.Header.{Header}
 use Rattle.class_tree.specs.Problems.{Problem}
@@ -12,7 +13,7 @@ use Rattle.class_model.specs.Descriptors.{parameters_of}
 use Rattle.class_model.specs.declared.descriptor.FieldType.{FieldType}
 use Rattle.class_model.specs.declared.descriptor.FieldType.TheVariants.{Named}
 use Rattle.class_model.specs.Characters.{boolean_letter, left_bracket}
-use Rattle.class_tree.specs.Headers.{Classes, Name, class_named, headers_of}
+use Rattle.class_tree.specs.Headers.{Classes, Headers, Name, class_named, headers_of}
 use Rattle.class_tree.specs.Hierarchy.{IsHierarchy}
 use Rattle.class_tree.specs.Laws.Headers.{own_name}
 use Rattle.class_tree.specs.Layouts.{chain}
@@ -26,12 +27,14 @@ use Rattle.member_link.specs.Laws.FolderClasses.{class_of_folder, folder_index}
 use Rattle.member_link.specs.Signatures.{result_of}
 use Rattle.expanded_code.specs.CandidateSites.{IsSite}
 use Rattle.flow_code.specs.declared.point.Site.{Site}
+use Rattle.member_link.specs.DeclaredMembers.{own_method}
 use Rattle.member_link.specs.FieldConstructors.{HasFieldConstructor, constructor_descriptor}
 use Rattle.written_types.proofs.ConstructorTexts.{ReadsParameters, gives_none, takes}
 use Rattle.written_types.proofs.Given.{Given}
 use Rattle.written_types.proofs.MakingConstants.{make_constants}
 use Rattle.written_types.proofs.MakingPlaces.{MakeConstants, TakesFields}
 use Rattle.written_types.proofs.Standing.{all_at}
+use Rattle.written_types.proofs.Starts.{scope_headers}
 use Rattle.written_types.proofs.WrittenPool.{PoolLaws}
 use Rattle.written_types.specs.Writing.{Writing}
 
@@ -95,6 +98,10 @@ module _ (w : Writing) (given : Given w) (reads : ReadsParameters) where
     no_result =
         ap result_of spelled
         ∙ gives_none w.s.classes given.setting.tree reads one.class constructor.dimensions constructor.has.some few site.candidate.narrow;
+    free =
+        subst (λ (headers : Headers). own_method headers one.class init (w.constructor one.class) ≡ None)
+        (sym (scope_headers w.s.classes w.s.flat.host w.host given.setting.ready.host))
+        (ap (own_method (headers_of w.s.classes) one.class init) spelled ∙ constructor.has.free.undeclared);
   } where
     site : IsSite w.s.classes w.s.flat one
     site = all_at (IsSite w.s.classes w.s.flat) w.s.flat.sites number one given.setting.sites.sites there

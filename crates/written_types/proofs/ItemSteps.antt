@@ -19,7 +19,8 @@ use Rattle.member_link.specs.Rows.ShuffleRows.{Form, Width, form_in, form_row, f
 use Rattle.written_types.proofs.BlockEnds.{topmost_none, under_none}
 use Rattle.written_types.proofs.SlotFrames.{topmost_is, under_is}
 use Rattle.written_types.proofs.Standing.{fit_long}
-use Rattle.written_types.specs.Inner.CarriedFrames.{Carries, RowFits, carries_on}
+use Rattle.written_types.specs.HeldRows.{RowFits}
+use Rattle.written_types.specs.Inner.CarriedFrames.{Carries, carries_on}
 use Rattle.written_types.specs.Writing.{Writing, scope_in}
 
 abbrev pub frame_of : List VType → List VType → Frame
@@ -37,6 +38,7 @@ module _ (w : Writing) (number : ℕ) (frame : Frame) (others : List WItem) (las
         row = record { operands = subst (AllFit (scope_in w) []) (sym (topmost_none frame.stack)) tt; local = tt; further = tt; access = tt };
         targets = tt;
         handlers = tt;
+        access = λ usable. tt;
       })
       (ap (λ (low : List VType). Some (frame_of frame.locals (low ++ type_of_imm imm ∷ []))) (under_none frame.stack)) rest
 
@@ -58,6 +60,7 @@ module _ (w : Writing) (number : ℕ) (frame : Frame) (others : List WItem) (las
         };
         targets = tt;
         handlers = tt;
+        access = λ usable. tt;
       })
       (ap (λ (low : List VType). Some (frame_of frame.locals (low ++ local_entry frame.locals (unit_number w.s.flat unit)))) (under_none frame.stack)
       ∙ ap (λ (entry : List VType). Some (frame_of frame.locals (frame.stack ++ entry))) entry_is) rest where
@@ -81,6 +84,7 @@ module _ (w : Writing) (number : ℕ) (frame : Frame) (others : List WItem) (las
         };
         targets = tt;
         handlers = tt;
+        access = λ usable. tt;
       })
       (ap (λ (value : VType). Some (frame_of (stored (unit_number w.s.flat unit) value frame.locals) (under 1 frame.stack ++ []))) lowest
       ∙ ap (λ (stack : List VType). Some (frame_of (stored (unit_number w.s.flat unit) type frame.locals) stack)) stack_is) rest where
@@ -108,6 +112,7 @@ module _ (w : Writing) (number : ℕ) (frame : Frame) (others : List WItem) (las
             (record { operands = subst (AllFit (scope_in w) (map of_kind o.takes)) (sym top_is) fit; local = tt; further = tt; access = tt });
         targets = tt;
         handlers = tt;
+        access = λ usable. subst (λ (op : Option Operation). (operation_row frame op).access) (sym found) tt;
       })
       (ap (λ (op : Option Operation). row_frame frame (access_aside (operation_row frame op))) found
       ∙ ap (λ (stack : List VType). Some (frame_of frame.locals (stack ++ type_of_kind o.gives ∷ []))) low_is) rest where
@@ -149,6 +154,7 @@ module _ (w : Writing) (number : ℕ) (frame : Frame) (others : List WItem) (las
             (record { operands = subst (AllFit (scope_in w) (map need_of form.takes)) (sym top_is) fit; local = tt; further = tt; access = tt });
         targets = tt;
         handlers = tt;
+        access = λ usable. subst (λ (one : Option Form). (form_row frame one).access) (sym found) tt;
       })
       (ap (λ (one : Option Form). row_frame frame (access_aside (form_row frame one))) found
       ∙ ap (λ (stack : List VType). Some (frame_of frame.locals (stack ++ picked (topmost (length form.takes) frame.stack) form.gives))) low_is

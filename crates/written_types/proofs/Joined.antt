@@ -1,11 +1,14 @@
 -- Each block of written code carries each frame with which it can begin: so frames type the whole, and there are such frames.
-use Rattle.std.proofs.Common.{◌≡◌, ◌≤◌, ℕ, List, ◌∷◌, ◌++◌, length, Option, Some, None, refl}
+use Rattle.std.proofs.Common.{◌≡◌, ◌≤◌, ℕ, List, ◌∷◌, ◌++◌, length, slice_get, Option, Some, None, refl}
 use Rattle.class_model.specs.declared.frame.Frame.{Frame}
+use Rattle.expanded_runs.specs.UsableNames.{IsUsableCode}
 use Rattle.flow_code.specs.declared.point.FlatInstr.{FlatInstr}
 use Rattle.flow_code.specs.declared.point.FlatInstr.TheVariants.{Of, NullTest}
 use Rattle.flow_code.specs.declared.point.Point.{Point}
+use Rattle.making_code.specs.IndexedItems.{IndexedItem}
 use Rattle.making_code.specs.Items.{WInstr}
 use Rattle.member_link.specs.BodyTyping.{HasFrames}
+use Rattle.member_link.specs.Rows.Table.{row_of}
 use Rattle.plan_flow.specs.Written.Blocks.{blocks_of, state_written}
 use Rattle.plan_flow.specs.Written.Finish.{Finished}
 use Rattle.plan_flow.specs.Written.FramedCode.{IsFramed, greatest_of}
@@ -30,6 +33,7 @@ use Rattle.written_types.proofs.FieldReads.{FieldsNumbered}
 use Rattle.written_types.proofs.FramedBodies.{are_had}
 use Rattle.written_types.proofs.FreshBlocks.{blocks_fresh}
 use Rattle.written_types.proofs.Given.{AtInstruction, EdgesFit, EndsCarry, Given, MakesCarry, TargetsStand}
+use Rattle.written_types.proofs.HeldItems.{item_held}
 use Rattle.written_types.proofs.MadeBlocks.{kind_carries}
 use Rattle.written_types.proofs.MakeWhole.{makes_carry}
 use Rattle.written_types.proofs.NoThis.{no_this}
@@ -41,8 +45,9 @@ use Rattle.written_types.proofs.Templates.{Before}
 use Rattle.written_types.proofs.TypedBodies.{AreThere, frames_are_there, frames_type}
 use Rattle.written_types.proofs.Ways.{sites}
 use Rattle.written_types.proofs.WrittenPool.{PoolLaws}
+use Rattle.written_types.specs.HeldRows.{RowFits}
 use Rattle.written_types.specs.Inner.CarriedFrames.{Agrees, BlockCarries, IsFresh, frame_in}
-use Rattle.written_types.specs.Writing.{Writing, body_in, items_in, points_in}
+use Rattle.written_types.specs.Writing.{Writing, body_in, items_in, points_in, scope_in}
 
 -- what laws of other crates say
 pub record LawsBelow : Type 0 where
@@ -129,6 +134,17 @@ module _ (w : Writing) (given : Given w) (laws : LawsBelow) where
       → HasFrames (body_in w state) frames
   written_frames_type state frames framed most =
       frames_type w state frames all_carry (is_deep_enough w frames (are_had w state frames framed) most) (catch_types w given laws.pools fit) framed
+
+  -- Where the host may use what the flat code names, the rows of written items fit, with the access that they ask for.
+  pub written_rows_fit : (state : ℕ → Option Frame) (frames : List Frame)
+      → IsFramed w.s.flat w.form w.blocks (items_in w) (body_in w state) frames
+      → IsUsableCode w.s.classes w.host w.s.flat
+      → (number : ℕ) (item : IndexedItem) (frame : Frame)
+      → slice_get (items_in w) number ≡ Some item
+      → slice_get frames number ≡ Some frame
+      → RowFits (scope_in w) frame (row_of (scope_in w) frame number item.instr)
+  written_rows_fit state frames framed usable number item frame is is_frame =
+      item_held w state frames all_carry framed number item frame is is_frame usable
 
   pub written_frames_are_there : AreThere w
   written_frames_are_there = frames_are_there w all_carry

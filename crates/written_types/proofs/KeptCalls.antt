@@ -228,6 +228,7 @@ module _ (w : Writing) (reached : ℕ → Bool) (f : Frame) (before : State) (re
       further = fresh;
       access = tt;
     };
+    operands = c.top;
     goes = refl;
     unchanged = refl;
     follows = λ goes.
@@ -332,6 +333,7 @@ module _ (w : Writing) (reached : ℕ → Bool) (f : Frame) (before : State) (re
           (news.classes object.at r.class object.own (subst (MayInitialise sc r) object.is further));
       access = tt;
     };
+    operands = c.top;
     goes = refl;
     unchanged = ap (changed w.s before) calls.still;
     follows = λ goes.

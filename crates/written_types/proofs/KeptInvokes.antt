@@ -41,7 +41,7 @@ use Rattle.written_types.specs.Writing.{Writing, scope_in}
 pub without_access : {w : Writing} {before : State} {rest : List VType} {f g : Frame} {p : PlanRow} {row written : Row}
     → RowFollows w before rest f g p row written
     → RowFollows w before rest f g p (access_aside row) written
-without_access r = record { fits = r.fits; goes = r.goes; unchanged = r.unchanged; follows = r.follows }
+without_access r = record { fits = r.fits; operands = r.operands; goes = r.goes; unchanged = r.unchanged; follows = r.follows }
 
 -- ---- tests
 
@@ -167,7 +167,7 @@ module _ (w : Writing) (reached : ℕ → Bool) (f : Frame) (before : State) (re
         subst (λ (p : PlanRow). Follow p (call_row sc rf opcode (Some r)) (call_row (scope_in w) g opcode (Some r))) (sym (row_is false is))
         (other_kept news opcode r (subst (NoneAsked w.s before) (row_is false is) asked) fit further)
 
-  reads_as_it_is : (opcode : ℕ) (r : Reference) → init_template w.s f before (opcode == INVOKESPECIAL) (Some r) ≡ None
+  pub reads_as_it_is : (opcode : ℕ) (r : Reference) → init_template w.s f before (opcode == INVOKESPECIAL) (Some r) ≡ None
       → reading_of_call w.s.flat f opcode (Some r) ≡ reads_itself
   reads_as_it_is opcode r none =
       let test = one_less (opcode == INVOKESPECIAL) (is_object_init r) (is_virtual (held before (operand f (length (parameters_of r.desc)))))

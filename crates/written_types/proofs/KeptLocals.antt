@@ -134,6 +134,7 @@ module _ (w : Writing) (reached : ℕ → Bool) (f : Frame) (before : State) (re
       let there = holds kind at plain h in
       record {
         fits = record { operands = no_operands; local = (there.0.type, there.0.is, there.1); further = tt; access = tt };
+        operands = no_cut.top;
         goes = refl;
         unchanged = refl;
         follows = λ goes. moved w reached f before rest g st (moving f 0 (from_place at ∷ [])) 0 (from_place at ∷ []) (local_entry rf.locals at)
@@ -149,6 +150,7 @@ module _ (w : Writing) (reached : ℕ → Bool) (f : Frame) (before : State) (re
       let there = holds kinds.Int at (held_plain before at none) h in
       record {
         fits = record { operands = no_operands; local = (there.0.type, there.0.is, there.1); further = tt; access = tt };
+        operands = no_cut.top;
         goes = refl;
         unchanged = refl;
         follows = λ goes. moved w reached f before rest g st (moving f 0 []) 0 [] [] [] refl refl no_cut tt;
@@ -205,6 +207,7 @@ module _ (w : Writing) (reached : ℕ → Bool) (f : Frame) (before : State) (re
       further = tt;
       access = tt;
     };
+    operands = c.top;
     goes = refl;
     unchanged = refl;
     follows = λ goes. record {

@@ -1,5 +1,5 @@
 -- Rows of instructions on fields, objects and results that are written as they are.
-use Rattle.std.proofs.Common.{◌≡◌, ◌≢◌, ◌-◌, ℕ, suc, Bool, false, List, [], ◌∷◌, length, slice_get, Option, Some, None, refl, sym, ap, subst, ◌∙◌, inl, inr}
+use Rattle.std.proofs.Common.{◌≡◌, ◌≢◌, ◌-◌, ℕ, suc, Bool, false, List, [], ◌∷◌, length, map, slice_get, Option, Some, None, refl, sym, ap, subst, ◌∙◌, inl, inr}
 use Rattle.class_model.specs.Code.{verification_type}
 use Rattle.class_model.specs.declared.descriptor.FieldType.{FieldType}
 use Rattle.class_model.specs.declared.descriptor.FieldType.TheVariants as field_types
@@ -51,7 +51,7 @@ type_steady field_types.Float = tt
 type_steady field_types.Double = tt
 type_steady (field_types.Named name) = tt
 
-top_to_object : {headers : Headers} (name : Name) → IsAssignable headers types.Top (types.Object name) → ⊥
+pub top_to_object : {headers : Headers} (name : Name) → IsAssignable headers types.Top (types.Object name) → ⊥
 top_to_object {headers} name is = by is refl refl where
   by : {from to : VType} → IsAssignable headers from to → from ≡ types.Top → to ≡ types.Object name → ⊥
   by (to_same type) one other = let e = sym one ∙ other in absurd cc
@@ -96,6 +96,11 @@ module _ (w : Writing) (reached : ℕ → Bool) (f : Frame) (before : State) (re
 
   no_needs : AllFit sc [] (topmost 0 rf.stack)
   no_needs = subst (AllFit sc []) (sym (topmost_none rf.stack)) tt
+
+  none_agree : AgreeIn (topmost 0 g.stack) (map (by_item w) (topmost 0 rf.stack))
+  none_agree =
+      subst (λ (types : List VType). AgreeIn types (map (by_item w) (topmost 0 rf.stack))) (sym (topmost_none g.stack))
+      (subst (λ (types : List VType). AgreeIn [] (map (by_item w) types)) (sym (topmost_none rf.stack)) tt)
 
   -- ---- fields
 
@@ -206,6 +211,7 @@ module _ (w : Writing) (reached : ℕ → Bool) (f : Frame) (before : State) (re
           further = tt;
           access = tt;
         };
+        operands = c.top;
         goes = refl;
         unchanged = still;
         follows = λ goes. absurd cc;
@@ -231,6 +237,7 @@ module _ (w : Writing) (reached : ℕ → Bool) (f : Frame) (before : State) (re
       further = record { no_result = result ∙ may.no_result; initialised = λ is. absurd (cc (sym no_init ∙ is)) };
       access = tt;
     };
+    operands = none_agree;
     goes = refl;
     unchanged = still;
     follows = λ goes. absurd cc;
@@ -249,6 +256,7 @@ module _ (w : Writing) (reached : ℕ → Bool) (f : Frame) (before : State) (re
           };
           access = tt;
         };
+        operands = c.top;
         goes = refl;
         unchanged = still;
         follows = λ goes. absurd cc;

@@ -164,6 +164,7 @@ module _ (w : Writing) (reached : ℕ → Bool) (f : Frame) (before : State) (re
           further = wanted c;
           access = tt;
         };
+        operands = c.top;
         goes = refl;
         unchanged = still;
         follows = λ goes. moved w reached f before rest g st p (length needs) sources gives given locals_are

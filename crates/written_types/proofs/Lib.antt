@@ -102,6 +102,8 @@ mod MakingLocals
 mod CarriedWays
 mod CarriedGuards
 mod CaughtNames
+mod PassingMembers
+mod UsedMembers
 mod CarriedHolds
 mod CarriedItems
 mod CarriedLeads
@@ -117,6 +119,7 @@ mod MadeStates
 mod MakeCodes
 mod MakeWhole
 mod MadeBlocks
+mod HeldItems
 mod Joined
 mod CarriedPoints
 mod CaughtTypes

@@ -17,15 +17,18 @@ use Rattle.class_tree.specs.Headers.{Name}
 use Rattle.making_code.specs.Constants.{constructor_needs}
 use Rattle.making_code.specs.IndexedMaking.{index_of_last}
 use Rattle.making_code.specs.Items.{constructs, item, plain}
+use Rattle.member_link.specs.DeclaredMembers.{own_method}
 use Rattle.member_link.specs.References.{Reference}
 use Rattle.member_link.specs.RowScope.{RowScope}
-use Rattle.member_link.specs.Rows.MemberRows.{MayInitialise, argument_needs, call_row, initialised_type, receiver, result_types}
+use Rattle.member_link.specs.Rows.MemberRows.{MayInitialise, PassesInitialiser, argument_needs, call_row, initialised_type, receiver, result_types}
 use Rattle.member_link.specs.Rows.Operands.{AllFit, Need, assignable_to, is_single, single, topmost, under, uninitialised}
 use Rattle.member_link.specs.Rows.Row.{access_aside, row_frame}
 use Rattle.member_link.specs.Rows.ShuffleRows.{Form, form_in, form_row, forms_of, one, picked}
 use Rattle.member_link.specs.Signatures.{reference_of, result_of}
 use Rattle.written_types.proofs.MakingSteps.{one_step, topmost_are, under_are}
-use Rattle.written_types.specs.Inner.CarriedFrames.{Carries, RowFits}
+use Rattle.written_types.proofs.PassingMembers.{none_declared}
+use Rattle.written_types.specs.HeldRows.{RowFits}
+use Rattle.written_types.specs.Inner.CarriedFrames.{Carries}
 use Rattle.written_types.specs.Writing.{Writing, scope_in}
 
 -- ---- dup
@@ -45,6 +48,7 @@ dup_carries w number locals below type is =
       });
       targets = tt;
       handlers = tt;
+      access = λ usable. subst (λ (found : Option Form). (form_row frame found).access) (sym found) tt;
     })
     (ap (λ (found : Option Form). row_frame frame (access_aside (form_row frame found))) found
     ∙ (λ i. Some (record { locals = locals; stack = under_are below (type ∷ []) 1 refl i ++ picked (tops i) (0 ∷ 0 ∷ []) }))) where
@@ -102,12 +106,13 @@ pub construct_carries : (w : Writing) (number at : ℕ) (class : Name) (locals b
     → result_of (w.constructor class) ≡ None
     → AllFit (scope_in w) (map (λ param. assignable_to (verification_type param)) params) args
     → (scope_in w).new_class at ≡ Some class
+    → own_method (scope_in w).headers class init (w.constructor class) ≡ None
     → AllByRecursion (λ type. type ≢ types.Uninit at) locals
     → AllByRecursion (λ type. type ≢ types.Uninit at) base
     → Carries w number (item (constructs class) ∷ [])
     (record { locals = locals; stack = (base ++ (types.Uninit at ∷ [])) ++ (types.Uninit at ∷ args) })
     (Some (record { locals = locals; stack = base ++ (types.Object class ∷ []) }))
-construct_carries w number at class locals base args params named params_are no_result fit made locals_apart base_apart =
+construct_carries w number at class locals base args params named params_are no_result fit made free locals_apart base_apart =
     one_step w number (item (constructs class)) frame next
     (record {
       row = subst (λ (found : Option Reference). RowFits s frame (access_aside (call_row s frame INVOKESPECIAL found))) (sym named) (record {
@@ -118,6 +123,8 @@ construct_carries w number at class locals base args params named params_are no_
       });
       targets = tt;
       handlers = tt;
+      access = λ usable. subst (λ (found : Option Reference). (call_row s frame INVOKESPECIAL found).access) (sym named)
+          (subst (PassesInitialiser s ref) (sym receiver_is) (none_declared s ref at free refl));
     })
     (ap (λ (found : Option Reference). row_frame frame (access_aside (call_row s frame INVOKESPECIAL found))) named
     ∙ ap (λ (object : VType). Some (record {

@@ -318,7 +318,7 @@ module _ (w : Writing) (given : Given w) (at : ℕ) (point : Point) (state : Sta
         (frame older (stack ++ (types.Object one.class ∷ []))) (frame last stack)
         (construct_carries w (suc at_null) number one.class older stack (loaded.args ++ (types.Null ∷ []))
         (one.fields ++ (field_types.Named takes.array ∷ [])) (constants.constructor (suc at_null) one.class construct_there) takes.parameters
-        takes.no_result arguments (new_class_there w number one.class constants (one_placed w low high number (makes one.class) _ placed))
+        takes.no_result arguments (new_class_there w number one.class constants (one_placed w low high number (makes one.class) _ placed)) takes.free
         (none_older w at point state sites ut number locals) (fresh number placed.from inside))
         (and_carries w (suc (suc at_null)) (store kinds.Ref (object_unit object.site)) entering (frame older (stack ++ (types.Object one.class ∷ [])))
         (frame last stack) (frame last stack)

@@ -3,6 +3,7 @@ use Rattle.std.proofs.Common.{◌≡◌, ◌≢◌, ◌+◌, ◌<◌, ◌≤◌,
 use Rattle.std.specs.List.{AllByRecursion}
 use Rattle.std.proofs.lemmas.List.{append_assoc, length-append}
 use Rattle.class_model.specs.Descriptors.{parameters_of}
+use Rattle.class_model.specs.Names.{init}
 use Rattle.class_model.specs.Pool.{constant_at}
 use Rattle.class_model.specs.PoolChecks.{class_at}
 use Rattle.class_model.specs.declared.descriptor.FieldType.TheVariants as field_types
@@ -16,6 +17,7 @@ use Rattle.making_code.specs.Constants.{constructor_needs, index_in, needs_class
 use Rattle.making_code.specs.IndexedItems.{IndexedItem}
 use Rattle.making_code.specs.IndexedMaking.{index_of_last}
 use Rattle.making_code.specs.Items.{WInstr, WItem, constructs, item, makes}
+use Rattle.member_link.specs.DeclaredMembers.{own_method}
 use Rattle.member_link.specs.Machine.Replaced.{map_numbered}
 use Rattle.member_link.specs.Signatures.{reference_of, result_of}
 use Rattle.plan_flow.specs.Written.WrittenConstants.{indexed_item}
@@ -25,11 +27,12 @@ use Rattle.written_types.specs.Writing.{Writing, items_in, scope_in}
 
 -- ---- constants of make code
 
--- the parameters of a site's constructor are the fields of its objects, and an array
+-- the parameters of a site's constructor are the fields of its objects, and an array; and no class has it yet
 pub record TakesFields (w : Writing) (one : Site) : Type 0 where
   pub array : Name
   pub parameters : parameters_of (w.constructor one.class) ≡ one.fields ++ (field_types.Named array ∷ [])
   pub no_result : result_of (w.constructor one.class) ≡ None
+  pub free : own_method w.host.headers one.class init (w.constructor one.class) ≡ None
 
 -- The constants that items of make code name are there, and constructors have their descriptors.
 pub record MakeConstants (w : Writing) : Type 0 where

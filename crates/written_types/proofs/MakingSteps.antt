@@ -61,6 +61,7 @@ load_carries w number kind unit locals stack type is of_kind_it =
       };
       targets = tt;
       handlers = tt;
+      access = λ usable. tt;
     })
     (λ i. Some (record { locals = locals; stack = under_none stack i ++ entry_is i })) where
       entry_is : local_entry locals (unit_number w.s.flat unit) ≡ type ∷ []
@@ -76,6 +77,7 @@ null_carries w number locals stack =
       row = record { operands = subst (AllFit (scope_in w) []) (sym (topmost_none stack)) tt; local = tt; further = tt; access = tt };
       targets = tt;
       handlers = tt;
+      access = λ usable. tt;
     })
     (ap (λ (rest : List VType). Some (record { locals = locals; stack = rest ++ (types.Null ∷ []) })) (under_none stack))
 
@@ -90,6 +92,7 @@ new_carries w number class locals stack fresh =
       row = record { operands = subst (AllFit (scope_in w) []) (sym (topmost_none stack)) tt; local = tt; further = fresh; access = tt };
       targets = tt;
       handlers = tt;
+      access = λ usable. tt;
     })
     (ap (λ (rest : List VType). Some (record { locals = map (without_older number) locals; stack = rest ++ (types.Uninit number ∷ []) }))
     (under_none stack))
@@ -114,6 +117,7 @@ store_carries w number kind unit locals below type of_kind_it room =
       };
       targets = tt;
       handlers = tt;
+      access = λ usable. tt;
     })
     (rw (topmost_are below (type ∷ []) 1 refl)
     (ap (λ (rest : List VType). Some (record { locals = stored (unit_number w.s.flat unit) type locals; stack = rest }))
@@ -136,6 +140,7 @@ enter_carries w number locals below type reference =
       };
       targets = tt;
       handlers = tt;
+      access = λ usable. tt;
     })
     (ap (λ (rest : List VType). Some (record { locals = locals; stack = rest }))
     (append-nil (under 1 (below ++ (type ∷ []))) ∙ under_are below (type ∷ []) 1 refl))

@@ -240,6 +240,7 @@ module _ (w : Writing) (given : Given w) (b : Before w given) (fit : EdgesFit w 
     };
     targets = (subst (λ (from : Option Frame). LeadsIn w from (suc first + 3)) (sym back) leads, tt);
     handlers = tt;
+    access = λ usable. tt;
   }
 
   abbrev thrown : Frame
@@ -256,6 +257,7 @@ module _ (w : Writing) (given : Given w) (b : Before w given) (fit : EdgesFit w 
     };
     targets = tt;
     handlers = handlers (suc (suc (suc first)));
+    access = λ usable. tt;
   }
 
   so : Carries w first items b.frame None

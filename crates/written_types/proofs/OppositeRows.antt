@@ -20,7 +20,7 @@ use Rattle.plan_flow.specs.PlanScope.{PlanScope}
 use Rattle.plan_flow.specs.Written.WrittenCode.{jumping_to}
 use Rattle.plan_flow.specs.Written.WrittenConstants.{carried_instr, with_index}
 use Rattle.written_types.proofs.OperandRows.{Fit, no_operand}
-use Rattle.written_types.specs.Inner.CarriedFrames.{RowFits}
+use Rattle.written_types.specs.HeldRows.{RowFits}
 
 -- ---- opcodes of a family
 

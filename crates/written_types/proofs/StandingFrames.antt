@@ -19,7 +19,8 @@ use Rattle.written_types.proofs.AgreeLists.{agree_joined, apart}
 use Rattle.written_types.proofs.NeedsKept.{AreSteady, all_agreeing}
 use Rattle.written_types.proofs.Standing.{Standing, fit_long}
 use Rattle.written_types.proofs.WrittenTypes.{ArePlain, IsSteady, by_item, entry_types, own_types, written_joined, written_plain}
-use Rattle.written_types.specs.Inner.CarriedFrames.{AgreeIn, RowFits}
+use Rattle.written_types.specs.HeldRows.{RowFits}
+use Rattle.written_types.specs.Inner.CarriedFrames.{AgreeIn}
 use Rattle.written_types.specs.Writing.{Writing, scope_in}
 
 -- ---- what places hold
@@ -88,9 +89,11 @@ pub record Follows (w : Writing) (before : State) (rest : List VType) (p : PlanR
 abbrev pub left_by_row : Frame → Row → Frame
 left_by_row f row = record { locals = row.locals; stack = stack_behind f row }
 
--- The row of an instruction as it is written holds of the frame before it, and the frame behind agrees with what the flat code's row leaves.
+-- The row of an instruction as it is written holds of the frame before it, its operands agree with those of the flat code, and the frame behind
+-- agrees with what the flat code's row leaves.
 pub record RowFollows (w : Writing) (before : State) (rest : List VType) (f g : Frame) (p : PlanRow) (row written : Row) : Type 0 where
   pub fits : RowFits (scope_in w) g (access_aside written)
+  pub operands : AgreeIn (topmost (length row.takes) g.stack) (map (by_item w) (topmost (length row.takes) (read_frame w.s.flat f).stack))
   pub goes : written.goes_on ≡ row.goes_on
   pub unchanged : changed w.s before p.change ≡ []
   pub follows : row.goes_on ≡ true → Follows w before rest p (left_by_row (read_frame w.s.flat f) row) (left_by_row g written)

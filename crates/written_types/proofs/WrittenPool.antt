@@ -211,6 +211,11 @@ module _ (w : Writing) (given : Given w) (laws : PoolLaws) where
         of_folder None at file is = absurd (none-some file is)
         of_folder (Some one) at file is = rw at (ap (λ (c : ClassFile). c.pool) (same_Some one file is))
 
+  pub host_class : slice_get w.s.classes.folder w.s.flat.host.class ≡ Some w.host.class
+  host_class =
+      let of = of_file w.s.classes w.s.flat.host w.host (slice_get w.s.classes.folder w.s.flat.host.class) given.setting.ready.host in
+      of.1 ∙ ap (λ (file : ClassFile). Some file) of.2
+
   pub own_pool : pool_of w.s w.s.flat.host.class ≡ w.host.class.pool
   own_pool =
       let of = of_file w.s.classes w.s.flat.host w.host (slice_get w.s.classes.folder w.s.flat.host.class) given.setting.ready.host in

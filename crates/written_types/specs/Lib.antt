@@ -1,4 +1,6 @@
 pub mod FitsTypes
+pub mod HeldRows
 pub mod Inner
+pub mod Laws
 pub mod Setting
 pub mod Writing

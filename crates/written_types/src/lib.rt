@@ -3,4 +3,7 @@
 
 mod laws;
 
-pub use laws::{frames_type_written_code, made_objects_keep_types, ways_of_a_plan_keep_types};
+pub use laws::{
+    frames_type_written_code, made_objects_keep_types, ways_of_a_plan_keep_types,
+    written_items_may_use_what_they_name,
+};

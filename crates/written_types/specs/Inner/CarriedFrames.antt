@@ -6,16 +6,19 @@ use Rattle.class_model.specs.Frames.{depth}
 use Rattle.class_model.specs.declared.frame.Frame.{Frame}
 use Rattle.class_model.specs.declared.frame.VType.{VType}
 use Rattle.class_model.specs.declared.frame.VType.TheVariants.{Top, Uninit, UninitThis}
+use Rattle.class_model.specs.declared.instr.Instr.{Instr}
+use Rattle.expanded_runs.specs.UsableNames.{IsUsableCode}
 use Rattle.making_code.specs.Items.{WItem}
 use Rattle.member_link.specs.Bodies.{BodyPoint, catch_frame, flows_on, frame_behind, item_targets, point_row}
-use Rattle.member_link.specs.RowScope.{RowScope}
 use Rattle.member_link.specs.Rows.Assigning.{IsFrameAssignableIn}
-use Rattle.member_link.specs.Rows.Operands.{AllFit, topmost}
-use Rattle.member_link.specs.Rows.Row.{Row, stack_behind}
+use Rattle.member_link.specs.Rows.Row.{stack_behind}
+use Rattle.member_link.specs.Rows.Table.{row_of}
 use Rattle.plan_flow.specs.Written.Finish.{Finished, is_empty}
 use Rattle.plan_flow.specs.Written.FramedCode.{frame_by_item, frame_had, frame_of_item, is_led_to, stated_by}
 use Rattle.plan_flow.specs.Written.WrittenCode.{block_items, written_items}
+use Rattle.plan_flow.specs.Written.WrittenConstants.{indexed_item}
 use Rattle.plan_flow.specs.Written.WrittenFrames.{written_frame}
+use Rattle.written_types.specs.HeldRows.{RowFits}
 use Rattle.written_types.specs.Writing.{Writing, entry_in, items_in, point_in, points_in, scope_in}
 
 -- ---- frames by the numbers of items
@@ -84,14 +87,13 @@ pub record LeadsIn (w : Writing) (frame : Option Frame) (to : ℕ) : Type 0 wher
   pub placed : IsPlaced w to block
   pub fits : FitsBefore w goes block
 
--- The rule of an item has a value behind a frame, whatever its stack's depth.
-pub record RowFits (s : RowScope) (f : Frame) (row : Row) : Type 0 where
-  pub operands : AllFit s row.takes (topmost (length row.takes) f.stack)
-  pub local : row.local
-  pub further : row.further
-  pub access : row.access
+-- an item's instruction, with numbers of items for targets
+abbrev pub instr_in : Writing → ℕ → WItem → Instr
+instr_in w number one =
+    (indexed_item w.s w.constructor w.pool w.form w.blocks number one).instr
 
--- The row of an item fits behind a frame, and its jumps and handlers lead to blocks whose frames fit.
+-- The row of an item fits behind a frame, and its jumps and handlers lead to blocks whose frames fit. Where the host may use what the flat code
+-- names, so may the item.
 pub record ItemHolds (w : Writing) (number : ℕ) (one : WItem) (frame : Frame) : Type 0 where
   pub row : RowFits (scope_in w) frame (point_row (point_in w number one) frame)
   pub targets :
@@ -100,6 +102,8 @@ pub record ItemHolds (w : Writing) (number : ℕ) (one : WItem) (frame : Frame) 
   pub handlers :
       AllByRecursion (λ catch. LeadsIn w (Some (catch_frame frame catch.class)) catch.to)
       (point_in w number one).catches
+  pub access : IsUsableCode w.s.classes w.host w.s.flat
+      → (row_of (scope_in w) frame number (instr_in w number one)).access
 
 -- Items from a number on hold one after the other, from a frame to the one behind them; the last may not go on.
 pub data Carries (w : Writing) : ℕ → List WItem → Frame → Option Frame → Type 0 where

@@ -1,0 +1,2 @@
+-- Laws of this crate's words that other crates cite.
+pub mod QuietRows
