@@ -17,4 +17,7 @@ mod DecodedForms
 mod LinkedUses
 mod ReadyPoints
 pub mod CarriedPoints
+mod AccessKept
+pub mod UsablePoints
+pub mod UsableCatches
 pub mod Whole
