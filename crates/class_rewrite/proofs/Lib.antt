@@ -32,3 +32,9 @@ pub mod LastItems
 pub mod WrittenSettings
 pub mod EmittedItems
 pub mod LinkedParts
+pub mod PassingUses
+pub mod ConstructedItems
+pub mod CaughtItems
+pub mod OpenedFields
+pub mod MadeMembers
+pub mod WrittenUses

@@ -3,6 +3,7 @@
 
 mod folder;
 mod laws;
+mod linked_laws;
 mod ready_laws;
 mod reasons;
 mod report;
@@ -14,5 +15,6 @@ pub use laws::{
     an_expanded_flat_code_of_a_verified_folder_is_typed,
     expanded_flat_codes_of_a_verified_folder_run_equally,
 };
+pub use linked_laws::written_methods_are_linked;
 pub use report::{Line, Report, is_rewritten, reason_name, rewritten};
 pub use verified_laws::a_sound_written_folder_verifies;
