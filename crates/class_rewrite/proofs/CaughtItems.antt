@@ -1,8 +1,7 @@
 -- Each class that handlers of written items catch is one that a handler of the flat code catches.
-use Rattle.std.proofs.Common.{◌≡◌, ◌+◌, ℕ, zero, suc, Bool, true, false, List, [], ◌∷◌, ◌++◌, map, slice_get, flat_map, Option, Some, None, refl, sym, subst, ap, ◌∙◌, arith}
+use Rattle.std.proofs.Common.{◌≡◌, ◌+◌, ℕ, zero, suc, Bool, true, false, List, [], ◌∷◌, ◌++◌, map, slice_get, flat_map, Option, Some, None, refl, sym, subst}
 use Rattle.std.specs.List.{AllByRecursion}
 use Rattle.class_model.specs.declared.instr.Instr.{Instr}
-use Rattle.class_model.specs.declared.instr.Instr.TheVariants.{Goto}
 use Rattle.class_tree.specs.Headers.{Name}
 use Rattle.code_drafts.specs.Laws.GoodBlocks.{all_flat, all_reached}
 use Rattle.flow_code.specs.FlatCode.{FlatCode, point_at}
@@ -18,7 +17,7 @@ use Rattle.plan_flow.specs.PlanSlots.{held}
 use Rattle.plan_flow.specs.Written.Blocks.{Block, BlockOf, before_point, blocks_of, handler_pad, handler_pad_of, handler_pads, instruction_block, is_decided, jump_pad, jump_pad_of, jump_pads, make_block, next_block, on_next_edge, point_blocks, state_written}
 use Rattle.plan_flow.specs.Written.Finish.{End, Finished, end_items, end_of, finish, finished_items, goto_end, no_end, nop_end}
 use Rattle.plan_flow.specs.Written.Routes.{Route, RouteEdge, Routes, edge_by}
-use Rattle.plan_flow.specs.Written.Templates.{as_it_is, catches_at, catches_from, items_at, null_test, template}
+use Rattle.plan_flow.specs.Written.Templates.{catches_at, catches_from, items_at, template}
 use Rattle.plan_flow.specs.Written.WrittenCode.{Form, block_items, in_form, short, wide, widened, written_items}
 use Rattle.plan_flow.specs.declared.edge.EdgeKind.{EdgeKind}
 use Rattle.plan_flow.specs.declared.edge.EdgeKind.TheVariants as edges

@@ -1,5 +1,5 @@
 -- Written code that calls the field constructor of a class makes an object of it: make code has both.
-use Rattle.std.proofs.Common.{◌≡◌, ◌⊎◌, inl, inr, ◌||◌, ◌+◌, ℕ, zero, suc, Bool, true, false, List, [], ◌∷◌, ◌++◌, map, slice_get, flat_map, if◌then◌else◌, Option, Some, None, refl, sym, subst, ap, ◌∙◌, zero-add}
+use Rattle.std.proofs.Common.{◌≡◌, ◌⊎◌, inl, inr, ◌||◌, ◌+◌, ℕ, zero, suc, Bool, true, false, List, [], ◌∷◌, ◌++◌, map, slice_get, flat_map, if◌then◌else◌, Option, Some, None, refl, sym, subst, ap, ◌∙◌}
 use Rattle.std.specs.List.{AllByRecursion}
 use Rattle.std.proofs.lemmas.Bool.{false≢true}
 use Rattle.std.proofs.lemmas.List.{map-append}
@@ -12,9 +12,8 @@ use Rattle.class_model.specs.declared.instr.Instr.TheVariants.{Const, Enter, Got
 use Rattle.class_model.specs.declared.opcodes.TheConstants.{DUP, IFNONNULL}
 use Rattle.class_tree.specs.Headers.{Name}
 use Rattle.code_drafts.specs.Laws.GoodBlocks.{all_flat, all_reached}
-use Rattle.code_drafts.specs.Laws.GoingOn.{decided}
 use Rattle.code_drafts.specs.Laws.SimpleParts.{HoldsOfSimple, OptionHolds, copied_locals_hold, copied_object_holds, each_holds, loaded_entry_holds, loaded_fields_hold, popped_holds, saves_hold, template_holds}
-use Rattle.flow_code.specs.FlatCode.{FlatCode, point_at}
+use Rattle.flow_code.specs.FlatCode.{point_at}
 use Rattle.flow_code.specs.declared.point.FlatInstr.{FlatInstr}
 use Rattle.flow_code.specs.declared.point.FlatInstr.TheVariants.{Of, NullTest}
 use Rattle.flow_code.specs.declared.point.Point.{Point}

@@ -1,5 +1,5 @@
 -- A class that has its field constructor in the written folder: the constructor is found there, and passes wherever its class may be named.
-use Rattle.std.proofs.Common.{◌≡◌, ◌≢◌, ◌⊎◌, inl, inr, ◌==◌, ◌&&◌, ◌+◌, ◌++◌, not, ℕ, zero, suc, Bool, true, false, List, [], ◌∷◌, bytes_eq, codes, filter, flat_map, length, map, slice_get, take_while, if◌then◌else◌, Option, Some, None, IfSome, IsSome, option_map, option_and_then, IsTrue, IsFalse, refl, sym, ap, subst, ◌∙◌, arith, append-nil}
+use Rattle.std.proofs.Common.{◌≡◌, ◌≢◌, ◌==◌, ◌&&◌, ◌++◌, not, ℕ, zero, suc, Bool, true, false, List, [], ◌∷◌, bytes_eq, codes, filter, flat_map, length, map, slice_get, take_while, if◌then◌else◌, Option, Some, None, IfSome, IsSome, option_map, option_and_then, IsFalse, refl, sym, ap, subst, ◌∙◌, arith, append-nil}
 use Rattle.std.specs.List.{AllByRecursion, list_any}
 use Rattle.std.proofs.lemmas.Bool.{and_parts, eqb-true, false≢true, not-true}
 use Rattle.std.proofs.lemmas.List.{length-map, map-append}
@@ -8,7 +8,7 @@ use Rattle.std.proofs.lemmas.Option.{none-some, same_Some, slice_get-map}
 use Rattle.std.proofs.lemmas.Slice.Eq.{bytes_eq-Decides}
 use Rattle.class_model.specs.Characters.{left_bracket}
 use Rattle.class_model.specs.Checks.{AllHold, Check, asked_each}
-use Rattle.class_model.specs.Descriptors.{SpellsDescriptor, brackets, descriptor_text, field_type_text, named_text, result_text}
+use Rattle.class_model.specs.Descriptors.{brackets, descriptor_text, field_type_text, result_text}
 use Rattle.class_model.specs.Header.{header_of, method_member}
 use Rattle.class_model.specs.Laws.Lists.{at_index}
 use Rattle.class_model.specs.Laws.Checks.{first_holds, others_hold}
@@ -17,7 +17,6 @@ use Rattle.class_model.specs.Names.{init}
 use Rattle.class_model.specs.Pool.{Constants}
 use Rattle.class_model.specs.declared.class_file.ClassFile.{ClassFile}
 use Rattle.class_model.specs.declared.class_file.Method.{Method}
-use Rattle.class_model.specs.declared.descriptor.Descriptor.{Descriptor}
 use Rattle.class_model.specs.declared.descriptor.FieldType.{FieldType}
 use Rattle.class_model.specs.declared.descriptor.FieldType.TheVariants as field_types
 use Rattle.class_model.specs.declared.header.Header.{Header}
@@ -25,13 +24,13 @@ use Rattle.class_model.specs.declared.header.Member.{Member}
 use Rattle.class_model.specs.declared.opcodes.TheConstants.{INVOKEINTERFACE, INVOKESPECIAL, INVOKESTATIC}
 use Rattle.class_model.specs.declared.pool.Const.TheVariants as consts
 use Rattle.class_rewrite.proofs.DeclaredFolders.{DeclaredLaws, constructor_names, declared as declared_before, same_behind, there_now, types_there, written_many}
-use Rattle.class_rewrite.proofs.MadeClasses.{above_there, described, itself, kept_name}
+use Rattle.class_rewrite.proofs.MadeClasses.{above_there, described, kept_name}
 use Rattle.class_rewrite.proofs.OpenedFields.{IsGrownAt, file_of, named_grown, written_of}
 use Rattle.class_rewrite.proofs.WrittenFolders.{made_is_candidate}
 use Rattle.class_rewrite.specs.Inner.ReadyFolders.{IsReadyFolder, setup_of}
 use Rattle.class_rewrite.specs.Laws.MadeConstructors.{made_is_added}
 use Rattle.class_rewrite.specs.Optimised.{with_folder}
-use Rattle.class_rewrite.specs.Rewriting.Folders.{AddsMethods, AreMethodsWritten, IsClassWritten, IsFolderWritten, IsMade, adds_none, adds_one}
+use Rattle.class_rewrite.specs.Rewriting.Folders.{AddsMethods, IsClassWritten, IsFolderWritten, IsMade, adds_none, adds_one}
 use Rattle.class_rewrite.specs.Rewriting.Methods.{Rewriting}
 use Rattle.class_rewrite.specs.Rewriting.Verifying.{IsOfVerified}
 use Rattle.class_tree.specs.Headers.{Headers, IsClassFile, IsThere, Name, class_named, headers_of, named}
@@ -45,22 +44,17 @@ use Rattle.class_tree.specs.declared.place.Place.TheVariants.{Folder}
 use Rattle.expanded_code.specs.Candidates.{IsCandidate}
 use Rattle.expanded_code.specs.Laws.SuperChains.{super_there}
 use Rattle.expanded_code.specs.Quiet.{IsOfFolder}
-use Rattle.making_code.specs.Constants.{grow}
-use Rattle.making_code.specs.ConstructorCode.{IsConstructorMethod, SYNTHETIC}
-use Rattle.making_code.specs.FieldConstructor.{constructor_method_needs}
-use Rattle.member_link.specs.Access.{IsAccessible, IsClassAccessible, is_public}
+use Rattle.member_link.specs.Access.{IsClassAccessible, is_public}
 use Rattle.member_link.specs.Declarations.{Site, declaration_checks, declared_field_checks, declared_method_checks, site_of}
 use Rattle.member_link.specs.DeclaredMembers.{Declared, declared, declared_by, own_method}
 use Rattle.member_link.specs.Forms.{FitsCall}
 use Rattle.member_link.specs.Laws.FolderClasses.{class_of_folder, found_in_folder}
 use Rattle.member_link.specs.LinkedPlaces.{MethodPasses}
 use Rattle.member_link.specs.Methods.{FindsMethod, initialiser}
-use Rattle.member_link.specs.References.{DescriptorNames, FieldTypeNames, IsNamedAccessible, IsNamedThere, NamesElementClass, Reference, TypeNames, element_class}
+use Rattle.member_link.specs.References.{DescriptorNames, FieldTypeNames, IsNamedAccessible, NamesElementClass, TypeNames, element_class}
 use Rattle.member_link.specs.Scope.{Scope}
-use Rattle.member_link.specs.Uses.{UseScope, use_checks}
 use Rattle.plan_flow.specs.Laws.OpenEdges.{all_still}
-use Rattle.plan_flow.specs.Written.WrittenPrograms.{MakesClass}
-use Rattle.type_rules.specs.Grown.{AreAllGrown, AreGrownHeaders, IsGrownClass, IsGrownHeader}
+use Rattle.type_rules.specs.Grown.{AreAllGrown, AreGrownHeaders, IsGrownHeader}
 use Rattle.written_files.specs.FieldConstructors.{IsDescribed, constructor_member}
 use Rattle.written_files.specs.LinkedConstructors.{HasLinkedMembers, called_of}
 use Rattle.written_runs.specs.Inner.Setup.{Setup}
@@ -68,6 +62,19 @@ use Rattle.written_runs.specs.Laws.AddedConstructors.{IsAddedTo, added_to, each_
 use Rattle.written_runs.specs.Laws.ConstructorTexts.{ReadsParameters}
 use Rattle.written_runs.specs.Laws.ApartFields.{declared_itself, fields_distinct}
 use Rattle.written_runs.specs.Laws.FolderFacts.{no_folder_object, object_has}
+
+-- ---- lists
+
+-- what holds of the item of each number holds of each item
+pub each_of : {A : Type 0} (P : A → Type 0) (xs : List A) → ((n : ℕ) (x : A) → slice_get xs n ≡ Some x → P x) → AllByRecursion P xs
+each_of P [] each = tt
+each_of P (x ∷ xs) each = (each zero x refl, each_of P xs (λ n one is. each (suc n) one is))
+
+head_of : {A : Type 0} (x y : A) (xs ys : List A) → x ∷ xs ≡ y ∷ ys → x ≡ y
+head_of x y xs ys e = cc e
+
+tail_of : {A : Type 0} (x y : A) (xs ys : List A) → x ∷ xs ≡ y ∷ ys → xs ≡ ys
+tail_of x y xs ys e = cc e
 
 -- ---- names
 
@@ -123,12 +130,6 @@ begins_type (field_types.Named (first ∷ rest)) = by (first == left_bracket) re
     no_parenthesis = λ e. false≢true (ap (λ (n : ℕ). n == 41) e);
     no_void = λ e. false≢true (ap (λ (n : ℕ). n == 86) e);
   }
-
-head_of : {A : Type 0} (x y : A) (xs ys : List A) → x ∷ xs ≡ y ∷ ys → x ≡ y
-head_of x y xs ys e = cc e
-
-tail_of : {A : Type 0} (x y : A) (xs ys : List A) → x ∷ xs ≡ y ∷ ys → xs ≡ ys
-tail_of x y xs ys e = cc e
 
 -- it names no class
 object_names : (Asked : Name → Type 0) → DescriptorNames Asked (codes "()V")
@@ -540,10 +541,6 @@ module _ (laws : MadeLaws) (r : Rewriting) (files : List ClassFile) (w : IsFolde
             (subst (λ (n : Name). IsNamedAccessible after n above) (sym from) may_name))
 
     -- ---- members of the class
-
-    each_of : {A : Type 0} (P : A → Type 0) (xs : List A) → ((n : ℕ) (x : A) → slice_get xs n ≡ Some x → P x) → AllByRecursion P xs
-    each_of P [] each = tt
-    each_of P (x ∷ xs) each = (each zero x refl, each_of P xs (λ n one is. each (suc n) one is))
 
     own_are : own_fields before (header_of file).name ≡ filter (λ (field : Member). not (has field.flags STATIC)) (header_of file).fields
     own_are = rw (here_named) refl

@@ -1,8 +1,8 @@
 -- A private field that written code of another class uses is open to that class: its flag of private is cleared.
-use Rattle.std.proofs.Common.{arith, ◌≡◌, ◌≢◌, ◌⊎◌, inl, inr, ◌==◌, ◌&&◌, ◌||◌, ◌+◌, ◌*◌, ◌≤◌, ◌<◌, ◌%◌, ◌^◌, not, ℕ, zero, suc, Bool, true, false, bit_and, List, [], ◌∷◌, ◌++◌, bytes_eq, map, slice_get, if◌then◌else◌, Option, Some, None, IsSome, option_map, option_and_then, IsTrue, IsFalse, refl, sym, ap, subst, ◌∙◌, zero-add}
+use Rattle.std.proofs.Common.{arith, ◌≡◌, ◌≢◌, ◌==◌, ◌+◌, ◌*◌, ◌≤◌, ◌<◌, ◌%◌, ◌^◌, not, ℕ, zero, suc, Bool, true, false, bit_and, List, [], ◌∷◌, bytes_eq, map, slice_get, if◌then◌else◌, Option, Some, None, IsSome, option_map, option_and_then, IsTrue, IsFalse, refl, sym, ap, subst, ◌∙◌, zero-add}
 use Rattle.std.specs.Int.{bit_at}
 use Rattle.std.specs.Int.Bits.{and_self, bit_xor, xor_add_and}
-use Rattle.std.proofs.lemmas.Bool.{eqb-true, false≢true, or_right}
+use Rattle.std.proofs.lemmas.Bool.{false≢true, or_right}
 use Rattle.std.proofs.lemmas.Bool.Decides.{Decides-eqb}
 use Rattle.std.proofs.lemmas.Nat.{and_assoc, and_le_l}
 use Rattle.std.proofs.lemmas.Nat.Bits.{and_pow, bit_at-lt, bit_at_and, bit_at_xor}
@@ -33,7 +33,7 @@ use Rattle.member_link.specs.Machine.Links.{AreLinksOf, reference_to}
 use Rattle.member_link.specs.Machine.Replaced.{Replacement, field_cleared, map_numbered, without_flags}
 use Rattle.member_link.specs.Overriding.{package_of}
 use Rattle.member_link.specs.References.{Reference}
-use Rattle.plan_flow.specs.PlanScope.{PlanScope, field_of, member_of}
+use Rattle.plan_flow.specs.PlanScope.{field_of, member_of}
 use Rattle.plan_flow.specs.Written.WrittenPrograms.{IsFieldOf, OpensPrivate, UsesField, WrittenMethod, items_of, plan_scope}
 use Rattle.type_rules.specs.Grown.{AreAllGrown, AreGrownHeaders, IsGrownHeader, IsSameFound}
 

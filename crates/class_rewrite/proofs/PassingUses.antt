@@ -1,7 +1,7 @@
 -- What linking asks of an instruction of another class holds in the host's written class: its constant was added by what it means, and what it
 -- names is open to the host's class.
-use Rattle.std.proofs.Common.{◌≡◌, ◌⊎◌, inl, inr, ℕ, List, [], ◌∷◌, ◌++◌, Option, Some, None, IfSome, IsTrue, IsFalse, refl, sym, subst, ap, ◌∙◌}
-use Rattle.std.proofs.lemmas.Bool.{both_ways, false≢true}
+use Rattle.std.proofs.Common.{◌≡◌, ◌⊎◌, inl, inr, ℕ, List, [], Option, Some, None, IfSome, IsTrue, IsFalse, refl, subst, ◌∙◌}
+use Rattle.std.proofs.lemmas.Bool.{both_ways}
 use Rattle.std.proofs.lemmas.Option.{same_Some}
 use Rattle.class_model.specs.Checks.{AllHold}
 use Rattle.class_model.specs.Code.{IsCalled, IsLoadable, OperandFits}
@@ -33,7 +33,7 @@ use Rattle.member_link.specs.Overriding.{package_of}
 use Rattle.member_link.specs.References.{DescriptorNames, FieldTypeNames, IsNamedAccessible, Reference, element_class, reference_at}
 use Rattle.member_link.specs.Scope.{Scope}
 use Rattle.member_link.specs.Signatures.{reference_of}
-use Rattle.member_link.specs.Uses.{UseScope, class_use_checks, field_use_checks, fieldref_use_checks, instr_use_checks, loaded_checks, member_checks, method_use_checks, methodref_use_checks, named_class_checks, new_checks}
+use Rattle.member_link.specs.Uses.{UseScope, class_use_checks, field_use_checks, fieldref_use_checks, instr_use_checks, loaded_checks, member_checks, methodref_use_checks, named_class_checks, new_checks}
 use Rattle.plan_flow.specs.Written.WrittenConstants.{named_index, needs_of_index, with_index}
 use Rattle.type_rules.specs.Grown.{AreGrownHeaders, IsGrownClass, IsSameFound}
 

@@ -1,11 +1,11 @@
 -- What the items of a method that is rewritten name, and the classes that its handlers catch, pass in the class that is written.
-use Rattle.std.proofs.Common.{◌≡◌, ◌≢◌, ◌==◌, ◌+◌, ◌<◌, ◌++◌, not, ℕ, zero, suc, Bool, true, false, List, [], ◌∷◌, bytes_eq, length, map, slice_get, if◌then◌else◌, Option, Some, None, IfSome, option_map, Result, Ok, Err, IsTrue, IsFalse, refl, sym, ap, subst, ◌∙◌, arith}
-use Rattle.std.specs.List.{AllByRecursion, flat_map}
+use Rattle.std.proofs.Common.{◌≡◌, ◌≢◌, ◌==◌, ◌+◌, ◌<◌, ◌++◌, not, ℕ, zero, suc, Bool, true, false, List, [], ◌∷◌, bytes_eq, length, map, slice_get, Option, Some, None, IfSome, Result, Ok, refl, sym, ap, subst, ◌∙◌, arith}
+use Rattle.std.specs.List.{AllByRecursion}
 use Rattle.std.proofs.lemmas.Bool.{false≢true}
 use Rattle.std.proofs.lemmas.Bool.Decides.{Decides-eqb}
 use Rattle.std.proofs.lemmas.Option.{none-some, same_Some}
 use Rattle.std.proofs.lemmas.Slice.Eq.{bytes_eq-Decides}
-use Rattle.class_model.specs.Checks.{AllHold, Check, Fault, asked_each, asked_if}
+use Rattle.class_model.specs.Checks.{AllHold, Fault, asked_each, asked_if}
 use Rattle.class_model.specs.Code.{OperandFits}
 use Rattle.class_model.specs.Header.{header_of, method_member}
 use Rattle.class_model.specs.Instructions.{decoded}
@@ -19,18 +19,17 @@ use Rattle.class_model.specs.declared.class_file.CodePart.{CodePart}
 use Rattle.class_model.specs.declared.class_file.Handler.{Handler}
 use Rattle.class_model.specs.declared.class_file.Method.{Method}
 use Rattle.class_model.specs.declared.class_file.MethodAt.{MethodAt}
-use Rattle.class_model.specs.declared.header.Header.{Header}
 use Rattle.class_model.specs.declared.instr.Instr.{Instr}
-use Rattle.class_model.specs.declared.instr.Instr.TheVariants.{GetField, Goto, If, If2, IfNull, IfSame, Invoke, Lookup, New, PutField, Table}
+use Rattle.class_model.specs.declared.instr.Instr.TheVariants.{GetField, Goto, If, If2, IfNull, IfSame, Lookup, New, PutField, Table}
 use Rattle.class_model.specs.declared.instr.Placed.{Placed}
 use Rattle.class_model.specs.declared.opcodes.TheConstants.{INVOKESPECIAL}
 use Rattle.class_model.specs.declared.pool.Const.{Const}
 use Rattle.class_model.specs.declared.pool.Const.TheVariants as consts
-use Rattle.class_rewrite.proofs.CaughtItems.{CatchIsOf, CatchesAreOf, IsCaught, catches_are_of}
+use Rattle.class_rewrite.proofs.CaughtItems.{CatchIsOf, CatchesAreOf, catches_are_of}
 use Rattle.class_rewrite.proofs.ConstructedItems.{StandsAmong, constructed_is_made}
 use Rattle.class_rewrite.proofs.FirstEntries.{file_starts, first_is_none}
 use Rattle.class_rewrite.proofs.MadeClasses.{itself, kept_name}
-use Rattle.class_rewrite.proofs.MadeMembers.{MadeLaws, constructor_passes}
+use Rattle.class_rewrite.proofs.MadeMembers.{MadeLaws, constructor_passes, each_of}
 use Rattle.class_rewrite.proofs.NeededConstants.{CatchMeant, InstrMeant, ItemMeant, written_meant}
 use Rattle.class_rewrite.proofs.OpenedFields.{field_opened}
 use Rattle.class_rewrite.proofs.PassingUses.{LinkLaws, OpensFor, foreign_passes, opened, scope_uses}
@@ -41,28 +40,27 @@ use Rattle.class_rewrite.specs.Inner.ReadyFolders.{IsReadyFolder, IsReadyHost}
 use Rattle.class_rewrite.specs.Laws.GrownPools.{rewritten_begins, written_begins}
 use Rattle.class_rewrite.specs.Laws.WrittenGrown.{added_begins}
 use Rattle.class_rewrite.specs.Optimised.{with_folder}
-use Rattle.class_rewrite.specs.Rewriting.Folders.{IsClassWritten, IsFolderWritten, IsMade, IsPoolBefore, IsRewrittenAt}
+use Rattle.class_rewrite.specs.Rewriting.Folders.{IsClassWritten, IsFolderWritten, IsMade, IsPoolBefore}
 use Rattle.class_rewrite.specs.Rewriting.Methods.{Rewriting, Rewritten}
 use Rattle.class_rewrite.specs.Rewriting.Verifying.{IsOfVerified, IsWrittenIn}
-use Rattle.class_tree.specs.Headers.{Headers, IsClassFile, IsThere, Name, class_named, headers_of, named}
+use Rattle.class_tree.specs.Headers.{Headers, IsClassFile, IsThere, Name, headers_of, named}
 use Rattle.class_tree.specs.Laws.Alike.{alike_shapes, there_alike}
-use Rattle.class_tree.specs.Layouts.{chain, superclasses}
+use Rattle.class_tree.specs.Layouts.{superclasses}
 use Rattle.class_tree.specs.Names.{object}
-use Rattle.class_tree.specs.Problems.{Problem}
 use Rattle.code_layout.specs.Layout.{Spelled, item_ranges, len_of, placed_from, placed_items, range_of, ranges_from}
-use Rattle.code_layout.specs.PlainItems.{plain_item, plain_items}
+use Rattle.code_layout.specs.PlainItems.{plain_items}
 use Rattle.code_layout.specs.declared.emitted.Catch.{Catch as EmittedCatch}
 use Rattle.code_layout.specs.declared.emitted.EmitItem.{EmitItem}
 use Rattle.expanded_code.specs.CandidateSites.{IsSite}
-use Rattle.expanded_code.specs.Callees.{IsOpenClass, NamesOpen}
+use Rattle.expanded_code.specs.Callees.{NamesOpen}
 use Rattle.expanded_code.specs.Candidates.{IsCandidate}
 use Rattle.expanded_runs.specs.CarriedConstants.{CarriesConstants, IsCarriable}
 use Rattle.expanded_runs.specs.UsableNames.{AreUsableCatches, IsOfCallee, IsUsable, IsUsableCode, of_callee, of_host, uses_of}
-use Rattle.flow_code.specs.FlatCode.{FlatCode, point_at}
+use Rattle.flow_code.specs.FlatCode.{FlatCode}
 use Rattle.flow_code.specs.declared.point.FlatInstr.TheVariants.{Of}
 use Rattle.flow_code.specs.declared.point.Point.{Point}
 use Rattle.flow_code.specs.declared.point.Site.{Site as FlatSite}
-use Rattle.making_code.specs.Constants.{constructor_needs, index_in, needs_at, needs_class, of_method}
+use Rattle.making_code.specs.Constants.{constructor_needs, needs_at, of_method}
 use Rattle.making_code.specs.IndexedItems.{IndexedItem}
 use Rattle.making_code.specs.IndexedMaking.{index_of_last}
 use Rattle.making_code.specs.Items.{WCatch, WInstr, WItem, carried, constructs, makes}
@@ -72,26 +70,24 @@ use Rattle.making_code.specs.Laws.MeantConstants.{Means, NamesMember}
 use Rattle.making_code.specs.Opposites.{opposite, opposite_instr}
 use Rattle.member_link.specs.Access.{IsClassAccessible}
 use Rattle.member_link.specs.Declarations.{Site, site_of}
-use Rattle.member_link.specs.DeclaredMembers.{Declared}
 use Rattle.member_link.specs.Forms.{FitsCall, IsInstantiable}
 use Rattle.member_link.specs.Laws.FolderClasses.{class_of_folder}
 use Rattle.member_link.specs.Laws.Scopes.{scope_is_at}
 use Rattle.member_link.specs.LinkedPlaces.{ClassPasses, MethodPasses}
 use Rattle.member_link.specs.Machine.Replaced.{map_numbered}
-use Rattle.member_link.specs.References.{DescriptorNames, IsNamedAccessible, IsNamedThere, Reference, element_class, reference_at}
+use Rattle.member_link.specs.References.{IsNamedAccessible, IsNamedThere, Reference, element_class, reference_at}
 use Rattle.member_link.specs.Scope.{Scope}
 use Rattle.member_link.specs.Signatures.{reference_of}
 use Rattle.member_link.specs.Targets.{with_targets}
 use Rattle.member_link.specs.Uses.{UseScope, class_use_checks, handler_use_checks, instr_use_checks, instrs_checks, method_use_checks, named_class_checks, new_checks}
-use Rattle.plan_flow.specs.PlanScope.{PlanScope, field_of, member_of, pool_of}
+use Rattle.plan_flow.specs.PlanScope.{PlanScope, pool_of}
 use Rattle.plan_flow.specs.Written.Finish.{Finished}
-use Rattle.plan_flow.specs.Written.WrittenCode.{Form, jumping_to, target_number, written_items}
+use Rattle.plan_flow.specs.Written.WrittenCode.{jumping_to, target_number, written_items}
 use Rattle.plan_flow.specs.Written.WrittenConstants.{catch_index, indexed_instr, indexed_item, indexed_items, named_index, needs_of_index, with_index}
-use Rattle.plan_flow.specs.Written.WrittenPrograms.{MakesClass, UsesField, WrittenMethod, finished_of, items_of, plan_scope, reads, writes}
+use Rattle.plan_flow.specs.Written.WrittenPrograms.{UsesField, finished_of, plan_scope, reads, writes}
 use Rattle.same_runs.specs.ReadyCode.{IsReadyInstr, IsReadyItem}
 use Rattle.stackmap_emit.specs.PlacedFrames.{spelled_in}
 use Rattle.type_rules.specs.Grown.{IsGrownClass, IsGrownHeader}
-use Rattle.written_files.specs.FieldConstructors.{IsDescribed}
 use Rattle.written_files.specs.LinkedConstructors.{uses_in}
 use Rattle.written_runs.specs.Laws.FolderFacts.{no_folder_object}
 
@@ -143,9 +139,14 @@ gap_behind (suc n) (suc count) less =
     let same = rest.1 in
     (rest.0, omega (arith, same))
 
-each_of : {A : Type 0} (P : A → Type 0) (xs : List A) → ((n : ℕ) (x : A) → slice_get xs n ≡ Some x → P x) → AllByRecursion P xs
-each_of P [] each = tt
-each_of P (x ∷ xs) each = (each zero x refl, each_of P xs (λ n one is. each (suc n) one is))
+nothing : {A : Type 0} (x : A) (xs : List A) → [] ≡ x ∷ xs → ⊥
+nothing x xs e = cc e
+
+head_is : {A : Type 0} {x y : A} {xs ys : List A} → x ∷ xs ≡ y ∷ ys → x ≡ y
+head_is e = cc e
+
+tail_is : {A : Type 0} {x y : A} {xs ys : List A} → x ∷ xs ≡ y ∷ ys → xs ≡ ys
+tail_is e = cc e
 
 -- ---- laws of the crates below
 
@@ -517,9 +518,7 @@ module _ (laws : WrittenLaws) (r : Rewriting) (files : List ClassFile) (w : IsFo
         → AllByRecursion (λ (one : WItem). AllHold (instr_use_checks here (indexed_instr s r.constructor pool one.instr))) ones
         → AllByRecursion (λ (item : EmitItem). AllHold (instr_use_checks here item.instr)) given
     emitted_pass place [] ones same pass = tt
-    emitted_pass place (item ∷ given) [] same pass = absurd (nothing (sym same)) where
-      nothing : {A : Type 0} {x : A} {xs : List A} → [] ≡ x ∷ xs → ⊥
-      nothing e = cc e
+    emitted_pass place (item ∷ given) [] same pass = absurd (nothing _ _ (sym same))
     emitted_pass place (item ∷ given) (one ∷ ones) same pass =
         let numbers : List ℕ = map (target_number v.one.form blocks place) one.targets in
         let instr : item.instr ≡ jumping_to numbers (indexed_instr s r.constructor pool one.instr) = ap (λ (i : IndexedItem). i.instr) (head_is same) in (
@@ -527,12 +526,6 @@ module _ (laws : WrittenLaws) (r : Rewriting) (files : List ClassFile) (w : IsFo
               (uses_jump here numbers (indexed_instr s r.constructor pool one.instr) pass.0),
           emitted_pass (suc place) given ones (tail_is same) pass.1,
         )
-      where
-        head_is : {A : Type 0} {x y : A} {xs ys : List A} → x ∷ xs ≡ y ∷ ys → x ≡ y
-        head_is e = cc e
-
-        tail_is : {A : Type 0} {x y : A} {xs ys : List A} → x ∷ xs ≡ y ∷ ys → xs ≡ ys
-        tail_is e = cc e
 
     laid_pass : (spelled : Spelled) (place : ℕ → ℕ) (start : ℕ) (given : List EmitItem)
         → AllByRecursion (λ (item : EmitItem). AllHold (instr_use_checks here item.instr)) given
@@ -607,37 +600,22 @@ module _ (laws : WrittenLaws) (r : Rewriting) (files : List ClassFile) (w : IsFo
         → AllByRecursion CatchPasses wanted
         → AllByRecursion (λ (catch : EmittedCatch). IndexPasses catch.catch_type) given
     same_catches place [] wanted same pass = tt
-    same_catches place (one ∷ given) [] same pass = absurd (nothing (sym same)) where
-      nothing : {A : Type 0} {x : A} {xs : List A} → [] ≡ x ∷ xs → ⊥
-      nothing e = cc e
+    same_catches place (one ∷ given) [] same pass = absurd (nothing _ _ (sym same))
     same_catches place (one ∷ given) (want ∷ wanted) same pass =
         let heads : (one.to, one.catch_type) ≡ (target_number v.one.form blocks place want.to, catch_index pool want.class) = head_is same in
         let index : one.catch_type ≡ catch_index pool want.class = ap (λ (p : ℕ × ℕ). p.1) heads in
         (subst IndexPasses (sym index) pass.0, same_catches place given wanted (tail_is same) pass.1)
-      where
-        head_is : {A : Type 0} {x y : A} {xs ys : List A} → x ∷ xs ≡ y ∷ ys → x ≡ y
-        head_is e = cc e
-
-        tail_is : {A : Type 0} {x y : A} {xs ys : List A} → x ∷ xs ≡ y ∷ ys → xs ≡ ys
-        tail_is e = cc e
 
     emitted_catch : (place : ℕ) (given : List EmitItem) (ones : List WItem)
         → plain_items given ≡ map_numbered (indexed_item s r.constructor pool v.one.form blocks) place ones
         → AllByRecursion (λ (one : WItem). AllByRecursion CatchPasses one.catches) ones
         → AllByRecursion (λ (item : EmitItem). AllByRecursion (λ (catch : EmittedCatch). IndexPasses catch.catch_type) item.catches) given
     emitted_catch place [] ones same pass = tt
-    emitted_catch place (item ∷ given) [] same pass = absurd (nothing (sym same)) where
-      nothing : {A : Type 0} {x : A} {xs : List A} → [] ≡ x ∷ xs → ⊥
-      nothing e = cc e
+    emitted_catch place (item ∷ given) [] same pass = absurd (nothing _ _ (sym same))
     emitted_catch place (item ∷ given) (one ∷ ones) same pass = (
       same_catches place item.catches one.catches (ap (λ (i : IndexedItem). i.catches) (head_is same)) pass.0,
       emitted_catch (suc place) given ones (tail_is same) pass.1,
-    ) where
-      head_is : {A : Type 0} {x y : A} {xs ys : List A} → x ∷ xs ≡ y ∷ ys → x ≡ y
-      head_is e = cc e
-
-      tail_is : {A : Type 0} {x y : A} {xs ys : List A} → x ∷ xs ≡ y ∷ ys → xs ≡ ys
-      tail_is e = cc e
+    )
 
     ranges_catch : (place : ℕ → ℕ) (start end : ℕ) (given : List EmittedCatch)
         → AllByRecursion (λ (catch : EmittedCatch). IndexPasses catch.catch_type) given

@@ -1,4 +1,4 @@
-use Rattle.std.proofs.Common.{List, subst, refl}
+use Rattle.std.proofs.Common.{List}
 use Rattle.class_model.specs.declared.class_file.ClassFile.{ClassFile}
 use Rattle.class_model.specs.declared.class_file.MethodAt.{MethodAt}
 use Rattle.class_rewrite.proofs.MadeMembers.{MadeLaws, linked_members}
