@@ -3,7 +3,7 @@ use Rattle.std.proofs.Common.{◌++◌, List, [], ◌∷◌}
 use Rattle.class_model.specs.Checks.{AllHold, Check, asked_each}
 use Rattle.class_model.specs.Instructions.{decoded}
 use Rattle.class_model.specs.Laws.Checks.{both_hold}
-use Rattle.class_model.specs.Methods.{Home, home_of}
+use Rattle.class_model.specs.Methods.{Home}
 use Rattle.class_model.specs.Stated.{stated_in}
 use Rattle.class_model.specs.declared.class_file.Attr.{Attr}
 use Rattle.class_model.specs.declared.class_file.Attr.TheVariants.{Code, Raw}
