@@ -57,7 +57,7 @@ pub record DeclaredLaws : Type 0 where
 
 -- ---- types of fields
 
-type_weaker : (P Q : Name → Type 0) → ((name : Name) → P name → Q name) → (type : FieldType) → TypeNames P type → TypeNames Q type
+pub type_weaker : (P Q : Name → Type 0) → ((name : Name) → P name → Q name) → (type : FieldType) → TypeNames P type → TypeNames Q type
 type_weaker P Q to (Named name) is = if_weaker (element_class name) is where
   if_weaker : (found : Option Name) → IfSome found P → IfSome found Q
   if_weaker None is = tt
@@ -95,7 +95,7 @@ module _ (P : Member → Type 0) (headers : Headers) (all : AllByRecursion (λ (
 
 -- ---- what is behind lists of one length
 
-same_behind : {A : Type 0} (ones others more rest : List A) → length ones ≡ length others → ones ++ more ≡ others ++ rest → more ≡ rest
+pub same_behind : {A : Type 0} (ones others more rest : List A) → length ones ≡ length others → ones ++ more ≡ others ++ rest → more ≡ rest
 same_behind [] [] more rest long same = same
 same_behind [] (other ∷ others) more rest long same = absurd cc
 same_behind (one ∷ ones) [] more rest long same = absurd cc
@@ -104,7 +104,7 @@ same_behind (one ∷ ones) (other ∷ others) more rest long same =
     let behind : ones ++ more ≡ others ++ rest = cc same in
     same_behind ones others more rest short behind
 
-written_many : (r : Rewriting) (class number : ℕ) (methods news : List Method) → AreMethodsWritten r class number methods news
+pub written_many : (r : Rewriting) (class number : ℕ) (methods news : List Method) → AreMethodsWritten r class number methods news
     → length methods ≡ length news
 written_many r class number [] [] all = refl
 written_many r class number [] (now ∷ news) all = absurd all
@@ -121,15 +121,15 @@ module _ (laws : DeclaredLaws) (r : Rewriting) (files : List ClassFile) (w : IsF
   abbrev after : Headers
   after = headers_of (with_folder r.classes files)
 
-  there_now : (name : Name) → IsThere before name → IsThere after name
+  pub there_now : (name : Name) → IsThere before name → IsThere after name
   there_now = there_alike before after (alike_shapes before after (laws.alike before after ready.headers))
 
-  declared : AllHold (asked_each (declaration_checks before) before.folder)
+  pub declared : AllHold (asked_each (declaration_checks before) before.folder)
   declared = first_holds (asked_each (declaration_checks before) before.folder) (asked_each (use_checks before) r.classes.folder) verified.linked
 
   -- fields of the folder
 
-  types_there : (header : Header) (fields : List Member) → AllHold (asked_each (declared_field_checks before header) fields)
+  pub types_there : (header : Header) (fields : List Member) → AllHold (asked_each (declared_field_checks before header) fields)
       → AllByRecursion (λ (field : Member). FieldTypeNames (IsThere after) field.desc) fields
   types_there header [] all = tt
   types_there header (field ∷ fields) all =
@@ -150,7 +150,7 @@ module _ (laws : DeclaredLaws) (r : Rewriting) (files : List ClassFile) (w : IsF
   each_described [] all = tt
   each_described (file ∷ folder) all = (fields_described file all.0, each_described folder all.1)
 
-  constructor_names : (class : Name) → IsDescribed before r.constructor class → DescriptorNames (IsThere after) (r.constructor class)
+  pub constructor_names : (class : Name) → IsDescribed before r.constructor class → DescriptorNames (IsThere after) (r.constructor class)
   constructor_names class described =
       laws.names before after r.constructor class described
       (object_fields_hold (λ (field : Member). IsFieldDescriptor field.desc) before (each_described r.classes.folder verified.tree.folder) class)

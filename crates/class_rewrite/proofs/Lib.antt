@@ -33,3 +33,9 @@ pub mod WrittenSettings
 pub mod EmittedItems
 pub mod AccessedItems
 pub mod LinkedParts
+pub mod PassingUses
+pub mod ConstructedItems
+pub mod CaughtItems
+pub mod OpenedFields
+pub mod MadeMembers
+pub mod WrittenUses

@@ -83,7 +83,7 @@ units_same (field ∷ fields) =
 
 -- ---- the class above
 
-kept_name : (name : Name) (names : List Name) → IsTrue (list_any (bytes_eq name) names) → bytes_eq name object ≡ false
+pub kept_name : (name : Name) (names : List Name) → IsTrue (list_any (bytes_eq name) names) → bytes_eq name object ≡ false
     → IsTrue (list_any (bytes_eq name) (filter (λ (n : Name). not (bytes_eq n object)) names))
 kept_name name [] one other = absurd (false≢true one)
 kept_name name (first ∷ names) one other = by (bytes_eq first object) refl (one_of_first first names name one) (λ later. kept_name name names later other) where
@@ -99,7 +99,7 @@ kept_name name (first ∷ names) one other = by (bytes_eq first object) refl (on
 
 module _ (headers : Headers) (hierarchy : IsHierarchy headers) where
   -- a class is among its own superclasses
-  itself : (name : Name) (header : Header) → class_named headers name ≡ Some header → IsTrue (list_any (bytes_eq name) (superclasses headers name))
+  pub itself : (name : Name) (header : Header) → class_named headers name ≡ Some header → IsTrue (list_any (bytes_eq name) (superclasses headers name))
   itself name header is = by header.super_name refl where
     first : (others : List Name) → IsTrue (list_any (bytes_eq name) (name ∷ others))
     first others = one_name_first name name others refl
@@ -111,14 +111,14 @@ module _ (headers : Headers) (hierarchy : IsHierarchy headers) where
         (first (superclasses headers above))
 
   -- what is above one of the superclasses is one of them
-  abbrev HasAbove : Name → Type 0
+  abbrev pub HasAbove : Name → Type 0
   HasAbove low =
       (name above : Name) (header : Header) → IsTrue (list_any (bytes_eq name) (superclasses headers low))
       → class_named headers name ≡ Some header
       → header.super_name ≡ Some above
       → IsTrue (list_any (bytes_eq above) (superclasses headers low))
 
-  above_there : (low : Name) (low_header : Header) → class_named headers low ≡ Some low_header → HasAbove low
+  pub above_there : (low : Name) (low_header : Header) → class_named headers low ≡ Some low_header → HasAbove low
   above_there low low_header there = of_each_class headers hierarchy HasAbove top step low low_header there where
     top : (top_header : Header) → class_named headers object ≡ Some top_header → HasAbove object
     top top_header is name above header one is_name some =

@@ -51,7 +51,7 @@ use Rattle.type_rules.specs.Grown.{AreGrownHeaders, IsGrownClass, IsGrownHeader,
 
 -- ---- fields
 
-fields_cleared : (s : Replacement) (class number : ℕ) (one other : Constants) (fields : List Field)
+pub fields_cleared : (s : Replacement) (class number : ℕ) (one other : Constants) (fields : List Field)
     → AreFieldsAlike (map (field_member one) fields) (map (field_member other) (map_numbered (field_written s class) number fields))
     → map (field_member other) (map_numbered (field_written s class) number fields)
     ≡ map_numbered (field_cleared s class) number (map (field_member one) fields)

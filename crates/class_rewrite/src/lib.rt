@@ -5,6 +5,7 @@ mod emitted_laws;
 mod access_laws;
 mod folder;
 mod laws;
+mod linked_laws;
 mod ready_laws;
 mod reasons;
 mod report;
@@ -18,6 +19,7 @@ pub use laws::{
     an_expanded_flat_code_of_a_verified_folder_is_typed,
     expanded_flat_codes_of_a_verified_folder_run_equally,
 };
+pub use linked_laws::written_methods_are_linked;
 pub use report::{Line, Report, is_rewritten, reason_name, rewritten};
 pub use verified_laws::{
     a_sound_written_folder_keeps_its_meaning, a_sound_written_folder_verifies,
