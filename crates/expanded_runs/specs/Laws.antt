@@ -1,0 +1,2 @@
+-- Laws of the words of this crate.
+pub mod KeptNames

@@ -1,0 +1,22 @@
+//! What the frames are that written code states.
+ghost use Rattle.std.specs.Prelude.{◌≡◌, ℕ, List, Option, Some};
+ghost use Rattle.class_model.specs.declared.frame.Frame.{Frame};
+ghost use Rattle.plan_flow.specs.Written.FramedCode.{IsFramed};
+ghost use Rattle.written_types.specs.Setting.{Setting};
+ghost use Rattle.written_types.specs.StatedFrames.{IsWholeFrame};
+ghost use Rattle.written_types.specs.Writing.{Writing, body_in, items_in};
+
+/// The frames that written code states have a type for each local unit, and each uninitialised object in them is that of an item that is a `new`
+/// (JVM Specification SE 8, 4.7.4).
+pub fn stated_frames_are_whole()
+    ensures { (w : Writing) (state : ℕ → Option Frame) (frames : List Frame)
+        → Setting w
+        → IsFramed w.s.flat w.form w.blocks (items_in w) (body_in w state) frames
+        → (number : ℕ) (frame : Frame)
+        → state number ≡ Some frame
+        → IsWholeFrame w frame }
+{
+    class_model::constants_compare_by_value();
+    class_tree::classes_of_a_tree_are_a_hierarchy();
+    plan_flow::effect_grows();
+}
