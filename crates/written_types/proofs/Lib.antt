@@ -132,3 +132,4 @@ mod AllEdges
 mod StatedAt
 mod WholeFrames
 mod FromLaws
+mod NamedStates

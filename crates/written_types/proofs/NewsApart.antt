@@ -16,7 +16,6 @@ use Rattle.member_link.specs.Machine.Replaced.{map_numbered}
 use Rattle.plan_flow.specs.Laws.WrittenBlocks.{first_item, split_at}
 use Rattle.plan_flow.specs.Written.Blocks.{Block, of_point}
 use Rattle.plan_flow.specs.Written.Finish.{Finished, end_items}
-use Rattle.plan_flow.specs.Written.FramedCode.{new_class_in}
 use Rattle.plan_flow.specs.Written.Routes.{Route, Routes}
 use Rattle.plan_flow.specs.Written.WrittenCode.{Form, block_items, short, written_items}
 use Rattle.plan_flow.specs.Written.WrittenConstants.{indexed_item}

@@ -1,20 +1,17 @@
 -- A frame that is stated: in which state of which typed point, and which types it has.
-use Rattle.std.proofs.Common.{◌≡◌, ◌+◌, ◌≤◌, ◌<◌, ℕ, zero, suc, max, Bool, true, false, List, [], ◌∷◌, ◌++◌, drop, length, map, replicate, slice_get, take, Option, Some, None, if◌then◌else◌, refl, sym, ap, subst, ◌∙◌, arith}
+use Rattle.std.proofs.Common.{◌≡◌, ◌+◌, ◌≤◌, ℕ, zero, suc, max, Bool, true, false, List, [], ◌∷◌, ◌++◌, drop, length, map, replicate, slice_get, take, Option, Some, None, if◌then◌else◌, refl, sym, ap, subst, ◌∙◌, arith}
 use Rattle.std.specs.List.{AllByRecursion}
-use Rattle.std.proofs.lemmas.List.{length-append, length-drop, length-map, length-replicate}
+use Rattle.std.proofs.lemmas.List.{length-append, length-map, length-replicate}
 use Rattle.std.proofs.lemmas.Option.{none-some, same_Some}
 use Rattle.class_model.specs.Frames.{depth, units}
 use Rattle.class_model.specs.declared.frame.Frame.{Frame}
 use Rattle.class_model.specs.declared.frame.VType.{VType}
 use Rattle.class_model.specs.declared.frame.VType.TheVariants as types
-use Rattle.flow_code.specs.FlatCode.{point_at}
 use Rattle.flow_code.specs.ReadTypes.{read_frame, read_type}
 use Rattle.flow_code.specs.WrittenUnits.{greatest_depth, written_units}
 use Rattle.flow_code.specs.declared.point.Point.{Point}
-use Rattle.making_code.specs.StateFrames.{state_frame}
 use Rattle.plan_flow.specs.Laws.WrittenBlocks.{split_at}
 use Rattle.plan_flow.specs.Written.FramedCode.{frame_by_item, frame_of_item, stands, stated_by, type_by_item}
-use Rattle.virtual_state.specs.States.{State}
 use Rattle.virtual_state.specs.declared.slot.Slot.{Slot}
 use Rattle.virtual_state.specs.declared.slot.Slot.TheVariants.{Plain, Virt, Unusable}
 use Rattle.written_types.proofs.BlockKinds.{kind_of_block}
@@ -27,7 +24,7 @@ use Rattle.written_types.proofs.OwnUnits.{have_long}
 use Rattle.written_types.proofs.SlotFrames.{slots_frame, state_is, units_behind}
 use Rattle.written_types.proofs.Standing.{all_at, all_joined}
 use Rattle.written_types.proofs.UnitTypes.{UnitTypes, both_paired, field_region, own_region, tops_paired, units_left, units_typed}
-use Rattle.written_types.specs.FitsTypes.{FitsTypes, HavePairs, is_reached}
+use Rattle.written_types.specs.FitsTypes.{HavePairs}
 use Rattle.written_types.specs.Writing.{Writing}
 
 -- ---- what is stated is the frame of a block

@@ -1,12 +1,12 @@
 -- The frames that written code states are whole.
-use Rattle.std.proofs.Common.{◌≡◌, ◌+◌, ℕ, zero, List, [], ◌∷◌, ◌++◌, length, map, replicate, slice_get, Option, Some, None, refl, sym, ap, subst, ◌∙◌}
+use Rattle.std.proofs.Common.{◌≡◌, ℕ, List, [], ◌∷◌, length, map, replicate, Option, Some, sym, subst, ◌∙◌}
 use Rattle.std.specs.List.{AllByRecursion}
 use Rattle.std.proofs.lemmas.List.{append_assoc}
 use Rattle.class_model.specs.declared.frame.Frame.{Frame}
 use Rattle.class_model.specs.declared.frame.VType.{VType}
 use Rattle.class_model.specs.declared.frame.VType.TheVariants as types
 use Rattle.flow_code.specs.FlatCode.{FlatCode}
-use Rattle.flow_code.specs.ReadTypes.{read_frame, read_type}
+use Rattle.flow_code.specs.ReadTypes.{read_type}
 use Rattle.flow_code.specs.WrittenUnits.{greatest_depth}
 use Rattle.making_code.specs.StateFrames.{site_types_from}
 use Rattle.plan_flow.specs.Written.FramedCode.{IsFramed, flow_into, frame_of_item, is_led_to, type_by_item}

@@ -1,6 +1,8 @@
 //! What the frames are that written code states.
 ghost use Rattle.std.specs.Prelude.{◌≡◌, ℕ, List, Option, Some};
 ghost use Rattle.class_model.specs.declared.frame.Frame.{Frame};
+ghost use Rattle.class_tree.specs.Headers.{headers_of};
+ghost use Rattle.expanded_runs.specs.NamedFrames.{FrameHas, HasFramedNames, IsFramedName};
 ghost use Rattle.plan_flow.specs.Written.FramedCode.{IsFramed};
 ghost use Rattle.written_types.specs.Setting.{Setting};
 ghost use Rattle.written_types.specs.StatedFrames.{IsWholeFrame};
@@ -17,6 +19,21 @@ pub fn stated_frames_are_whole()
         → IsWholeFrame w frame }
 {
     class_model::constants_compare_by_value();
+    class_tree::classes_of_a_tree_are_a_hierarchy();
+    plan_flow::effect_grows();
+}
+
+/// They name classes and arrays by texts that a Class constant may have, and the classes that they name are there (JVM Specification SE 8, 4.4.1 and
+/// 5.4.3.1), where the typed frames of the flat code, its sites and their fields do.
+pub fn stated_frames_have_framed_names()
+    ensures { (w : Writing) (state : ℕ → Option Frame) (frames : List Frame)
+        → Setting w
+        → HasFramedNames w.s.classes w.host w.s.flat
+        → IsFramed w.s.flat w.form w.blocks (items_in w) (body_in w state) frames
+        → (number : ℕ) (frame : Frame)
+        → state number ≡ Some frame
+        → FrameHas (IsFramedName (headers_of w.s.classes)) frame }
+{
     class_tree::classes_of_a_tree_are_a_hierarchy();
     plan_flow::effect_grows();
 }

@@ -1,12 +1,12 @@
 -- The classes that the frames of a StackMapTable name are those of Class constants, or stand in the frame that the code begins with.
-use Rattle.std.proofs.Common.{◌≡◌, ◌+◌, ◌-◌, ℕ, zero, suc, Bool, true, false, List, [], ◌∷◌, ◌++◌, length, reverse, replicate, take, Option, Some, None, Result, Ok, Err, if◌then◌else◌, refl, sym, ap, subst, ◌∙◌}
-use Rattle.std.specs.Prelude.{◌==◌, ◌||◌, ◌&&◌, nat_le, nat_lt}
+use Rattle.std.proofs.Common.{◌≡◌, ◌+◌, ◌-◌, ℕ, zero, suc, Bool, true, false, List, [], ◌∷◌, ◌++◌, length, reverse, replicate, take, Option, Some, None, Result, Ok, Err, if◌then◌else◌, refl, sym, subst}
+use Rattle.std.specs.Prelude.{◌==◌, ◌&&◌, nat_le, nat_lt}
 use Rattle.std.specs.List.{AllByRecursion}
 use Rattle.std.proofs.lemmas.List.{reverse-append}
 use Rattle.std.proofs.lemmas.Option.{none-some, same_Some}
 use Rattle.class_model.specs.Checks.{Fault, ◌>>=◌}
-use Rattle.class_model.specs.Cutting.{Cut, Rest, behind}
-use Rattle.class_model.specs.Frames.{AppendFrame, ChopFrame, ClassIndex, FrameForm, FullFrame, ItemFrame, ItemFrameExtended, NewOffset, NoOperand, ReservedFrame, SameFrame, SameFrameExtended, Setting, Stated, TypeOperand, counted_types_at, entries_of_units, filled, fits_at, frame_at, frame_behind, frame_rows, frames_at, is_new_at, is_top, is_wide, item_at, item_frame_at, listed, object_of, stack_map_table_at, table_u2_at, type_behind, type_rows, units_of_entries, verification_type_at, verification_types_at, without_tops}
+use Rattle.class_model.specs.Cutting.{Rest, behind}
+use Rattle.class_model.specs.Frames.{AppendFrame, ChopFrame, ClassIndex, FrameForm, FullFrame, ItemFrame, ItemFrameExtended, NewOffset, NoOperand, ReservedFrame, SameFrame, SameFrameExtended, Setting, Stated, TypeOperand, counted_types_at, entries_of_units, fits_at, frame_at, frame_behind, frame_rows, frames_at, is_new_at, is_top, is_wide, item_at, item_frame_at, listed, object_of, stack_map_table_at, table_u2_at, type_behind, type_rows, units_of_entries, verification_type_at, verification_types_at, without_tops}
 use Rattle.class_model.specs.Instructions.{is_start, u1_in}
 use Rattle.class_model.specs.PoolChecks.{class_at}
 use Rattle.class_model.specs.Tables.{Row, given_in}

@@ -3,7 +3,6 @@
 use Rattle.std.proofs.Common.{◌≡◌, ◌+◌, ◌-◌, ℕ, zero, suc, Bool, true, false, List, [], ◌∷◌, ◌++◌, length, map, take, drop, replicate, slice_get, Option, Some, None, if◌then◌else◌, refl, subst}
 use Rattle.std.proofs.lemmas.Option.{same_Some}
 use Rattle.std.specs.Prelude.{◌==◌, ◌&&◌, bytes_eq, nat_le, nat_lt, slice_set}
-use Rattle.class_model.specs.ArrayTypes.{component_of}
 use Rattle.class_model.specs.Frames.{is_wide, units}
 use Rattle.class_model.specs.Names.{init}
 use Rattle.class_model.specs.Pool.{constant_at}
@@ -22,13 +21,12 @@ use Rattle.class_model.specs.declared.pool.Const.{Const as Constant}
 use Rattle.class_model.specs.declared.pool.Const.TheVariants as consts
 use Rattle.class_tree.specs.Headers.{Name}
 use Rattle.class_tree.specs.Names.{throwable}
-use Rattle.class_tree.specs.Subtype.{IsReferenceComponent}
-use Rattle.expanded_runs.specs.NamedFrames.{FrameHas, TypeHas, TypesHave}
+use Rattle.expanded_runs.specs.NamedFrames.{FrameHas, IsKeptName, PoolHas, TypeHas, TypesHave}
 use Rattle.member_link.specs.References.{Reference}
 use Rattle.member_link.specs.RowScope.{RowScope}
 use Rattle.member_link.specs.Rows.ArithmeticRows.{Operation, divide_operations, float_operations, operation_in, operation_row, pure_operations, type_of_kind}
 use Rattle.member_link.specs.Rows.ArrayRows.{Elements, array_load_row, array_of, component_type, elements_from, elements_load_row, elements_of, elements_store_row, made_row, need_of_value, primitive_array}
-use Rattle.member_link.specs.Rows.LocalRows.{const_row, cut_before, load_row, local_entry, store_row, type_of_imm, with_units}
+use Rattle.member_link.specs.Rows.LocalRows.{const_row, cut_before, load_row, local_entry, store_row, stored, type_of_imm, with_units}
 use Rattle.member_link.specs.Rows.MemberRows.{PassesMethod, argument_needs, call_row, dynamic_row, get_field_row, get_static_row, init_row, initialised_type, instance_row, put_field_row, put_static_row, receiver, result_types, return_row, special_row, static_row}
 use Rattle.member_link.specs.Rows.Operands.{AllFit, Need, array_among, array_of_references, assignable_or_this, assignable_to, initialised, lowest_of, nothing, of_kind, some_array, topmost, under}
 use Rattle.member_link.specs.Rows.Row.{Row, either, no_row, plain, stack_behind}
@@ -37,6 +35,11 @@ use Rattle.member_link.specs.Rows.Table.{cast_row, jump_row, row_of, without_old
 use Rattle.member_link.specs.Signatures.{field_type, reference_of, result_of}
 
 -- ---- lists of types
+
+-- a property of one thing or the other, by a test
+pub either_has : {A : Type 0} (Holds : A → Type 0) (test : Bool) (one other : A) → Holds one → Holds other → Holds (if test then one else other)
+either_has Holds true one other h k = h
+either_has Holds false one other h k = k
 
 module _ (Has : Name → Type 0) where
   pub named_append : (entries others : List VType) → TypesHave Has entries → TypesHave Has others → TypesHave Has (entries ++ others)
@@ -69,34 +72,43 @@ module _ (Has : Name → Type 0) where
   named_map change keeps [] named = tt
   named_map change keeps (type ∷ entries) named = (keeps type named.0, named_map change keeps entries named.1)
 
+  -- ---- operands
+
+  pub lowest_named : (count : ℕ) (stack : List VType) → TypesHave Has stack → TypeHas Has (lowest_of count stack)
+  lowest_named count stack named = by (topmost count stack) refl (named_drop (length stack - count) stack named) where
+    by : (entries : List VType) → topmost count stack ≡ entries → TypesHave Has entries → TypeHas Has (lowest_of count stack)
+    by [] are all = rw are tt
+    by (first ∷ rest) are all = rw are (all.0)
+
+  -- ---- stores
+
+  cut_named : (at : ℕ) (locals : List VType) → TypesHave Has locals → TypesHave Has (cut_before at locals)
+  cut_named zero locals named = named
+  cut_named (suc at) locals named = by (slice_get locals at) refl where
+    by : (found : Option VType) → slice_get locals at ≡ found → TypesHave Has (cut_before (suc at) locals)
+    by None is = rw is named
+    by (Some type) is =
+        rw is (either_has (TypesHave Has) (is_wide type) (slice_set locals at types.Top) locals (named_set locals at types.Top named tt) named)
+
+  with_named : (at : ℕ) (written locals : List VType) → TypesHave Has written → TypesHave Has locals → TypesHave Has (with_units at written locals)
+  with_named at [] locals are all = all
+  with_named at (type ∷ written) locals are all = with_named (at + 1) written (slice_set locals at type) are.1 (named_set locals at type all are.0)
+
+  pub units_named : (type : VType) → TypeHas Has type → TypesHave Has (units type)
+  units_named types.Long is = (tt, (tt, tt))
+  units_named types.Double is = (tt, (tt, tt))
+  units_named types.Top is = (tt, tt)
+  units_named types.Int is = (tt, tt)
+  units_named types.Float is = (tt, tt)
+  units_named types.Null is = (tt, tt)
+  units_named types.UninitThis is = (tt, tt)
+  units_named (types.Object name) is = (is, tt)
+  units_named (types.Uninit at) is = (tt, tt)
+
+  pub stored_named : (at : ℕ) (type : VType) (locals : List VType) → TypeHas Has type → TypesHave Has locals → TypesHave Has (stored at type locals)
+  stored_named at type locals is named = with_named at (units type) (cut_before at locals) (units_named type is) (cut_named at locals named)
+
 -- ---- rows
-
--- What is known of the names that the constants of an instruction give.
-abbrev pub PoolHas : (Name → Type 0) → RowScope → Instr → Type 0
-PoolHas Has s (Ldc index) = (f : Frame) → TypesHave Has (const_row f (constant_at s.pool index)).gives
-PoolHas Has s (Ldc2 index) = (f : Frame) → TypesHave Has (const_row f (constant_at s.pool index)).gives
-PoolHas Has s (GetStatic index) =
-    (r : Reference) → reference_of s.pool (constant_at s.pool index) ≡ Some r → TypesHave Has (field_type r.desc ∷ [])
-PoolHas Has s (GetField index) =
-    (r : Reference) → reference_of s.pool (constant_at s.pool index) ≡ Some r → TypesHave Has (field_type r.desc ∷ [])
-PoolHas Has s (Invoke opcode index count) =
-    (r : Reference) → reference_of s.pool (constant_at s.pool index) ≡ Some r
-    → Has r.class × TypesHave Has (result_types (result_of r.desc))
-PoolHas Has s (Dynamic index) = (f : Frame) → TypesHave Has (dynamic_row s f (constant_at s.pool index)).gives
-PoolHas Has s (NewRefArray index) = (name : Name) → array_of (class_at s.pool index) ≡ Some name → Has name
-PoolHas Has s (NewMulti index dimensions) = (name : Name) → class_at s.pool index ≡ Some name → Has name
-PoolHas Has s (Cast index) = (name : Name) → class_at s.pool index ≡ Some name → Has name
-PoolHas Has s other = Unit {0}
-
--- a property of one thing or the other, by a test
-either_has : {A : Type 0} (Holds : A → Type 0) (test : Bool) (one other : A) → Holds one → Holds other → Holds (if test then one else other)
-either_has Holds true one other h k = h
-either_has Holds false one other h k = k
-
--- It is known of the component of an array of references, and of each array of a primitive type.
-pub record IsKeptName (Has : Name → Type 0) : Type 0 where
-  pub component : (name component : Name) → IsReferenceComponent name component → Has name → Has (component_of name)
-  pub primitive : (code : ℕ) (name : Name) → primitive_array code ≡ Some name → Has name
 
 module _ (Has : Name → Type 0) (closed : IsKeptName Has) (s : RowScope) (f : Frame) (own_has : Has s.own.name) (named : FrameHas Has f) where
   -- the frame behind a row
@@ -120,12 +132,6 @@ module _ (Has : Name → Type 0) (closed : IsKeptName Has) (s : RowScope) (f : F
   top_named : (count : ℕ) → TypesHave Has (topmost count f.stack)
   top_named count = named_drop Has (length f.stack - count) f.stack named.stack
 
-  lowest_named : (count : ℕ) → TypeHas Has (lowest_of count f.stack)
-  lowest_named count = by (topmost count f.stack) refl (top_named count) where
-    by : (entries : List VType) → topmost count f.stack ≡ entries → TypesHave Has entries → TypeHas Has (lowest_of count f.stack)
-    by [] are all = rw are tt
-    by (first ∷ rest) are all = rw are (all.0)
-
   -- ---- locals
 
   imm_named : (imm : Imm) → TypeHas Has (type_of_imm imm)
@@ -141,37 +147,9 @@ module _ (Has : Name → Type 0) (closed : IsKeptName Has) (s : RowScope) (f : F
     by None is = rw is tt
     by (Some type) is = rw is ((named_get Has f.locals at type named.locals is, tt))
 
-  cut_named : (at : ℕ) → TypesHave Has (cut_before at f.locals)
-  cut_named zero = named.locals
-  cut_named (suc at) = by (slice_get f.locals at) refl where
-    by : (found : Option VType) → slice_get f.locals at ≡ found → TypesHave Has (cut_before (suc at) f.locals)
-    by None is = rw is (named.locals)
-    by (Some type) is =
-        rw is (either_has (TypesHave Has) (is_wide type) (slice_set f.locals at types.Top) f.locals
-        (named_set Has f.locals at types.Top named.locals tt) named.locals)
-
-  with_named : (at : ℕ) (written locals : List VType) → TypesHave Has written → TypesHave Has locals
-      → TypesHave Has (with_units at written locals)
-  with_named at [] locals are all = all
-  with_named at (type ∷ written) locals are all =
-      with_named (at + 1) written (slice_set locals at type) are.1 (named_set Has locals at type all are.0)
-
-  units_named : (type : VType) → TypeHas Has type → TypesHave Has (units type)
-  units_named types.Long is = (tt, (tt, tt))
-  units_named types.Double is = (tt, (tt, tt))
-  units_named types.Top is = (tt, tt)
-  units_named types.Int is = (tt, tt)
-  units_named types.Float is = (tt, tt)
-  units_named types.Null is = (tt, tt)
-  units_named types.UninitThis is = (tt, tt)
-  units_named (types.Object name) is = (is, tt)
-  units_named (types.Uninit at) is = (tt, tt)
-
   store_keeps : (kind : Kind) (at : ℕ) → Keeps (store_row f kind at)
-  store_keeps kind at = (
-    with_named at (units (lowest_of 1 f.stack)) (cut_before at f.locals) (units_named (lowest_of 1 f.stack) (lowest_named 1)) (cut_named at),
-    (nothing_kept (of_kind kind ∷ [])).1,
-  )
+  store_keeps kind at =
+      (stored_named Has at (lowest_of 1 f.stack) f.locals (lowest_named Has 1 f.stack named.stack) named.locals, (nothing_kept (of_kind kind ∷ [])).1)
 
   -- ---- arrays
 

@@ -1,21 +1,31 @@
--- Names of classes and arrays that a Class constant may have: those of arrays, of components and of what descriptors spell.
-use Rattle.std.proofs.Common.{◌≡◌, ◌≢◌, ◌⊎◌, ◌+◌, ◌/◌, ◌%◌, ◌^◌, ◌<◌, ◌≤◌, inl, inr, ℕ, zero, suc, Bool, true, false, List, [], ◌∷◌, ◌++◌, length, replicate, codes, refl, sym, ap, subst, ◌∙◌, arith}
-use Rattle.std.specs.Prelude.{◌==◌, not, ◌&&◌}
-use Rattle.std.specs.List.{AllByRecursion, flat_map, list_all}
-use Rattle.std.proofs.lemmas.Bool.{eq-eqb, eqb-true, false≢true}
-use Rattle.std.proofs.lemmas.List.{length-append}
+-- Names of classes and arrays that a Class constant may have: those of arrays, of components and of what is loaded.
+use Rattle.std.proofs.Common.{◌≡◌, ◌≢◌, ◌⊎◌, ◌+◌, ◌-◌, ◌/◌, ◌%◌, ◌<◌, ◌≤◌, ◌==◌, inl, inr, ℕ, zero, suc, Bool, true, false, not, List, [], ◌∷◌, ◌++◌, length, take, replicate, codes, Option, Some, None, refl, sym, ap, subst, ◌∙◌, arith}
+use Rattle.std.specs.Prelude.{◌&&◌}
+use Rattle.std.specs.List.{AllByRecursion, flat_map, join_with_byte, list_all}
+use Rattle.std.proofs.lemmas.Bool.{and_parts, eq-eqb, false≢true, not-true, true≢false}
+use Rattle.std.proofs.lemmas.List.{length-append, length_push, take_at}
 use Rattle.std.proofs.lemmas.Grind.{flat_map-append}
-use Rattle.class_model.specs.Code.{FitsArray, HasDimensions}
+use Rattle.class_model.specs.ArrayTypes.{component_of}
+use Rattle.class_model.specs.Characters.{left_bracket, semicolon}
+use Rattle.class_model.specs.Code.{FitsArray}
 use Rattle.class_model.specs.Descriptors.{IsArrayType, IsElementType, IsReferenceName, field_type_text, named_text}
-use Rattle.class_model.specs.Laws.Descriptors.{Head, array_head, array_text, class_text, name_head}
-use Rattle.class_model.specs.Laws.Texts.{OneByte, ThreeBytes, TwoBytes, one_byte, unit_forms}
-use Rattle.class_model.specs.ModifiedUtf8.{IsCodeUnit, IsModifiedUtf8, IsText, unit_bytes}
+use Rattle.class_model.specs.Laws.Descriptors.{array_head, array_text, class_text, name_head}
+use Rattle.class_model.specs.Laws.Texts.{one_byte, plain_text, unit_forms}
+use Rattle.class_model.specs.ModifiedUtf8.{IsCodeUnit, IsModifiedUtf8, IsText, is_plain_text, unit_bytes}
 use Rattle.class_model.specs.Names.{IsClassName, IsNameByte, IsUnqualifiedName}
+use Rattle.class_model.specs.declared.array_codes.TheConstants.{T_BOOLEAN, T_CHAR, T_FLOAT, T_DOUBLE, T_BYTE, T_SHORT, T_INT, T_LONG}
 use Rattle.class_model.specs.declared.descriptor.FieldType.{FieldType}
 use Rattle.class_model.specs.declared.descriptor.FieldType.TheVariants as field_types
+use Rattle.class_model.specs.declared.frame.Frame.{Frame}
+use Rattle.class_model.specs.declared.pool.Const.{Const as Constant}
+use Rattle.class_model.specs.declared.pool.Const.TheVariants as consts
 use Rattle.class_tree.specs.Headers.{Name}
+use Rattle.class_tree.specs.Names.{method_handle, method_type}
 use Rattle.class_tree.specs.Subtype.{IsReferenceComponent, array, class}
-use Rattle.expanded_runs.specs.NamedFrames.{IsSpelledName}
+use Rattle.expanded_runs.specs.Laws.KeptNames.{either_has}
+use Rattle.expanded_runs.specs.NamedFrames.{IsKeptName, IsSpelledName, TypesHave}
+use Rattle.member_link.specs.Rows.ArrayRows.{primitive_array}
+use Rattle.member_link.specs.Rows.LocalRows.{const_row}
 
 same_heads : (a b : ℕ) (ones others : List ℕ) → a ∷ ones ≡ b ∷ others → a ≡ b
 same_heads a b ones others e = cc
@@ -40,7 +50,7 @@ without_first byte rest (unit ∷ units) low each spelled =
           absurd (omega arith)
       | inr (inr three) ↦
           let e : byte ∷ rest
-              ≡ (0xE0 + unit / 0x1000) ∷ (0x80 + unit / 0x40 % 0x40) ∷ (0x80 + unit % 0x40) ∷ flat_map unit_bytes units =
+          ≡ (0xE0 + unit / 0x1000) ∷ (0x80 + unit / 0x40 % 0x40) ∷ (0x80 + unit % 0x40) ∷ flat_map unit_bytes units =
           rw three.bytes at spelled in
           let same : byte ≡ 0xE0 + unit / 0x1000 = cc in
           absurd (omega arith)
@@ -311,3 +321,108 @@ component_spelled (class component) spelled = record {
       let no : 91 ∷ 76 ∷ component ++ 59 ∷ [] ≡ head.first ∷ head.more = head.is in
       absurd (head.no_bracket cc)
   by (inr type) = inner_class component type
+
+-- ---- names that are known
+
+abbrev is_name_byte : ℕ → Bool
+is_name_byte byte = not (byte == 46) && not (byte == 47) && (not (byte == 59) && not (byte == 91))
+
+differs : (byte other : ℕ) → not (byte == other) ≡ true → byte ≢ other
+differs byte other test equal = true≢false (sym (eq-eqb byte other equal) ∙ not-true (byte == other) test)
+
+name_byte : (byte : ℕ) → is_name_byte byte ≡ true → IsNameByte byte
+name_byte byte test =
+    let halves = and_parts (not (byte == 46) && not (byte == 47)) (not (byte == 59) && not (byte == 91)) test in
+    let low = and_parts (not (byte == 46)) (not (byte == 47)) halves.0 in
+    let high = and_parts (not (byte == 59)) (not (byte == 91)) halves.1 in
+    record {
+      no_dot = differs byte 46 low.0;
+      no_slash = differs byte 47 low.1;
+      no_semicolon = differs byte 59 high.0;
+      no_bracket = differs byte 91 high.1;
+    }
+
+name_bytes : (bytes : List ℕ) → list_all is_name_byte bytes ≡ true → AllByRecursion IsNameByte bytes
+name_bytes [] passes = tt
+name_bytes (byte ∷ bytes) passes =
+    let parts = and_parts (is_name_byte byte) (list_all is_name_byte bytes) passes in
+    (name_byte byte parts.0, name_bytes bytes parts.1)
+
+abbrev is_unqualified : List ℕ → Bool
+is_unqualified [] = false
+is_unqualified (byte ∷ bytes) = list_all is_name_byte (byte ∷ bytes)
+
+unqualified : (name : List ℕ) → is_unqualified name ≡ true → IsUnqualifiedName name
+unqualified [] test = absurd (false≢true test)
+unqualified (byte ∷ bytes) test = record { some = λ e. absurd cc; bytes = name_bytes (byte ∷ bytes) test }
+
+parts_unqualified : (parts : List (List ℕ)) → list_all is_unqualified parts ≡ true → AllByRecursion IsUnqualifiedName parts
+parts_unqualified [] test = tt
+parts_unqualified (part ∷ parts) test =
+    let both = and_parts (is_unqualified part) (list_all is_unqualified parts) test in
+    (unqualified part both.0, parts_unqualified parts both.1)
+
+-- a name of plain bytes, by its parts
+known_name : (part : List ℕ) (parts : List (List ℕ)) → is_plain_text (join_with_byte 47 (part ∷ parts)) ≡ true
+    → list_all is_unqualified (part ∷ parts) ≡ true
+    → IsSpelledName (join_with_byte 47 (part ∷ parts))
+known_name part parts plain test = record {
+  text = plain_text (join_with_byte 47 (part ∷ parts)) plain;
+  is_name = inl (record { parts = part ∷ parts; some = λ e. absurd cc; unqualified = parts_unqualified (part ∷ parts) test; joined = refl });
+}
+
+string_spelled : IsSpelledName (codes "java/lang/String")
+string_spelled = known_name (codes "java") (codes "lang" ∷ codes "String" ∷ []) refl refl
+
+class_class_spelled : IsSpelledName (codes "java/lang/Class")
+class_class_spelled = known_name (codes "java") (codes "lang" ∷ codes "Class" ∷ []) refl refl
+
+handle_spelled : IsSpelledName method_handle
+handle_spelled = known_name (codes "java") (codes "lang" ∷ codes "invoke" ∷ codes "MethodHandle" ∷ []) refl refl
+
+type_spelled : IsSpelledName method_type
+type_spelled = known_name (codes "java") (codes "lang" ∷ codes "invoke" ∷ codes "MethodType" ∷ []) refl refl
+
+-- ---- what rows keep
+
+class_front : (name : Name) → take (length (name ++ semicolon ∷ []) - 1) (name ++ semicolon ∷ []) ≡ name
+class_front name =
+    take_at name (semicolon ∷ []) (length (name ++ semicolon ∷ []) - 1) (let e = length_push name semicolon in omega (arith, e))
+
+component_is : (name component : Name) → IsReferenceComponent name component → component_of name ≡ component
+component_is _ _ (array component is) = subst (λ (c : Name). component_of (left_bracket ∷ c) ≡ c) (sym is.1) refl
+component_is _ _ (class component) = class_front component
+
+abbrev HasSpelled : Option Name → Type 0
+HasSpelled None = Unit {0}
+HasSpelled (Some name) = IsSpelledName name
+
+primitive_has : (code : ℕ) → HasSpelled (primitive_array code)
+primitive_has code =
+    either_has HasSpelled (code == T_BOOLEAN) _ _ (primitive_spelled 90 field_types.Bool (omega arith) (omega arith) tt refl)
+    (either_has HasSpelled (code == T_CHAR) _ _ (primitive_spelled 67 field_types.Char (omega arith) (omega arith) tt refl)
+    (either_has HasSpelled (code == T_FLOAT) _ _ (primitive_spelled 70 field_types.Float (omega arith) (omega arith) tt refl)
+    (either_has HasSpelled (code == T_DOUBLE) _ _ (primitive_spelled 68 field_types.Double (omega arith) (omega arith) tt refl)
+    (either_has HasSpelled (code == T_BYTE) _ _ (primitive_spelled 66 field_types.Byte (omega arith) (omega arith) tt refl)
+    (either_has HasSpelled (code == T_SHORT) _ _ (primitive_spelled 83 field_types.Short (omega arith) (omega arith) tt refl)
+    (either_has HasSpelled (code == T_INT) _ _ (primitive_spelled 73 field_types.Int (omega arith) (omega arith) tt refl)
+    (either_has HasSpelled (code == T_LONG) _ _ (primitive_spelled 74 field_types.Long (omega arith) (omega arith) tt refl) tt)))))))
+
+pub spelled_kept : IsKeptName IsSpelledName
+spelled_kept = record {
+  component = λ name component of spelled. subst IsSpelledName (sym (component_is name component of)) (component_spelled of spelled);
+  primitive = λ code name is. subst HasSpelled is (primitive_has code);
+}
+
+-- what is loaded
+pub constants_spelled : (f : Frame) (constant : Option Constant) → TypesHave IsSpelledName (const_row f constant).gives
+constants_spelled f None = tt
+constants_spelled f (Some (consts.Integer n)) = (tt, tt)
+constants_spelled f (Some (consts.Float bits)) = (tt, tt)
+constants_spelled f (Some (consts.Long n)) = (tt, tt)
+constants_spelled f (Some (consts.Double bits)) = (tt, tt)
+constants_spelled f (Some (consts.String text)) = (string_spelled, tt)
+constants_spelled f (Some (consts.Class name)) = (class_class_spelled, tt)
+constants_spelled f (Some (consts.MethodHandle kind reference)) = (handle_spelled, tt)
+constants_spelled f (Some (consts.MethodType desc)) = (type_spelled, tt)
+constants_spelled f (Some other) = tt
