@@ -46,7 +46,7 @@ use Rattle.expanded_runs.proofs.Types.RowNames.{PoolNamed, there_kept}
 use Rattle.expanded_runs.proofs.Types.ShortTexts.{class_texts_short}
 use Rattle.expanded_runs.proofs.Types.StatedNames.{all_values_named, entry_frame_has, frame_named, one_of}
 use Rattle.expanded_runs.proofs.Types.ThroughClass.{ArrayInterfaces, IsKnown}
-use Rattle.expanded_runs.specs.Laws.KeptNames.{named_get, row_keeps}
+use Rattle.expanded_runs.specs.Laws.KeptNames.{load_fits, named_get, row_keeps}
 use Rattle.expanded_runs.specs.NamedFrames.{FrameHas, IsKeptName, PoolHas}
 use Rattle.flow_code.specs.TypedFrames.{FolderFrames}
 use Rattle.member_link.specs.Bodies.{falls_through, flows_on}
@@ -74,7 +74,8 @@ module _ (Has : Name → Type 0) (closed : IsKeptName Has) (s : Scope) (frames :
       → flows_on (point_of s placed) frame ≡ Some flows
       → FrameHas Has flows
   behind_has placed frame flows constants has row is =
-      let keeps = row_keeps Has closed (row_scope s) frame own_has has placed.at placed.instr constants row.operands in
+      let fit = load_fits (row_scope s) frame placed.at placed.instr row.operands in
+      let keeps = row_keeps Has closed (row_scope s) (row_scope s) frame own_has has placed.at placed.instr constants fit in
       let same = framed_is (falls_through placed.instr) (row_of (row_scope s) frame placed.at placed.instr).goes_on _ flows is in
       subst (FrameHas Has) same (record { locals = keeps.0; stack = keeps.1 })
 

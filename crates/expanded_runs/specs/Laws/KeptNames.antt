@@ -110,7 +110,18 @@ module _ (Has : Name → Type 0) where
 
 -- ---- rows
 
-module _ (Has : Name → Type 0) (closed : IsKeptName Has) (s : RowScope) (f : Frame) (own_has : Has s.own.name) (named : FrameHas Has f) where
+-- What is asked of an array whose component is loaded, by what another scope reads.
+abbrev pub LoadFits : RowScope → Frame → Instr → Type 0
+LoadFits t f (ArrayLoad opcode) = AllFit t (array_load_row f opcode).takes (topmost (length (array_load_row f opcode).takes) f.stack)
+LoadFits t f other = Unit {0}
+
+pub load_fits : (s : RowScope) (f : Frame) (at : ℕ) (instr : Instr)
+    → AllFit s (row_of s f at instr).takes (topmost (length (row_of s f at instr).takes) f.stack)
+    → LoadFits s f instr
+load_fits s f at (ArrayLoad opcode) fit = fit
+load_fits s f at other fit = tt
+
+module _ (Has : Name → Type 0) (closed : IsKeptName Has) (s t : RowScope) (f : Frame) (own_has : Has s.own.name) (named : FrameHas Has f) where
   -- the frame behind a row
   abbrev pub Keeps : Row → Type 0
   Keeps row = TypesHave Has row.locals × TypesHave Has (stack_behind f row)
@@ -180,24 +191,24 @@ module _ (Has : Name → Type 0) (closed : IsKeptName Has) (s : RowScope) (f : F
   elements_store_keeps (Some e) = nothing_kept (array_among e.arrays ∷ of_kind kinds.Int ∷ need_of_value e.type ∷ [])
 
   -- the component of an array of references
-  component_named : AllFit s (array_of_references ∷ of_kind kinds.Int ∷ []) (topmost 2 f.stack) → TypeHas Has (component_type (lowest_of 2 f.stack))
+  component_named : AllFit t (array_of_references ∷ of_kind kinds.Int ∷ []) (topmost 2 f.stack) → TypeHas Has (component_type (lowest_of 2 f.stack))
   component_named fit = by (topmost 2 f.stack) refl fit (top_named 2) where
-    of_type : (type : VType) → AllFit s (array_of_references ∷ []) (type ∷ []) → TypeHas Has type → TypeHas Has (component_type type)
+    of_type : (type : VType) → AllFit t (array_of_references ∷ []) (type ∷ []) → TypeHas Has type → TypeHas Has (component_type type)
     of_type types.Null fits is = tt
     of_type (types.Object name) fits is = closed.component name fits.0.0 fits.0.1 is
     of_type other fits is = absurd fits.0
 
-    by : (entries : List VType) → topmost 2 f.stack ≡ entries → AllFit s (array_of_references ∷ of_kind kinds.Int ∷ []) entries
+    by : (entries : List VType) → topmost 2 f.stack ≡ entries → AllFit t (array_of_references ∷ of_kind kinds.Int ∷ []) entries
         → TypesHave Has entries
         → TypeHas Has (component_type (lowest_of 2 f.stack))
     by [] are fits all = absurd fits
     by (first ∷ rest) are fits all = rw are (of_type first (fits.0, tt) all.0)
 
-  load_element_keeps : (opcode : ℕ) → AllFit s (array_load_row f opcode).takes (topmost (length (array_load_row f opcode).takes) f.stack)
+  load_element_keeps : (opcode : ℕ) → AllFit t (array_load_row f opcode).takes (topmost (length (array_load_row f opcode).takes) f.stack)
       → Keeps (array_load_row f opcode)
   load_element_keeps opcode fit = by (opcode == AALOAD) fit where
     by : (test : Bool)
-        → AllFit s (either test (plain f (array_of_references ∷ of_kind kinds.Int ∷ []) (component_type (lowest_of 2 f.stack) ∷ []))
+        → AllFit t (either test (plain f (array_of_references ∷ of_kind kinds.Int ∷ []) (component_type (lowest_of 2 f.stack) ∷ []))
         (elements_load_row f (elements_from IALOAD opcode))).takes
         (topmost (length (either test (plain f (array_of_references ∷ of_kind kinds.Int ∷ []) (component_type (lowest_of 2 f.stack) ∷ []))
         (elements_load_row f (elements_from IALOAD opcode))).takes) f.stack)
@@ -368,7 +379,7 @@ module _ (Has : Name → Type 0) (closed : IsKeptName Has) (s : RowScope) (f : F
 
   -- The row of each instruction.
   pub row_keeps : (at : ℕ) (instr : Instr) → PoolHas Has s instr
-      → AllFit s (row_of s f at instr).takes (topmost (length (row_of s f at instr).takes) f.stack)
+      → LoadFits t f instr
       → Keeps (row_of s f at instr)
   row_keeps at Nop there fit = nothing_kept []
   row_keeps at (Const imm) there fit = kept [] (type_of_imm imm ∷ []) (imm_named imm, tt)
