@@ -1,8 +1,10 @@
 //! What the frames are that written code states.
-ghost use Rattle.std.specs.Prelude.{◌≡◌, ℕ, List, Option, Some};
+ghost use Rattle.std.specs.Prelude.{◌≡◌, ℕ, List, Option, Some, None, slice_get};
 ghost use Rattle.class_model.specs.declared.frame.Frame.{Frame};
 ghost use Rattle.class_tree.specs.Headers.{headers_of};
 ghost use Rattle.expanded_runs.specs.NamedFrames.{FrameHas, HasFramedNames, IsFramedName};
+ghost use Rattle.flow_code.specs.declared.point.Site.{Site};
+ghost use Rattle.member_link.specs.Signatures.{result_of};
 ghost use Rattle.plan_flow.specs.Written.FramedCode.{IsFramed};
 ghost use Rattle.written_types.specs.Setting.{Setting};
 ghost use Rattle.written_types.specs.StatedFrames.{IsWholeFrame};
@@ -34,6 +36,18 @@ pub fn stated_frames_have_framed_names()
         → state number ≡ Some frame
         → FrameHas (IsFramedName (headers_of w.s.classes)) frame }
 {
+    class_tree::classes_of_a_tree_are_a_hierarchy();
+    plan_flow::effect_grows();
+}
+
+/// The field constructors that written code calls have no result.
+pub fn written_field_constructors_have_no_result()
+    ensures { (w : Writing) (number : ℕ) (site : Site)
+        → Setting w
+        → slice_get w.s.flat.sites number ≡ Some site
+        → result_of (w.constructor site.class) ≡ None }
+{
+    class_model::parameters_of_bytes_are_spelled();
     class_tree::classes_of_a_tree_are_a_hierarchy();
     plan_flow::effect_grows();
 }
