@@ -28,3 +28,6 @@ pub mod UsedFolders
 pub mod TypedRewriting
 pub mod TypedFolders
 pub mod SameHandles
+pub mod WrittenSettings
+mod NamedItems
+mod SpelledWalk

@@ -2,6 +2,7 @@
 #![tactic(auto)]
 
 mod folder;
+mod frame_facts;
 mod laws;
 mod ready_laws;
 mod reasons;
@@ -9,6 +10,7 @@ mod report;
 mod verified_laws;
 
 pub use folder::{Optimised, optimise_folder};
+pub use frame_facts::frames_of_written_code_have_spelled_names;
 pub use laws::{
     a_method_has_one_reason, a_written_folder_runs_as_its_folder, a_written_folder_runs_the_same,
     an_expanded_flat_code_of_a_verified_folder_is_typed,
