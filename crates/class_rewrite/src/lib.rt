@@ -4,6 +4,7 @@
 mod emitted_laws;
 mod access_laws;
 mod folder;
+mod frame_facts;
 mod laws;
 mod linked_laws;
 mod ready_laws;
@@ -14,6 +15,7 @@ mod verified_laws;
 pub use emitted_laws::rewritten_items_are_emitted_code;
 pub use access_laws::rewritten_items_may_use_what_they_name;
 pub use folder::{Optimised, optimise_folder};
+pub use frame_facts::frames_of_written_code_have_spelled_names;
 pub use laws::{
     a_method_has_one_reason, a_written_folder_runs_as_its_folder, a_written_folder_runs_the_same,
     an_expanded_flat_code_of_a_verified_folder_is_typed,

@@ -3,3 +3,5 @@ pub mod ByteCodes
 pub mod CarriedConstants
 pub mod ExpandedPrograms
 pub mod UsableNames
+pub mod NamedFrames
+pub mod Laws

@@ -3,4 +3,5 @@ pub mod HeldRows
 pub mod Inner
 pub mod Laws
 pub mod Setting
+pub mod StatedFrames
 pub mod Writing

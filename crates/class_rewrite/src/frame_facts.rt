@@ -1,0 +1,23 @@
+//! What the frames of written code name.
+ghost use Rattle.std.specs.Prelude.{ℕ, List, Option};
+ghost use Rattle.class_model.specs.declared.frame.Frame.{Frame};
+ghost use Rattle.class_rewrite.specs.Inner.SpelledFrames.{AreSpelledFrames};
+ghost use Rattle.expanded_runs.specs.NamedFrames.{HasFramedNames};
+ghost use Rattle.plan_flow.specs.Written.FramedCode.{IsFramed};
+ghost use Rattle.written_types.specs.Setting.{Setting};
+ghost use Rattle.written_types.specs.Writing.{Writing, body_in, items_in};
+
+/// The frames of written code name classes and arrays by texts that a Class constant may have, and so does what its items push, where the flat code
+/// that it is written from does.
+pub fn frames_of_written_code_have_spelled_names()
+    ensures { (w : Writing) (state : ℕ → Option Frame) (frames : List Frame)
+        → Setting w
+        → HasFramedNames w.s.classes w.host w.s.flat
+        → IsFramed w.s.flat w.form w.blocks (items_in w) (body_in w state) frames
+        → AreSpelledFrames w frames }
+{
+    class_model::constants_compare_by_value();
+    written_types::frames_type_written_code();
+    written_types::stated_frames_have_framed_names();
+    written_types::written_field_constructors_have_no_result();
+}
