@@ -5,7 +5,9 @@ pub mod WrittenInstrs
 pub mod WrittenFolders
 pub mod MeantOps
 pub mod NeededConstants
+pub mod SameConstants
 pub mod NoHandles
+pub mod AddedConstants
 pub mod StayingIndices
 pub mod FirstEntries
 pub mod WrittenOps
@@ -14,4 +16,15 @@ pub mod WrittenMethods
 pub mod WrittenSorts
 pub mod WrittenClasses
 pub mod MadeClasses
+pub mod GrownFolders
+pub mod GrownTrees
+pub mod StackRoom
 pub mod WholeFolders
+pub mod FolderPairs
+pub mod ReadMajors
+pub mod WrittenScopes
+pub mod DeclaredFolders
+pub mod UsedFolders
+pub mod TypedRewriting
+pub mod TypedFolders
+pub mod SameHandles

@@ -1,4 +1,4 @@
--- What written code and its frames and constructors add to a pool has no method handle.
+-- What written code and its frames and constructors add to a pool has no method handle and no method type.
 use Rattle.std.proofs.Common.{◌≡◌, ◌==◌, ◌+◌, ◌++◌, ℕ, nat_le, Bool, true, false, List, [], ◌∷◌, flat_map, length, Option, Some, None, if◌then◌else◌, option_and_then, refl, sym, ap, subst, ◌∙◌}
 use Rattle.std.specs.Prelude.{codes}
 use Rattle.std.specs.List.{AllByRecursion}
@@ -12,8 +12,10 @@ use Rattle.class_model.specs.declared.frame.VType.{VType}
 use Rattle.class_model.specs.declared.frame.VType.TheVariants as types
 use Rattle.class_model.specs.declared.pool.Const.{Const}
 use Rattle.class_model.specs.declared.pool.Const.TheVariants.{Class, Double, Fieldref, Float, Integer, InterfaceMethodref, InvokeDynamic, Long, MethodHandle, MethodType, Methodref, NameAndType, String, Utf8}
+use Rattle.class_rewrite.proofs.SameConstants.{Fails}
 use Rattle.class_tree.specs.Headers.{Headers, Name}
-use Rattle.making_code.specs.Constants.{MemberKind, Need, class_needs, constant_of, constructor_needs, grow, index_of, member_needs, needs_at, needs_class, needs_itself, needs_member, needs_name_and_type, needs_of_class, needs_of_constant, needs_of_reference, needs_of_string, needs_string, needs_text, of_field, of_interface_method, of_method, reference_of_kind, with_constant}
+use Rattle.class_tree.specs.Steps.{is_method_type}
+use Rattle.making_code.specs.Constants.{MemberKind, Need, constant_of, grow, index_of, needs_class, needs_itself, needs_member, needs_name_and_type, needs_of_class, needs_of_constant, needs_of_reference, needs_of_string, needs_string, needs_text, of_field, of_interface_method, of_method, with_constant}
 use Rattle.making_code.specs.FieldConstructor.{CInstr, calls_constructor, calls_object, constructor_items, constructor_method_needs, item_needs as constructor_item_needs, puts_field, simple}
 use Rattle.making_code.specs.Items.{WCatch, WInstr, WItem, carried, constructs, load, makes, plain, store}
 use Rattle.plan_flow.specs.Laws.WrittenBlocks.{holds_of_both}
@@ -25,6 +27,7 @@ use Rattle.stackmap_emit.specs.FrameConstants.{frame_needs, needs_named, stated_
 
 abbrev pub IsNoHandle : Const → Type 0
 IsNoHandle (MethodHandle kind reference) = ⊥
+IsNoHandle (MethodType desc) = ⊥
 IsNoHandle constant = Unit {0}
 
 abbrev pub NeedsNoHandle : Need → Type 0
@@ -37,11 +40,12 @@ NeedsNoHandle (needs_member kind class name desc) = Unit {0}
 abbrev pub NeedNoHandles : List Need → Type 0
 NeedNoHandles needs = AllByRecursion NeedsNoHandle needs
 
--- one pool begins with another, and has no more method handles
+-- one pool begins with another, and has no more method handles and method types
 pub record AddsNoHandles (pool grown : Constants) : Type 0 where
   pub more : Constants
   pub is : grown ≡ pool ++ more
   pub none : AllByRecursion (λ (entry : Option Const). ¬ IsHandle entry) more
+  pub no_types : AllByRecursion (Fails is_method_type) more
 
 no_more : {A : Type 0} (xs : List A) → xs ≡ xs ++ []
 no_more [] = refl
@@ -52,13 +56,14 @@ joined [] ys zs = refl
 joined (x ∷ xs) ys zs = ap (λ (rest : List _). x ∷ rest) (joined xs ys zs)
 
 pub adds_nothing : (pool : Constants) → AddsNoHandles pool pool
-adds_nothing pool = record { more = []; is = no_more pool; none = tt }
+adds_nothing pool = record { more = []; is = no_more pool; none = tt; no_types = tt }
 
 pub adds_through : (pool grown last : Constants) → AddsNoHandles pool grown → AddsNoHandles grown last → AddsNoHandles pool last
 adds_through pool grown last one next = record {
   more = one.more ++ next.more;
   is = next.is ∙ ap (λ (x : Constants). x ++ next.more) one.is ∙ joined pool one.more next.more;
   none = holds_of_both (λ (entry : Option Const). ¬ IsHandle entry) one.more next.more one.none next.none;
+  no_types = holds_of_both (Fails is_method_type) one.more next.more one.no_types next.no_types;
 }
 
 entries_none : (constant : Const) → IsNoHandle constant → AllByRecursion (λ (entry : Option Const). ¬ IsHandle entry) (entries_of constant)
@@ -74,8 +79,15 @@ entries_none (Methodref class member) is = ((λ h. h), tt)
 entries_none (InterfaceMethodref class member) is = ((λ h. h), tt)
 entries_none (NameAndType name desc) is = ((λ h. h), tt)
 entries_none (MethodHandle kind reference) is = elim is [ ]
-entries_none (MethodType desc) is = ((λ h. h), tt)
+entries_none (MethodType desc) is = elim is [ ]
 entries_none (InvokeDynamic bootstrap member) is = ((λ h. h), tt)
+
+entries_no_types : (constant : Const) → IsNoHandle constant → AllByRecursion (Fails is_method_type) (entries_of constant)
+entries_no_types (Long number) is = (refl, (tt, tt))
+entries_no_types (Double bits) is = (refl, (tt, tt))
+entries_no_types (MethodHandle kind reference) is = elim is [ ]
+entries_no_types (MethodType desc) is = elim is [ ]
+entries_no_types other is = (refl, tt)
 
 constant_none : (pool : Constants) (need : Need) → NeedsNoHandle need → IsNoHandle (constant_of pool need)
 constant_none pool (needs_itself constant) is = is
@@ -90,7 +102,12 @@ with_none : (limit : ℕ) (pool : Constants) (constant : Const) (grown : Constan
     → AddsNoHandles pool grown
 with_none limit pool constant grown none is = by (index_of pool constant) refl where
   if_fits : (fits : Bool) → (if fits then Some (pool ++ entries_of constant) else None) ≡ Some grown → AddsNoHandles pool grown
-  if_fits true e = record { more = entries_of constant; is = sym (same_Some (pool ++ entries_of constant) grown e); none = entries_none constant none }
+  if_fits true e = record {
+    more = entries_of constant;
+    is = sym (same_Some (pool ++ entries_of constant) grown e);
+    none = entries_none constant none;
+    no_types = entries_no_types constant none;
+  }
   if_fits false e = absurd (none-some grown e)
 
   by : (found : Option ℕ) → index_of pool constant ≡ found → AddsNoHandles pool grown

@@ -1,64 +1,50 @@
 -- What typing, laying out and linking say of a written folder, put together.
-use Rattle.std.proofs.Common.{◌≡◌, ◌++◌, ℕ, zero, suc, nat_le, Bool, true, false, List, [], ◌∷◌, codes, flat_map, length, slice_get, Option, Some, None, if◌then◌else◌, refl, sym, ap, subst, ◌∙◌}
+use Rattle.std.proofs.Common.{◌≡◌, ℕ, zero, suc, List, [], ◌∷◌, length, slice_get, Some, ap, subst, ◌∙◌}
 use Rattle.std.specs.List.{AllByRecursion}
 use Rattle.std.proofs.lemmas.Option.{none-some, same_Some}
 use Rattle.class_model.specs.Code.{OperandFits}
-use Rattle.class_model.specs.Header.{header_of, method_member}
+use Rattle.class_model.specs.Header.{header_of}
 use Rattle.class_model.specs.Methods.{IsHandle}
-use Rattle.class_model.specs.Names.{init}
 use Rattle.class_model.specs.Pool.{Constants}
-use Rattle.class_model.specs.PoolChecks.{utf8_at}
 use Rattle.class_model.specs.declared.class_file.ClassFile.{ClassFile}
 use Rattle.class_model.specs.declared.class_file.Method.{Method}
 use Rattle.class_model.specs.declared.class_file.MethodAt.{MethodAt}
-use Rattle.class_model.specs.declared.header.Header.{Header}
-use Rattle.class_model.specs.declared.header.Member.{Member}
 use Rattle.class_model.specs.declared.instr.Instr.{Instr}
-use Rattle.making_code.specs.Laws.AddedConstants.{Compares, grow_split}
-use Rattle.making_code.specs.Laws.MeantConstants.{grown_text, text_later, text_read}
-use Rattle.class_rewrite.proofs.NoHandles.{AddsNoHandles, adds_nothing, adds_through, code_none, constructor_none, grow_none, table_none}
+use Rattle.making_code.specs.Laws.AddedConstants.{Compares}
+use Rattle.class_rewrite.proofs.AddedConstants.{class_adds}
 use Rattle.class_rewrite.proofs.WrittenClasses.{IsKnown}
-use Rattle.class_rewrite.proofs.WrittenFolders.{IsReadyHost, IsRewrittenHost, rewritten_host}
+use Rattle.class_rewrite.proofs.WrittenFolders.{IsRewrittenHost, rewritten_host}
 use Rattle.class_rewrite.proofs.WrittenSorts.{sorts_are}
-use Rattle.class_rewrite.specs.Laws.MadeConstructors.{made_is_added}
-use Rattle.class_rewrite.specs.Laws.OneWriting.{HaveOne}
-use Rattle.class_rewrite.specs.Laws.WrittenGrown.{AddedAreNew, class_has_grown, folder_has_grown}
+use Rattle.class_rewrite.specs.Inner.ReadyFolders.{IsReadyFolder}
 use Rattle.class_rewrite.specs.Optimised.{with_folder}
-use Rattle.class_rewrite.specs.Rewriting.Folders.{AddsMethods, IsClassWritten, IsFolderWritten, IsMade, IsPoolBefore, IsRewrittenAt, adds_none, adds_one, at_first, behind_kept, behind_rewritten}
-use Rattle.class_rewrite.specs.Rewriting.Methods.{IsRewritten, Rewriting, Rewritten, short_items}
+use Rattle.class_rewrite.specs.Rewriting.Folders.{IsClassWritten, IsFolderWritten, IsMade, IsPoolBefore, IsRewrittenAt}
+use Rattle.class_rewrite.specs.Rewriting.Methods.{Rewriting, Rewritten}
 use Rattle.class_rewrite.specs.Rewriting.WellWritten.{IsWellWritten}
-use Rattle.class_tree.specs.Headers.{Classes, Headers, IsClassFile, Name, headers_of}
+use Rattle.class_tree.specs.Headers.{Headers, IsClassFile, headers_of}
 use Rattle.class_tree.specs.Trees.{IsTree}
 use Rattle.code_layout.specs.EmittedCode.{HasCodeOf}
 use Rattle.code_layout.specs.Emitting.{IsEmitted}
 use Rattle.code_layout.specs.Layout.{IsLaid, Spelled}
 use Rattle.code_layout.specs.declared.emitted.EmitItem.{EmitItem}
 use Rattle.code_layout.specs.declared.laid.Laid.{Laid}
-use Rattle.expanded_code.specs.ExpandAnswers.{IsExpanded}
-use Rattle.expanded_runs.specs.CarriedConstants.{CarriesConstants}
 use Rattle.flow_code.specs.FlatCode.{FlatCode}
-use Rattle.making_code.specs.Constants.{grow, needs_text}
+use Rattle.making_code.specs.Constants.{grow}
 use Rattle.making_code.specs.ConstructorCode.{IsConstructorMethod}
-use Rattle.making_code.specs.FieldConstructor.{constructor_items, constructor_method_needs, item_needs as constructor_item_needs}
-use Rattle.making_code.specs.Laws.GrownPools.{begins_through, grow_begins}
-use Rattle.member_link.specs.DeclaredMembers.{declared}
+use Rattle.making_code.specs.FieldConstructor.{constructor_method_needs}
 use Rattle.member_link.specs.Machine.Classes.{handles_in, run_method_of, starts_from}
 use Rattle.member_link.specs.Machine.Codes.{call_op, instr_op}
-use Rattle.member_link.specs.Machine.Programs.{Links, RunMethod}
+use Rattle.member_link.specs.Machine.Programs.{Links}
 use Rattle.member_link.specs.References.{Reference}
 use Rattle.member_link.specs.RowScope.{RowScope}
-use Rattle.plan_flow.specs.Written.WrittenConstants.{code_needs}
-use Rattle.plan_flow.specs.Written.WrittenPrograms.{WrittenMethod, constructor_method, plan_scope}
-use Rattle.stackmap_emit.specs.FrameConstants.{table_needs}
+use Rattle.plan_flow.specs.Written.WrittenPrograms.{constructor_method, plan_scope}
 use Rattle.stackmap_emit.specs.PlacedFrames.{spelled_in}
-use Rattle.type_rules.specs.Grown.{AreGrownClasses, AreGrownHeaders, IsGrownClass, IsGrownHeader, IsGrownOver, IsNewInitialiser}
+use Rattle.type_rules.specs.Grown.{AreGrownHeaders, IsGrownClass, IsGrownHeader, IsGrownOver}
 
 -- ---- laws of the crates below
 
 pub record HaveLaws : Type 0 where
   pub compares : Compares
   pub header : (old new : ClassFile) → IsClassFile old → IsGrownClass old new → IsGrownHeader (header_of old) (header_of new)
-  pub headers : (old new : Classes) → AllByRecursion IsClassFile old.folder → AreGrownClasses old new → AreGrownHeaders (headers_of old) (headers_of new)
   pub method : (before after : Headers) (old new : ClassFile) (number : ℕ) (method : Method) (links : Links) → AreGrownHeaders before after
       → IsClassFile old
       → IsGrownClass old new
@@ -83,130 +69,49 @@ each_file [] class file all is = absurd (none-some file is)
 each_file (first ∷ folder) zero file all is = subst IsClassFile (same_Some first file is) all.0
 each_file (first ∷ folder) (suc class) file all is = each_file folder class file all.1 is
 
-module _ (laws : HaveLaws) (r : Rewriting) (files : List ClassFile) (w : IsFolderWritten r files) (tree : IsTree r.classes) (one : HaveOne r)
-    (ready : (at : MethodAt) (written : WrittenMethod) → w.written at ≡ Some written → IsReadyHost r at written)
-    (free : (class : ℕ) (file : ClassFile) (method : RunMethod) → slice_get r.classes.folder class ≡ Some file
-    → w.s.added class ≡ method ∷ []
-    → declared init (r.constructor (header_of file).name) (header_of file).methods ≡ None) where
-  -- ---- initialisers that are added
+module _ (laws : HaveLaws) (r : Rewriting) (files : List ClassFile) (w : IsFolderWritten r files) (tree : IsTree r.classes) (ready : IsReadyFolder r files w)
+  where
+    -- ---- method handles
 
-  fresh_one : (class : ℕ) (file also : ClassFile) (method : Method) (pool : Constants) (grown : Constants)
-      → declared init (r.constructor (header_of file).name) (header_of file).methods ≡ None
-      → also.pool ≡ grown
-      → grow 65535 pool (constructor_method_needs (headers_of r.classes) r.constructor (header_of file).name) ≡ Some grown
-      → IsConstructorMethod (headers_of r.classes) r.constructor (header_of file).name grown method
-      → IsNewInitialiser (header_of file) (method_member also.pool method)
-  fresh_one class file also method pool grown undeclared same grows is =
-      let code = codes "Code" in
-      let desc = r.constructor (header_of file).name in
-      let rest = flat_map (constructor_item_needs r.constructor) (constructor_items (headers_of r.classes) (header_of file).name) in
-      let p1 = grow_split 65535 pool (needs_text init ++ needs_text desc ++ needs_text code) rest grown grows in
-      let p2 = grow_split 65535 pool (needs_text init ++ needs_text desc) (needs_text code) p1.0 p1.1 in
-      let p3 = grow_split 65535 pool (needs_text init) (needs_text desc) p2.0 p2.1 in
-      let from_p1 = grow_begins 65535 rest p1.0 grown p1.2 in
-      let from_p2 = begins_through p2.0 p1.0 grown (grow_begins 65535 (needs_text code) p2.0 p1.0 p2.2) from_p1 in
-      let from_p3 = begins_through p3.0 p2.0 grown (grow_begins 65535 (needs_text desc) p3.0 p2.0 p3.2) from_p2 in
-      let name_read = text_read laws.compares grown init (text_later p3.0 grown init from_p3 (grown_text laws.compares 65535 pool p3.0 init p3.1)) in
-      let desc_read = text_read laws.compares grown desc (text_later p2.0 grown desc from_p2 (grown_text laws.compares 65535 p3.0 p2.0 desc p3.2)) in
-      let name_is : utf8_at also.pool method.name ≡ Some init = ap (λ (p : Constants). utf8_at p method.name) same ∙ ap (utf8_at grown) is.name ∙ name_read in
-      let desc_is : utf8_at also.pool method.desc ≡ Some desc = ap (λ (p : Constants). utf8_at p method.desc) same ∙ ap (utf8_at grown) is.desc ∙ desc_read in
-      record {
-        is_init = rw (name_is) refl;
-        is_public = rw (is.flags) refl;
-        no_protected = rw (is.flags) refl;
-        undeclared = rw (desc_is) undeclared;
-      }
+    class_handles : (class : ℕ) (file also : ClassFile) → slice_get r.classes.folder class ≡ Some file → IsClassWritten r w.written w.s class file also
+        → handles_in also.pool also.pool ≡ handles_in file.pool file.pool
+    class_handles class file also there is =
+        let adds = class_adds r w.written w.s class file also is in
+        laws.handles file also (record (ready.grown class file also there is) { more = adds.more; pool = adds.is })
+        (each_file r.classes.folder class file tree.folder there) adds.none
 
-  added_new : (class : ℕ) (file also : ClassFile) → slice_get r.classes.folder class ≡ Some file → AddedAreNew r w.written w.s class file also
-  added_new class file also there is = by is.added is.adds (ap (λ (c : ClassFile). c.pool) is.is) where
-    by : {pool last : Constants} (added : List Method) → AddsMethods r w.written file pool last added → also.pool ≡ last
-        → AllByRecursion (λ (method : Method). IsNewInitialiser (header_of file) (method_member also.pool method)) added
-    by _ (adds_none none) same = tt
-    by {pool} {last} _ (adds_one {method = method} made grows is_method) same =
-        let undeclared = free class file _ there (made_is_added r files w tree.in_order class file there made) in
-        (fresh_one class file also method pool last undeclared same grows is_method, tt)
+    -- ---- the whole
 
-  -- ---- classes that have grown
-
-  pub class_grown : (class : ℕ) (file also : ClassFile) → slice_get r.classes.folder class ≡ Some file → IsClassWritten r w.written w.s class file also
-      → IsGrownClass file also
-  class_grown class file also there is = class_has_grown r w.written w.s class file also (added_new class file also there) is
-
-  all_grown : AreGrownClasses r.classes (with_folder r.classes files)
-  all_grown = folder_has_grown r files w added_new
-
-  pub headers_grown : AreGrownHeaders (headers_of r.classes) (headers_of (with_folder r.classes files))
-  headers_grown = laws.headers r.classes (with_folder r.classes files) tree.folder all_grown
-
-  -- ---- method handles
-
-  method_adds : (at : MethodAt) (pool : Constants) (v : Rewritten) → IsRewritten r at pool v → AddsNoHandles pool v.pool
-  method_adds at pool v is =
-      adds_through pool v.code_pool v.pool
-      (grow_none 64535 (code_needs (plan_scope r.classes r.links v.one) r.constructor (short_items r v.one)) pool v.code_pool
-      (code_none (plan_scope r.classes r.links v.one) r.constructor (short_items r v.one)) is.coded.grows)
-      (by (nat_le 50 is.host.class.major) is.grows) where
-        by : (b : Bool) → (if b then grow 64535 v.code_pool (table_needs v.stated) else Some v.code_pool) ≡ Some v.pool → AddsNoHandles v.code_pool v.pool
-        by true e = grow_none 64535 (table_needs v.stated) v.code_pool v.pool (table_none v.stated) e
-        by false e = subst (AddsNoHandles v.code_pool) (same_Some v.code_pool v.pool e) (adds_nothing v.code_pool)
-
-  methods_add : (class : ℕ) (file : ClassFile) (number : ℕ) (pool : Constants) → IsPoolBefore r class file number pool → AddsNoHandles file.pool pool
-  methods_add class file zero pool at_first = adds_nothing file.pool
-  methods_add class file (suc number) pool (behind_kept before has kept) = methods_add class file number pool before
-  methods_add class file (suc number) _ (behind_rewritten {pool = pool} {w = v} before is) =
-      adds_through file.pool pool v.pool (methods_add class file number pool before) (method_adds (record { class = class; method = number }) pool v is)
-
-  class_adds : (class : ℕ) (file also : ClassFile) → IsClassWritten r w.written w.s class file also → AddsNoHandles file.pool also.pool
-  class_adds class file also is =
-      subst (AddsNoHandles file.pool) (sym (ap (λ (c : ClassFile). c.pool) is.is))
-      (adds_through file.pool is.code_pool is.pool (methods_add class file (length file.methods) is.code_pool is.before_constructors)
-      (by is.added is.adds)) where
-        by : {pool last : Constants} (added : List Method) → AddsMethods r w.written file pool last added → AddsNoHandles pool last
-        by {pool} _ (adds_none none) = adds_nothing pool
-        by {pool} {last} _ (adds_one made grows is_method) =
-            grow_none 65535 (constructor_method_needs (headers_of r.classes) r.constructor (header_of file).name) pool last
-            (constructor_none (headers_of r.classes) r.constructor (header_of file).name) grows
-
-  class_handles : (class : ℕ) (file also : ClassFile) → slice_get r.classes.folder class ≡ Some file → IsClassWritten r w.written w.s class file also
-      → handles_in also.pool also.pool ≡ handles_in file.pool file.pool
-  class_handles class file also there is =
-      let adds = class_adds class file also is in
-      laws.handles file also (record (class_grown class file also there is) { more = adds.more; pool = adds.is })
-      (each_file r.classes.folder class file tree.folder there) adds.none
-
-  -- ---- the whole
-
-  module _ (carries : (at : MethodAt) (flat : FlatCode) → IsExpanded r.classes r.typed at flat → CarriesConstants r.classes flat)
-      (constructs : (class : ℕ) (file also : ClassFile) (method : Method) (pool : Constants) → slice_get r.classes.folder class ≡ Some file
-      → IsClassWritten r w.written w.s class file also
-      → IsMade r w.written (header_of file).name
-      → IsPoolBefore r class file (length file.methods) pool
-      → grow 65535 pool (constructor_method_needs (headers_of r.classes) r.constructor (header_of file).name) ≡ Some also.pool
-      → IsConstructorMethod (headers_of r.classes) r.constructor (header_of file).name also.pool method
-      → run_method_of r.links (headers_of (with_folder r.classes files)) also method ≡ constructor_method r.classes r.links r.constructor file)
-      (well : IsWellWritten r files w) where
-    pub folder_known : IsKnown r files w
-    folder_known = record {
-      same = laws.compares;
-      one = one;
-      in_order = tree.in_order;
-      folder = λ class file there. each_file r.classes.folder class file tree.folder there;
-      headers = headers_grown;
-      grown = class_grown;
-      own = laws.header;
-      method = λ file also number method is grows got.
-          laws.method (headers_of r.classes) (headers_of (with_folder r.classes files)) file also number method r.links headers_grown is grows got;
-      calls = λ scope now opcode reference headers own. laws.calls scope now r.links opcode reference headers own;
-      runs = λ file also is grows scope now locals instr fits over. laws.runs scope now file also locals instr r.links (λ to. to) is grows fits over;
-      starts = laws.starts;
-      handles = class_handles;
-      host = λ at v is. let found = hosted at v is in ap (λ (f : FlatCode). f.host) found.expanded.is ∙ found.expanded.own;
-      emitted = well.emitted;
-      means = λ at v is. laws.means (spelled_in v.one.form) v.items v.laid (well.emitted at v is) is.is.framed.laid;
-      sorts = λ at v is.
-          let known = ready at v.one (w.rewritten.all at v is) in
-          sorts_are (plan_scope r.classes r.links v.one) known.scope known.code (carries at v.one.flat (hosted at v is).expanded) v.one.form v.one.routes;
-      constructor = constructs;
-    } where
-      hosted : (at : MethodAt) (v : Rewritten) → IsRewrittenAt r at v → IsRewrittenHost r at v.one
-      hosted at v is = rewritten_host r files w at v.one (w.rewritten.all at v is)
+    module _ (constructs : (class : ℕ) (file also : ClassFile) (method : Method) (pool : Constants) → slice_get r.classes.folder class ≡ Some file
+        → IsClassWritten r w.written w.s class file also
+        → IsMade r w.written (header_of file).name
+        → IsPoolBefore r class file (length file.methods) pool
+        → grow 65535 pool (constructor_method_needs (headers_of r.classes) r.constructor (header_of file).name) ≡ Some also.pool
+        → IsConstructorMethod (headers_of r.classes) r.constructor (header_of file).name also.pool method
+        → run_method_of r.links (headers_of (with_folder r.classes files)) also method ≡ constructor_method r.classes r.links r.constructor file)
+        (well : IsWellWritten r files w) where
+      pub folder_known : IsKnown r files w
+      folder_known = record {
+        same = laws.compares;
+        one = ready.one;
+        in_order = tree.in_order;
+        folder = λ class file there. each_file r.classes.folder class file tree.folder there;
+        headers = ready.headers;
+        grown = ready.grown;
+        own = laws.header;
+        method = λ file also number method is grows got.
+            laws.method (headers_of r.classes) (headers_of (with_folder r.classes files)) file also number method r.links ready.headers is grows got;
+        calls = λ scope now opcode reference headers own. laws.calls scope now r.links opcode reference headers own;
+        runs = λ file also is grows scope now locals instr fits over. laws.runs scope now file also locals instr r.links (λ to. to) is grows fits over;
+        starts = laws.starts;
+        handles = class_handles;
+        host = λ at v is. let found = hosted at v is in ap (λ (f : FlatCode). f.host) found.expanded.is ∙ found.expanded.own;
+        emitted = well.emitted;
+        means = λ at v is. laws.means (spelled_in v.one.form) v.items v.laid (well.emitted at v is) is.is.framed.laid;
+        sorts = λ at v is.
+            let known = ready.ready at v.one (w.rewritten.all at v is) in
+            sorts_are (plan_scope r.classes r.links v.one) known.scope known.code (ready.carries at v.one.flat (hosted at v is).expanded) v.one.form v.one.routes;
+        constructor = constructs;
+      } where
+        hosted : (at : MethodAt) (v : Rewritten) → IsRewrittenAt r at v → IsRewrittenHost r at v.one
+        hosted at v is = rewritten_host r files w at v.one (w.rewritten.all at v is)

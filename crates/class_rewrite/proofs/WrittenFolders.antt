@@ -1,7 +1,7 @@
 -- The folder that is written, as the theorem on runs takes it: the flat codes of the methods that are rewritten, ready and with valid plans, and
 -- field constructors in the classes of candidates' chains alone.
-use Rattle.std.proofs.Common.{◌≡◌, ◌+◌, ◌==◌, ℕ, zero, suc, Bool, true, false, List, [], ◌∷◌, slice_get, bytes_eq, Option, Some, None, option_map, IsTrue, refl, sym, ap, subst, ◌∙◌, arith}
-use Rattle.std.specs.List.{AllByRecursion, list_any}
+use Rattle.std.proofs.Common.{◌≡◌, ◌+◌, ◌==◌, ℕ, zero, suc, Bool, true, false, List, [], ◌∷◌, slice_get, Option, Some, None, option_map, refl, sym, ap, subst, ◌∙◌, arith}
+use Rattle.std.specs.List.{AllByRecursion}
 use Rattle.std.proofs.lemmas.Bool.Decides.{Decides-eqb}
 use Rattle.std.proofs.lemmas.Option.{none-some, same_Some}
 use Rattle.class_model.specs.Header.{header_of}
@@ -10,27 +10,24 @@ use Rattle.class_model.specs.declared.class_file.MethodAt.{MethodAt}
 use Rattle.class_rewrite.proofs.WrittenInstrs.{IsSiteClass, MakesSite, made_of_sites}
 use Rattle.class_model.specs.Pool.{Constants}
 use Rattle.class_model.specs.declared.class_file.Method.{Method}
+use Rattle.class_rewrite.specs.Inner.ReadyFolders.{IsReadyHost, flats_written}
 use Rattle.class_rewrite.specs.Rewriting.Folders.{AddsMethods, AreClassesWritten, IsClassWritten, IsFolderWritten, IsMade, adds_none, adds_one}
 use Rattle.class_rewrite.specs.Rewriting.Methods.{Rewriting}
-use Rattle.class_tree.specs.Headers.{Name, headers_of}
+use Rattle.class_tree.specs.Headers.{Name}
 use Rattle.class_tree.specs.Layouts.{chain}
-use Rattle.expanded_code.specs.CandidateSites.{HasCandidateSites, IsSite}
+use Rattle.expanded_code.specs.CandidateSites.{IsSite}
 use Rattle.expanded_code.specs.Candidates.{IsCandidate}
 use Rattle.expanded_code.specs.ExpandAnswers.{IsExpanded, IsNoHost, IsWide}
 use Rattle.expanded_runs.specs.ExpandedPrograms.{AreExpanded}
-use Rattle.flow_code.specs.FlatCode.{FlatCode, point_at}
+use Rattle.flow_code.specs.FlatCode.{FlatCode}
 use Rattle.flow_code.specs.ReadTypes.{class_of_site}
-use Rattle.flow_code.specs.declared.point.Point.{Point}
 use Rattle.flow_code.specs.declared.point.Site.{Site}
 use Rattle.making_code.specs.Items.{makes}
 use Rattle.member_link.specs.Machine.Programs.{RunMethod}
-use Rattle.member_link.specs.Scope.{Scope, scope_at}
 use Rattle.plan_flow.specs.Plans.{IsValid, Plan}
-use Rattle.plan_flow.specs.ReadyForPlans.{IsReadyForPlans}
 use Rattle.plan_flow.specs.Written.Routes.{IsRouted}
-use Rattle.plan_flow.specs.Written.WrittenPrograms.{MakesClass, WrittenMethod, constructor_method, plan_scope}
-use Rattle.same_runs.specs.Flats.{Flats, class_of_flat_new}
-use Rattle.same_runs.specs.ReadyCode.{IsReadyCode}
+use Rattle.plan_flow.specs.Written.WrittenPrograms.{MakesClass, WrittenMethod, plan_scope}
+use Rattle.same_runs.specs.Flats.{class_of_flat_new}
 use Rattle.typed_flats.specs.FlatTypings.{SitesAreNews}
 use Rattle.written_runs.specs.WrittenRuns.{AreFlatsOf, IsReadyMethod}
 
@@ -44,14 +41,6 @@ pub record IsRewrittenHost (r : Rewriting) (at : MethodAt) (one : WrittenMethod)
   pub plan : Plan
   pub valid : IsValid (plan_scope r.classes r.links one) plan
   pub routed : IsRouted (plan_scope r.classes r.links one) plan one.routes
-
--- Its flat code can be written.
-pub record IsReadyHost (r : Rewriting) (at : MethodAt) (one : WrittenMethod) : Type 0 where
-  pub scope : Scope
-  pub is_scope : scope_at r.classes at ≡ Some scope
-  pub code : IsReadyCode r.classes scope one.flat
-  pub for_plans : IsReadyForPlans (plan_scope r.classes r.links one)
-  pub sites : HasCandidateSites r.classes one.flat
 
 site_of : (P : Site → Type 0) (sites : List Site) (number : ℕ) (site : Site) → AllByRecursion P sites → slice_get sites number ≡ Some site → P site
 site_of P [] number site all is = absurd (none-some site is)
@@ -71,11 +60,7 @@ site_at_is P (first ∷ sites) at class all is = by (first.at == at) refl is (λ
   by false told is rest = rest (sym (rw (told) refl) ∙ is)
 
 module _ (r : Rewriting) (files : List ClassFile) (w : IsFolderWritten r files) where
-  -- the flat codes of the methods that are rewritten
-  abbrev pub flats_written : Flats
-  flats_written at = option_map (λ (one : WrittenMethod). one.flat) (w.written at)
-
-  pub are_flats : AreFlatsOf w.written flats_written
+  pub are_flats : AreFlatsOf w.written (flats_written r files w)
   are_flats = record { each = λ at. refl }
 
   pub rewritten_host : (at : MethodAt) (one : WrittenMethod) → w.written at ≡ Some one → IsRewrittenHost r at one
@@ -92,7 +77,7 @@ module _ (r : Rewriting) (files : List ClassFile) (w : IsFolderWritten r files) 
       })
 
   -- a flat code is that of a method that is rewritten
-  pub of_flat : (at : MethodAt) (flat : FlatCode) → flats_written at ≡ Some flat
+  pub of_flat : (at : MethodAt) (flat : FlatCode) → flats_written r files w at ≡ Some flat
       → (one : WrittenMethod) × (w.written at ≡ Some one) × (one.flat ≡ flat)
   of_flat at flat = by (w.written at) refl where
     by : (found : Option WrittenMethod) → w.written at ≡ found → option_map (λ (one : WrittenMethod). one.flat) found ≡ Some flat
@@ -100,7 +85,7 @@ module _ (r : Rewriting) (files : List ClassFile) (w : IsFolderWritten r files) 
     by None none is = absurd (none-some flat is)
     by (Some one) some is = (one, some, same_Some one.flat flat is)
 
-  pub are_expanded : AreExpanded r.classes r.typed flats_written
+  pub are_expanded : AreExpanded r.classes r.typed (flats_written r files w)
   are_expanded at flat is =
       let one = of_flat at flat is in
       let known = rewritten_host at one.0 one.1 in

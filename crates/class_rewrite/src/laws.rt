@@ -31,19 +31,12 @@ ghost use Rattle.same_runs.specs.EqualRuns.{EqualRuns};
 ghost use Rattle.same_runs.specs.Flats.{Flats};
 ghost use Rattle.type_rules.specs.Verified.{TypesFolder};
 
-use class_tree::classes_of_a_tree_are_a_hierarchy;
-use expanded_runs::{
-    an_expanded_flat_code_carries_constants, an_expanded_flat_code_is_ready,
-    an_expanded_flat_code_is_typed, expanded_flat_codes_have_a_replacement,
-    expanded_flat_codes_run_equally,
-};
+use crate::ready_laws::a_written_folder_is_ready;
+use expanded_runs::{an_expanded_flat_code_is_typed, expanded_flat_codes_run_equally};
 use inline_expand::a_method_has_one_expanded_flat_code;
 use machine_laws::{running_the_same_composes, running_the_same_is_reflexive};
 use same_runs::{programs_that_are_equal_run_equally, running_equally_is_running_the_same};
-use typed_flats::flat_codes_run_typed;
-use typed_programs::{
-    a_verified_folder_is_a_typed_program, linked_instructions_have_linked_operations,
-};
+use typed_programs::a_verified_folder_is_a_typed_program;
 use written_runs::written_codes_run_the_same;
 
 /// A method of a hierarchy has one reason at most.
@@ -130,22 +123,12 @@ pub fn a_written_folder_runs_as_its_folder()
         → IsWellWritten r files w
         → RunsAs r.classes (with_folder r.classes files) }
 {
-    classes_of_a_tree_are_a_hierarchy();
-    a_verified_folder_is_a_typed_program();
-    linked_instructions_have_linked_operations();
-    an_expanded_flat_code_is_ready();
-    an_expanded_flat_code_carries_constants();
-    expanded_flat_codes_have_a_replacement();
+    a_written_folder_is_ready();
     expanded_flat_codes_run_equally();
     running_equally_is_running_the_same();
-    flat_codes_run_typed();
     written_codes_run_the_same();
     running_the_same_composes();
-    a_method_has_one_expanded_flat_code();
-    plan_flow::flat_code_has_one_least_plan();
-    plan_flow::effect_grows();
     class_model::constants_compare_by_value();
-    class_model::parameters_of_bytes_are_spelled();
     written_files::a_field_constructor_runs_its_instructions();
     type_rules::a_grown_class_has_a_grown_header();
     type_rules::a_grown_class_keeps_its_instructions();

@@ -3,8 +3,10 @@
 
 mod folder;
 mod laws;
+mod ready_laws;
 mod reasons;
 mod report;
+mod verified_laws;
 
 pub use folder::{Optimised, optimise_folder};
 pub use laws::{
@@ -13,3 +15,4 @@ pub use laws::{
     expanded_flat_codes_of_a_verified_folder_run_equally,
 };
 pub use report::{Line, Report, is_rewritten, reason_name, rewritten};
+pub use verified_laws::a_sound_written_folder_verifies;

@@ -1,22 +1,24 @@
 -- What the written classes of a folder that verifies are asked, so that the written folder verifies too. It is this project's profile.
 use Rattle.std.specs.Prelude.{◌≡◌, ◌<◌, ℕ, List, length, slice_get, Option, Some}
 use Rattle.std.specs.List.{AllByRecursion}
+use Rattle.class_model.specs.Header.{header_of}
 use Rattle.class_model.specs.declared.class_file.ClassFile.{ClassFile}
 use Rattle.class_model.specs.declared.class_file.MethodAt.{MethodAt}
 use Rattle.class_model.specs.declared.frame.Frame.{Frame}
 use Rattle.class_rewrite.specs.Optimised.{with_folder}
-use Rattle.class_rewrite.specs.Rewriting.Folders.{IsClassWritten, IsFolderWritten, IsRewrittenAt, with_part}
+use Rattle.class_rewrite.specs.Rewriting.Folders.{IsClassWritten, IsFolderWritten, IsMade, IsRewrittenAt, with_part}
 use Rattle.class_rewrite.specs.Rewriting.Methods.{Rewriting, Rewritten}
-use Rattle.class_tree.specs.Headers.{IsClassFile, headers_of}
+use Rattle.class_tree.specs.Headers.{IsClassFile, Name, headers_of}
 use Rattle.class_tree.specs.Trees.{IsTree}
 use Rattle.code_layout.specs.Emitting.{IsEmitted}
 use Rattle.expanded_runs.specs.ByteCodes.{HaveByteCodes}
+use Rattle.making_code.specs.ConstructorCode.{IsConstructorMethod}
 use Rattle.member_link.specs.Linked.{IsLinked}
 use Rattle.member_link.specs.Machine.Links.{AreLinksOf}
 use Rattle.member_link.specs.Scope.{Scope, scope_at}
 use Rattle.stackmap_emit.specs.TypedMethods.{AreWhole, LaidCode, PassAccess}
 use Rattle.type_rules.specs.Verified.{TypesFolder}
-use Rattle.written_files.specs.LinkedConstructors.{IsLinkedMethod}
+use Rattle.written_files.specs.LinkedConstructors.{HasLinkedMembers, IsLinkedMethod}
 
 -- A rewriting of a folder that verifies, which has a class. Its codes are bytes, as those of class files that were read are.
 pub record IsOfVerified (r : Rewriting) : Type 0 where
@@ -41,6 +43,19 @@ pub record IsWrittenIn (r : Rewriting) (files : List ClassFile) (w : IsFolderWri
   pub method : now.method ≡ record host.method { attrs = with_part v.part host.method.attrs }
   pub part : now.part ≡ v.part
 
+-- A field constructor that is added to the class of a number: the scope that it has in the class that is written of it.
+pub record IsAddedIn (r : Rewriting) (files : List ClassFile) (w : IsFolderWritten r files) (class : ℕ)
+    (file : ClassFile) (s : Scope)
+    : Type 0 where
+  pub of_folder : slice_get r.classes.folder class ≡ Some file
+  pub class : slice_get files class ≡ Some s.class
+  pub written : IsClassWritten r w.written w.s class file s.class
+  pub headers : s.headers ≡ headers_of (with_folder r.classes files)
+  pub made : IsMade r w.written (header_of file).name
+  pub method : IsConstructorMethod (headers_of r.classes) r.constructor (header_of file).name
+      s.class.pool s.method
+  pub part : s.part ≡ method.part
+
 -- what is laid out for it, where frames are stated so
 abbrev pub laid_of : Scope → Rewritten → (ℕ → Option Frame) → LaidCode
 laid_of host v state = record {
@@ -60,13 +75,18 @@ pub record IsMethodSound (r : Rewriting) (at : MethodAt) (v : Rewritten) (host n
     : Type 0 where
   pub emitted : IsEmitted v.items
   pub linked : IsLinkedMethod now
-  pub access : (state : ℕ → Option Frame) → PassAccess (laid_of host v state) now
+  pub access : (is : IsRewrittenAt r at v) → PassAccess (laid_of host v is.is.framed.state) now
   pub whole : (is : IsRewrittenAt r at v) → AreWhole (laid_of host v is.is.framed.state)
 
--- What is asked of the written folder: its classes are class files, and its rewritten methods are sound.
+-- What is asked of the written folder: its classes are class files, its rewritten methods are sound, and what its field constructors name is
+-- there.
 pub record IsFolderSound (r : Rewriting) (files : List ClassFile) (w : IsFolderWritten r files)
     : Type 0 where
   pub files : AllByRecursion IsClassFile files
   pub methods : (at : MethodAt) (v : Rewritten) (host now : Scope)
       → IsWrittenIn r files w at v host now
       → IsMethodSound r at v host now
+  pub constructors : (class : ℕ) (file : ClassFile) (above : Name) (s : Scope)
+      → IsAddedIn r files w class file s
+      → (header_of file).super_name ≡ Some above
+      → HasLinkedMembers (headers_of r.classes) r.constructor file above s
