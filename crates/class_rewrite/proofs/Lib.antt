@@ -1,3 +1,10 @@
+pub mod AskedCodes
+pub mod CheckedCodes
+pub mod CheckedItems
+pub mod FileLaws
+pub mod FittingCodes
+pub mod FittingParts
+pub mod ForeignOperands
 pub mod Reporting
 pub mod WrittenKept
 pub mod SomeClasses
@@ -16,6 +23,7 @@ pub mod WrittenMethods
 pub mod WrittenSorts
 pub mod WrittenClasses
 pub mod MadeClasses
+pub mod GrownConstants
 pub mod GrownFolders
 pub mod GrownTrees
 pub mod StackRoom

@@ -1,2 +1,3 @@
+pub mod FittingFolders
 pub mod Reporting
 pub mod ReadyFolders

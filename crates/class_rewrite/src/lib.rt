@@ -1,6 +1,7 @@
 //! The rewriting of a folder: what becomes of each method and why, and the folder that is written.
 #![tactic(auto)]
 
+mod file_laws;
 mod folder;
 mod laws;
 mod ready_laws;
@@ -8,6 +9,7 @@ mod reasons;
 mod report;
 mod verified_laws;
 
+pub use file_laws::written_classes_are_class_files;
 pub use folder::{Optimised, optimise_folder};
 pub use laws::{
     a_method_has_one_reason, a_written_folder_runs_as_its_folder, a_written_folder_runs_the_same,
