@@ -164,18 +164,17 @@ module _ (home : Home) (method : Method) (part : CodePart) (spelled : Spelled) (
       let table = at + 14 + length part.code + 2 in
       let names = each_item 0 items (λ number item there. subst (λ (n : ℕ). IsItem items n item) (omega arith) (is.emitted.each number item there)) in
       let ranges = ranges_hold spelled place home.pool instrs (length part.code) (length items) (λ to less. item_starts spelled place 0 items to less)
-      0 items stand (λ to is. is) names (types_of items is.checked) table in
-      (
+      0 items stand (λ to is. is) names (types_of items is.checked) table in (
         lengths (length part.code) some few,
         (
           is.units,
           subst (λ (r : Result (List Placed) Fault). AllHold (asked_of (placed_at (at + 14) r) (instructions_checks home method at part))) (sym decodes)
-          (both_hold (jump_checks (at + 14) instrs instrs ++ operand_checks (at + 14) home.pool home.major part.max_locals instrs ++ handlers_checks home.pool instrs (length part.code) table part.handlers) _
-          (both_hold (jump_checks (at + 14) instrs instrs ++ operand_checks (at + 14) home.pool home.major part.max_locals instrs) _
-          (both_hold (jump_checks (at + 14) instrs instrs) _ (jumps_hold (at + 14) instrs instrs is.is_laid.decodes.starts)
-          (operands_hold home.pool home.major part.max_locals spelled place (at + 14) 0 items is.checked))
-          (subst (λ (list : List Handler). AllHold (handlers_checks home.pool instrs (length part.code) table list)) (sym (is.handlers ∙ is.is_laid.handlers)) ranges))
-          (inners_hold _ (entry_of home method part) (table + 8 * length part.handlers + 2) part.attrs is.attrs)),
+              (both_hold (jump_checks (at + 14) instrs instrs ++ operand_checks (at + 14) home.pool home.major part.max_locals instrs ++ handlers_checks home.pool instrs (length part.code) table part.handlers) _
+              (both_hold (jump_checks (at + 14) instrs instrs ++ operand_checks (at + 14) home.pool home.major part.max_locals instrs) _
+              (both_hold (jump_checks (at + 14) instrs instrs) _ (jumps_hold (at + 14) instrs instrs is.is_laid.decodes.starts)
+              (operands_hold home.pool home.major part.max_locals spelled place (at + 14) 0 items is.checked))
+              (subst (λ (list : List Handler). AllHold (handlers_checks home.pool instrs (length part.code) table list)) (sym (is.handlers ∙ is.is_laid.handlers)) ranges))
+              (inners_hold _ (entry_of home method part) (table + 8 * length part.handlers + 2) part.attrs is.attrs)),
         ),
       ) where
         lengths : (n : ℕ) → 0 < n → n ≤ 65535 → (nat_lt 0 n && nat_lt n 65536) ≡ true
@@ -189,6 +188,7 @@ module _ (home : Home) (method : Method) (part : CodePart) (spelled : Spelled) (
         each_item : (from : ℕ) (rest : List EmitItem) → ((number : ℕ) (item : EmitItem) → slice_get rest number ≡ Some item → IsItem items (from + number) item)
             → AllByRecursion (λ (item : EmitItem). AllByRecursion (λ (catch : Catch). NamesItem (length items) catch.to) item.catches) rest
         each_item from [] each = tt
-        each_item from (item ∷ rest) each =
-            ((each 0 item refl).catches,
-            each_item (suc from) rest (λ number one there. subst (λ (n : ℕ). IsItem items n one) (omega arith) (each (suc number) one there)))
+        each_item from (item ∷ rest) each = (
+          (each 0 item refl).catches,
+          each_item (suc from) rest (λ number one there. subst (λ (n : ℕ). IsItem items n one) (omega arith) (each (suc number) one there)),
+        )

@@ -36,7 +36,7 @@ below [] index constant is = absurd (none-some constant is)
 below (entry ∷ pool) zero constant is = omega arith
 below (entry ∷ pool) (suc index) constant is = let rest = below pool index constant is in omega (arith, rest)
 
-some_below : {X : Type 0} (pool : Constants) (index : ℕ) (f : Const → Option X) → IsSome (option_and_then f (constant_at pool index)) → index < length pool
+pub some_below : {X : Type 0} (pool : Constants) (index : ℕ) (f : Const → Option X) → IsSome (option_and_then f (constant_at pool index)) → index < length pool
 some_below pool index f some = by (constant_at pool index) refl where
   by : (found : Option Const) → constant_at pool index ≡ found → index < length pool
   by None e = absurd (false≢true (subst (λ (c : Option Const). IsSome (option_and_then f c)) e some))

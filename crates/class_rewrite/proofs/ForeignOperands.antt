@@ -196,7 +196,7 @@ module _ (old_major : ℕ) (old : Constants) (checked : AllHold (entries_checks 
         let one = member_meant of_interface_method class member e (one_checked old_major old 10 old checked index (InterfaceMethodref class member) e).hold.0 in (
           subst IsInterfaceConstant (sym one.meant.is) tt,
           ap (λ (c : Option Const). units_behind pool (member_index c)) one.meant.is ∙ one.meant.desc_is ∙ sym one.old_pair.desc_is
-          ∙ sym (ap (λ (c : Option Const). units_behind old (member_index c)) e),
+              ∙ sym (ap (λ (c : Option Const). units_behind old (member_index c)) e),
         )
     by None e is = elim is [ ]
     by (Some (Utf8 text)) e is = elim is [ ]

@@ -1,8 +1,10 @@
 pub mod AskedCodes
 pub mod CheckedCodes
 pub mod CheckedItems
+pub mod FileClasses
 pub mod FileLaws
 pub mod FittingCodes
+pub mod FittingConstructors
 pub mod FittingParts
 pub mod ForeignOperands
 pub mod Reporting

@@ -1,12 +1,15 @@
 -- What is asked of a written folder so that each of its classes is a class file (JVM Specification SE 8, 4.1 to 4.9). It is this project's profile.
-use Rattle.std.specs.Prelude.{◌≡◌, ◌≢◌, ◌^◌, ◌<◌, ◌≤◌, ℕ, List, length, slice_get, Option, Some, None}
+use Rattle.std.specs.Prelude.{◌≡◌, ◌≢◌, ◌^◌, ◌<◌, ◌≤◌, ℕ, List, length, slice_get, Some, IsFalse}
 use Rattle.std.specs.List.{AllByRecursion}
 use Rattle.class_model.specs.Code.{FitsLocal}
+use Rattle.class_model.specs.Descriptors.{SpellsDescriptor}
 use Rattle.class_model.specs.Frames.{Setting}
 use Rattle.class_model.specs.Header.{header_of}
+use Rattle.class_model.specs.Members.{INTERFACE, has}
 use Rattle.class_model.specs.Spelling.{code_part_bytes}
 use Rattle.class_model.specs.declared.class_file.ClassFile.{ClassFile}
 use Rattle.class_model.specs.declared.class_file.MethodAt.{MethodAt}
+use Rattle.class_model.specs.declared.descriptor.Descriptor.{Descriptor}
 use Rattle.class_model.specs.declared.frame.PlacedFrame.{PlacedFrame}
 use Rattle.class_model.specs.declared.instr.Instr.{Instr}
 use Rattle.class_model.specs.declared.instr.Instr.TheVariants.{Load, Store}
@@ -93,8 +96,12 @@ pub record HasFittingCode (r : Rewriting) (v : Rewritten) (host now : Scope) : T
 
 -- ---- the folder
 
--- The texts of a field constructor that is added are those that constants may have, and there is room for the method.
+-- The texts of a field constructor that is added are those that constants may have, its descriptor is a method's, and there is room for the method in the
+-- class, which is no interface.
 pub record HasFittingConstructor (r : Rewriting) (file : ClassFile) : Type 0 where
+  pub descriptor : Descriptor
+  pub spells : SpellsDescriptor (r.constructor (header_of file).name) descriptor
+  pub no_interface : IsFalse (has file.flags INTERFACE)
   pub texts : HasSoundTexts (headers_of r.classes) r.constructor file
   pub short : HasShortTexts (headers_of r.classes) r.constructor (header_of file).name
   pub few : length file.methods ≤ 65534
