@@ -38,3 +38,8 @@ pub mod UsedFolders
 pub mod TypedRewriting
 pub mod TypedFolders
 pub mod SameHandles
+pub mod LastItems
+pub mod WrittenSettings
+pub mod EmittedItems
+pub mod LinkedParts
+pub mod SoundFolders
