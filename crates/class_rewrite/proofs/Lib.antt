@@ -1,3 +1,12 @@
+pub mod AskedCodes
+pub mod CheckedCodes
+pub mod CheckedItems
+pub mod FileClasses
+pub mod FileLaws
+pub mod FittingCodes
+pub mod FittingConstructors
+pub mod FittingParts
+pub mod ForeignOperands
 pub mod Reporting
 pub mod WrittenKept
 pub mod SomeClasses
@@ -16,6 +25,7 @@ pub mod WrittenMethods
 pub mod WrittenSorts
 pub mod WrittenClasses
 pub mod MadeClasses
+pub mod GrownConstants
 pub mod GrownFolders
 pub mod GrownTrees
 pub mod StackRoom

@@ -3,6 +3,7 @@
 
 mod emitted_laws;
 mod access_laws;
+mod file_laws;
 mod folder;
 mod frame_facts;
 mod laws;
@@ -14,6 +15,7 @@ mod verified_laws;
 
 pub use emitted_laws::rewritten_items_are_emitted_code;
 pub use access_laws::rewritten_items_may_use_what_they_name;
+pub use file_laws::written_classes_are_class_files;
 pub use folder::{Optimised, optimise_folder};
 pub use frame_facts::frames_of_written_code_have_spelled_names;
 pub use laws::{

@@ -64,10 +64,10 @@ calls_both count front back one other at = by front at (one at) where
   by (Some (MethodHandle kind reference) ∷ entries) at hold = by entries (at + length (constant_bytes (MethodHandle kind reference))) hold
   by (Some (MethodType desc) ∷ entries) at hold = by entries (at + length (constant_bytes (MethodType desc))) hold
 
-adds_nothing : (major : ℕ) (pool : Constants) → AddsChecked major pool pool
+pub adds_nothing : (major : ℕ) (pool : Constants) → AddsChecked major pool pool
 adds_nothing major pool = record { added = []; is = sym (append-nil pool); pass = λ more at. tt; calls = λ count at. tt }
 
-adds_through : (major : ℕ) (pool middle last : Constants) → AddsChecked major pool middle → AddsChecked major middle last → AddsChecked major pool last
+pub adds_through : (major : ℕ) (pool middle last : Constants) → AddsChecked major pool middle → AddsChecked major middle last → AddsChecked major pool last
 adds_through major pool middle last one other = record {
   added = one.added ++ other.added;
   is = other.is ∙ ap (λ (x : Constants). x ++ other.added) one.is ∙ append_assoc pool one.added other.added;

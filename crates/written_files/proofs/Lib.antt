@@ -3,3 +3,4 @@ pub mod GrownPools
 pub mod SoundCode
 pub mod SoundConstructors
 pub mod SoundNeeds
+pub mod WrittenClasses
