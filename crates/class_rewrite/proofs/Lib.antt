@@ -49,6 +49,5 @@ pub mod CaughtItems
 pub mod OpenedFields
 pub mod MadeMembers
 pub mod WrittenUses
-pub mod WrittenSettings
 mod NamedItems
 mod SpelledWalk

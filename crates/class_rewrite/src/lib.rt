@@ -1,8 +1,8 @@
 //! The rewriting of a folder: what becomes of each method and why, and the folder that is written.
 #![tactic(auto)]
 
-mod emitted_laws;
 mod access_laws;
+mod emitted_laws;
 mod file_laws;
 mod folder;
 mod frame_facts;
@@ -13,8 +13,8 @@ mod reasons;
 mod report;
 mod verified_laws;
 
-pub use emitted_laws::rewritten_items_are_emitted_code;
 pub use access_laws::rewritten_items_may_use_what_they_name;
+pub use emitted_laws::rewritten_items_are_emitted_code;
 pub use file_laws::written_classes_are_class_files;
 pub use folder::{Optimised, optimise_folder};
 pub use frame_facts::frames_of_written_code_have_spelled_names;

@@ -4,12 +4,11 @@
 mod frame_laws;
 mod laws;
 
-pub use laws::{
-    frames_type_written_code, made_objects_keep_types, ways_of_a_plan_keep_types,
-    written_items_may_use_what_they_name,
-};
 pub use frame_laws::{
     stated_frames_are_whole, stated_frames_have_framed_names,
     written_field_constructors_have_no_result,
 };
-pub use laws::{frames_type_written_code, made_objects_keep_types, ways_of_a_plan_keep_types};
+pub use laws::{
+    frames_type_written_code, made_objects_keep_types, ways_of_a_plan_keep_types,
+    written_items_may_use_what_they_name,
+};
