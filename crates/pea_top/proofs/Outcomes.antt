@@ -21,6 +21,7 @@ use Rattle.pea_top.proofs.Copying.{files_are_put, files_are_partly_put}
 use Rattle.pea_top.proofs.WrittenFiles.{written_final, written_same}
 use Rattle.pea_top.specs.Answer.{AreRead, IsFirstOf, IsScriptThere, HasScript, CanDo, IsCommandAnswer, HasAnswer, IsAnswer, CauseOf}
 use Rattle.pea_top.specs.Both.{AreBothShown}
+use Rattle.pea_top.specs.Generating.{IsGeneratedText}
 use Rattle.pea_top.specs.Effects.{DoneFiles, IsNeverStuck, LeavesDone, LeavesPart, IsRunText, IsBothText, IsTaskText, IsListingText, IsDoneText, IsSummary, PrintsPart, PrintsLine, before_work, in_refusal, in_writes, in_print, Leaves}
 use Rattle.pea_top.specs.Folders.{HasClassFiles}
 use Rattle.pea_top.specs.Inner.Both.{AreBoth}
@@ -33,7 +34,7 @@ use Rattle.pea_top.specs.Inner.Writing.{Puts, PutsSome}
 use Rattle.pea_top.specs.Lines.{summary_line}
 use Rattle.pea_top.specs.Optimising.{AreFinal, AreOptimised, IsPlanText}
 use Rattle.pea_top.specs.Status.{Ending, completed, refused, failed, out_of_memory, ending, is_refused, line_of}
-use Rattle.pea_top.specs.Words.{Word, Task, Optimise, Verify, Plan, Run, Both, Command, OnFolder, Listing, Spells}
+use Rattle.pea_top.specs.Words.{Word, Task, Optimise, Verify, Plan, Run, Both, Command, OnFolder, Listing, Generated, Spells}
 use Rattle.pea_top.specs.declared.folder.NamedFile.{NamedFile}
 use Rattle.pea_top.specs.declared.listing.ListStop.{ListStop}
 use Rattle.pea_top.specs.declared.listing.ListStop.TheVariants as lists
@@ -282,6 +283,13 @@ pub stop_listed : (words : List Word) (input name : Word) → Spells (Listing in
 stop_listed words input name spelled old new text before after is status left =
     let can : CanDo words old = record { command = Listing input name; spelled = spelled; is = record { bytes = is.bytes; there = is.there; class = is.class; is_class = is.is_class } } in
     stop_printed words (Listing input name) spelled old new can (λ same. same) text is before after status left
+
+-- the line of generated work is printed
+pub stop_generated : (words : List Word) (number size : ℕ) → Spells (Generated number size) words → (old new : Files) (text before after : Bytes) → IsGeneratedText number size text → (status : Status) → LeavesPrinted text old new before after (ending status)
+    → IsStop words old new before after status
+stop_generated words number size spelled old new text before after is status left =
+    let can : CanDo words old = record { command = Generated number size; spelled = spelled; is = refl } in
+    stop_printed words (Generated number size) spelled old new can (λ same. same) text is before after status left
 
 -- what carrying out the work leaves, as its calls say
 abbrev pub WorkLeaves : Work → List NamedFile → Classes → Files → Files → Bytes → Bytes → Ending → Type 0
