@@ -34,7 +34,7 @@ use crate::verifying::{verify_for, verify_status};
 use crate::words::{Command, Task, command_of};
 use crate::work::{Work, carry_out, finish, work_of};
 use class_model::{NoMemory, bytes_are_one_class_file};
-use class_tree::Tree;
+use class_tree::{Tree, classes_of_a_tree_are_a_hierarchy};
 use explain::Outlines;
 use host_tree::{Host, HostFail};
 use std::alloc::Global;
@@ -115,6 +115,7 @@ pub fn pea<H: Host>(alloc: Global, words: &[String], host: &mut H) -> Status
     words_and_files_have_one_answer();
     words_spell_one_command();
     bytes_are_one_class_file();
+    classes_of_a_tree_are_a_hierarchy();
     match run(alloc, words, host) {
         Ok(()) => Status::Done,
         Err(stop) => refuse(alloc, host, stop),
