@@ -3,14 +3,16 @@ use crate::lines::Lines;
 use class_model::NoMemory;
 use std::alloc::Global;
 
-/// A command: its name, its positional words, of which a second one may be missing, and whether it takes `--lib` and `--steps`.
+/// A command: its name, its positional words, of which both or a second one may be missing, and whether it takes `--lib`, `--steps`, and
+/// `--number` with `--size`.
 #[derive(Clone, Copy)]
 struct Form {
     name: &'static str,
-    first: &'static str,
+    first: Option<&'static str>,
     second: Option<&'static str>,
     takes_library: bool,
     takes_steps: bool,
+    takes_draws: bool,
 }
 
 /// An option of commands.
@@ -18,6 +20,8 @@ struct Form {
 enum Flag {
     Lib,
     Steps,
+    Number,
+    Size,
 }
 
 /// The words behind a command's name, as far as they were read.
@@ -27,6 +31,8 @@ struct Seen<'a> {
     second: Option<&'a str>,
     library: Option<&'a str>,
     steps: Option<&'a str>,
+    number: Option<&'a str>,
+    size: Option<&'a str>,
     awaited: Option<Flag>,
 }
 
@@ -38,7 +44,7 @@ pub fn explain_usage(alloc: Global, words: &[String]) -> Result<String, NoMemory
         Some((name, rest)) => put_words(&mut lines, name.as_str(), rest),
         None => {
             lines.put("pea: error: there is no word, or one that is not UTF-8; ");
-            lines.put("a command is expected: verify, plan, optimise, run, both or list\n");
+            lines.put("a command is expected: verify, plan, optimise, run, both, list or gen\n");
         }
     }
     put_usage(&mut lines);
@@ -55,7 +61,7 @@ fn put_words(lines: &mut Lines, name: &str, rest: &[String]) {
             None => {
                 put_wrong(lines, name);
                 lines.put(
-                    " is no command; expected is verify, plan, optimise, run, both or list\n",
+                    " is no command; expected is verify, plan, optimise, run, both, list or gen\n",
                 );
             }
         },
@@ -77,6 +83,12 @@ fn form_of(name: &str) -> Option<Form> {
             takes_library: false,
             ..plain_form("list")
         }),
+        "gen" => Some(Form {
+            first: None,
+            takes_library: false,
+            takes_draws: true,
+            ..plain_form("gen")
+        }),
         _ => None,
     }
 }
@@ -84,10 +96,11 @@ fn form_of(name: &str) -> Option<Form> {
 fn plain_form(name: &'static str) -> Form {
     Form {
         name,
-        first: "IN",
+        first: Some("IN"),
         second: None,
         takes_library: true,
         takes_steps: false,
+        takes_draws: false,
     }
 }
 
@@ -113,6 +126,8 @@ fn put_arguments(lines: &mut Lines, form: Form, words: &[String]) {
         second: None,
         library: None,
         steps: None,
+        number: None,
+        size: None,
         awaited: None,
     };
     for word in words {
@@ -172,8 +187,24 @@ impl<'a> Seen<'a> {
                 steps: Some(value),
                 ..next
             }),
+            Flag::Number if self.number.is_none() && form.takes_draws => Some(Seen {
+                number: Some(value),
+                ..next
+            }),
+            Flag::Size if self.size.is_none() && form.takes_draws => Some(Seen {
+                size: Some(value),
+                ..next
+            }),
             Flag::Lib => {
-                lines.put("pea: error: --lib is given twice, or to list\n");
+                lines.put("pea: error: --lib is given twice, or to list or gen\n");
+                None
+            }
+            Flag::Number => {
+                lines.put("pea: error: --number is given twice, or to a command other than gen\n");
+                None
+            }
+            Flag::Size => {
+                lines.put("pea: error: --size is given twice, or to a command other than gen\n");
                 None
             }
             Flag::Steps => {
@@ -188,12 +219,11 @@ impl<'a> Seen<'a> {
     fn with_positional(self, lines: &mut Lines, form: Form, word: &'a str) -> Option<Self> {
         if word.is_empty() || word.starts_with('-') {
             put_wrong(lines, word);
-            lines.put(
-                " is no option; expected is --lib LIB, of run and both also --steps N, or a folder\n",
-            );
+            lines.put(" is no option; expected is --lib LIB, of run and both also --steps N, ");
+            lines.put("of gen --number S and --size M, or a folder\n");
             return None;
         }
-        if self.first.is_none() {
+        if self.first.is_none() && form.first.is_some() {
             return Some(Seen {
                 first: Some(word),
                 ..self
@@ -226,19 +256,36 @@ impl<'a> Seen<'a> {
             lines.put(" is missing behind ");
             lines.put(form.name);
             lines.put("\n");
-        } else if let Some(steps) = self.steps {
-            put_wrong(lines, steps);
-            lines.put(" is no number of steps; expected is a decimal number up to 10000000\n");
         } else {
-            lines.put(
+            self.put_values(lines);
+        }
+    }
+
+    // Which number is outside its bounds, where nothing is missing.
+    fn put_values(self, lines: &mut Lines) {
+        match (self.steps, self.number, self.size) {
+            (Some(steps), _, _) => {
+                put_wrong(lines, steps);
+                lines.put(" is no number of steps; expected is a decimal number up to 10000000\n");
+            }
+            (_, Some(number), _) if !is_within(number, 0, 2_147_483_647) => {
+                put_wrong(lines, number);
+                lines.put(Flag::Number.expected());
+            }
+            (_, _, Some(size)) => {
+                put_wrong(lines, size);
+                lines.put(Flag::Size.expected());
+            }
+            _ => lines.put(
                 "pea: error: OUT is the same word as IN or LIB; another folder is expected\n",
-            );
+            ),
         }
     }
 
     fn missing(self, form: Form) -> &'static str {
-        if self.first.is_none() {
-            return form.first;
+        match form.first {
+            Some(first) if self.first.is_none() => return first,
+            _ => {}
         }
         match form.second {
             Some(second) if self.second.is_none() => return second,
@@ -246,6 +293,10 @@ impl<'a> Seen<'a> {
         }
         if self.library.is_none() && form.takes_library {
             "--lib LIB"
+        } else if self.number.is_none() && form.takes_draws {
+            "--number S"
+        } else if self.size.is_none() && form.takes_draws {
+            "--size M"
         } else {
             ""
         }
@@ -260,6 +311,12 @@ impl Flag {
             Flag::Steps => {
                 ": expected is a decimal number up to 10000000, as the value of --steps\n"
             }
+            Flag::Number => {
+                ": expected is a decimal number up to 2147483647, as the value of --number\n"
+            }
+            Flag::Size => {
+                ": expected is a decimal number from 1 to 1000, as the value of --size\n"
+            }
         }
     }
 }
@@ -268,12 +325,25 @@ fn flag_of(word: &str) -> Option<Flag> {
     match word {
         "--lib" => Some(Flag::Lib),
         "--steps" => Some(Flag::Steps),
+        "--number" => Some(Flag::Number),
+        "--size" => Some(Flag::Size),
         _ => None,
     }
 }
 
+// A decimal number of at most 20 digits within these bounds.
+fn is_within(word: &str, least: u64, most: u64) -> bool {
+    if word.len() > 20 || word.starts_with('+') {
+        return false;
+    }
+    match word.parse::<u64>() {
+        Ok(number) => least <= number && number <= most,
+        Err(_) => false,
+    }
+}
+
 fn put_usage(lines: &mut Lines) {
-    lines.put("  pea 0.1.0 has six commands; their arguments come in any order\n");
+    lines.put("  pea 0.1.0 has seven commands; their arguments come in any order\n");
     lines.put("  pea verify IN --lib LIB\n");
     lines.put("    whether IN is linked with LIB and verifies, as\n");
     lines.put("    pea verify examples/first/in --lib examples/first/lib\n");
@@ -287,12 +357,17 @@ fn put_usage(lines: &mut Lines) {
     lines.put("    runs IN by the actions of the library that SCRIPT has, as\n");
     lines.put("    pea run examples/points/in examples/points/script --lib examples/first/lib\n");
     lines.put("  pea both IN SCRIPT --lib LIB [--steps N]\n");
-    lines.put("    the same, and then what IN is optimised to, without writing it\n");
+    lines.put("    the same, and then what IN is optimised to, without writing it, as\n");
+    lines.put("    pea both examples/points/in examples/points/script --lib examples/first/lib\n");
     lines.put("  pea list IN NAME\n");
     lines.put("    the parts of the class file NAME of IN, a line each, as\n");
     lines.put("    pea list examples/points/in Point.class\n");
+    lines.put("  pea gen --number S --size M\n");
+    lines.put("    makes M methods, drawn from S, and optimises and runs them, as\n");
+    lines.put("    pea gen --number 1 --size 2\n");
     lines.put("  each of IN, OUT and LIB is a folder of files, and OUT is neither IN nor LIB\n");
     lines.put(
         "  SCRIPT is a file, and N is at most 10000000 steps, and 1000000 where it is left out\n",
     );
+    lines.put("  S is at most 2147483647, and M is from 1 to 1000\n");
 }

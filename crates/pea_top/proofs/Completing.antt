@@ -3,7 +3,7 @@ use Rattle.std.proofs.Common.{◌≡◌, ◌≢◌, ◌≤◌, ℕ, List, [], �
 use Rattle.std.proofs.lemmas.List.{append-nil}
 use Rattle.std.specs.Prelude.{◌↔◌}
 use Rattle.std.specs.List.{flat_map, AllByRecursion}
-use Rattle.pea_top.specs.Words.{Word, Task, Optimise, Verify, Plan, Run, Both, Command, OnFolder, Listing, name_of, positionals_of, HasSteps, TaskSteps, HasValues, CommandOption, lib_option, steps_option, Part, Positional, Separate, Joined, words_of, IsPart, positionals, with_value, values_of, Spells}
+use Rattle.pea_top.specs.Words.{Word, Task, Optimise, Verify, Plan, Run, Both, Command, OnFolder, Listing, Generated, name_of, positionals_of, HasNumber, HasSteps, TaskSteps, HasValues, CommandOption, lib_option, steps_option, number_option, size_option, Part, Positional, Separate, Joined, words_of, IsPart, positionals, with_value, values_of, Spells}
 use Rattle.pea_top.specs.Seen.{AreOf, Completes, AreBehindName}
 use Rattle.pea_top.proofs.WordGrammar.{same_part, not_empty}
 
@@ -26,8 +26,20 @@ with_first : (asked option : CommandOption) (value : Word) (values : List Word)
     → with_value asked option value values ≡ with_value asked option value [] ++ values
 with_first lib_option lib_option value values = refl
 with_first lib_option steps_option value values = refl
+with_first lib_option number_option value values = refl
+with_first lib_option size_option value values = refl
 with_first steps_option lib_option value values = refl
 with_first steps_option steps_option value values = refl
+with_first steps_option number_option value values = refl
+with_first steps_option size_option value values = refl
+with_first number_option lib_option value values = refl
+with_first number_option steps_option value values = refl
+with_first number_option number_option value values = refl
+with_first number_option size_option value values = refl
+with_first size_option lib_option value values = refl
+with_first size_option steps_option value values = refl
+with_first size_option number_option value values = refl
+with_first size_option size_option value values = refl
 
 values_first : (asked : CommandOption) (part : Part) (parts : List Part)
     → values_of asked (part ∷ parts) ≡ values_of asked (part ∷ []) ++ values_of asked parts
@@ -101,11 +113,17 @@ two_at_most (OnFolder input library Plan) = omega arith
 two_at_most (OnFolder input library (Run script steps)) = omega arith
 two_at_most (OnFolder input library (Both script steps)) = omega arith
 two_at_most (Listing input name) = omega arith
+two_at_most (Generated number size) = omega arith
 
 one_number : (steps : ℕ) (values : List Word) → HasSteps steps values → length values ≤ 1
 one_number steps [] h = omega arith
 one_number steps (word ∷ []) h = omega arith
 one_number steps (first ∷ second ∷ values) h = absurd h
+
+one_within : (low high number : ℕ) (values : List Word) → HasNumber low high number values → length values ≤ 1
+one_within low high number [] h = absurd h
+one_within low high number (word ∷ []) h = omega arith
+one_within low high number (first ∷ second ∷ values) h = absurd h
 
 one_in_task : (task : Task) (values : List Word) → TaskSteps task values → length values ≤ 1
 one_in_task (Optimise output) values h = omega (arith, ap length h)
@@ -117,8 +135,16 @@ one_in_task (Both script steps) values h = one_number steps values h
 one_at_most : (command : Command) (option : CommandOption) (values : List Word) → HasValues command option values → length values ≤ 1
 one_at_most (OnFolder input library task) lib_option values h = omega (arith, ap length h)
 one_at_most (OnFolder input library task) steps_option values h = one_in_task task values h
+one_at_most (OnFolder input library task) number_option values h = omega (arith, ap length h)
+one_at_most (OnFolder input library task) size_option values h = omega (arith, ap length h)
 one_at_most (Listing input name) lib_option values h = omega (arith, ap length h)
 one_at_most (Listing input name) steps_option values h = omega (arith, ap length h)
+one_at_most (Listing input name) number_option values h = omega (arith, ap length h)
+one_at_most (Listing input name) size_option values h = omega (arith, ap length h)
+one_at_most (Generated number size) lib_option values h = omega (arith, ap length h)
+one_at_most (Generated number size) steps_option values h = omega (arith, ap length h)
+one_at_most (Generated number size) number_option values h = one_within 0 2147483647 number values h
+one_at_most (Generated number size) size_option values h = one_within 1 1000 size values h
 
 pub few_positional : (ps : List Word) (vs : CommandOption → List Word) (words : List Word) (command : Command)
     → Completes ps vs words command → length ps ≤ 2

@@ -29,3 +29,6 @@ pub mod Meanings
 pub mod Complete
 pub mod SettledRuns
 pub mod WrittenTrees
+pub mod WordBounds
+pub mod GeneratedTrees
+pub mod RunsTold

@@ -1,13 +1,20 @@
 -- What was written means what was read.
-use Rattle.std.proofs.Common.{◌≡◌, ℕ, zero, suc, List, [], ◌∷◌, cond, Option, Some, None, is_some, IsTrue, slice_get, refl, sym, ap, ◌∙◌, subst}
+use Rattle.std.proofs.Common.{◌≡◌, ◌<◌, ℕ, zero, suc, List, [], ◌∷◌, cond, get_or, length, map, option_map, Option, Some, None, is_some, IsPermutation, IsTrue, slice_get, refl, sym, ap, ◌∙◌, subst, arith}
+use Rattle.std.proofs.lemmas.List.{length-map}
+use Rattle.std.proofs.lemmas.List.Sorted.{IsPermutation-map}
+use Rattle.std.proofs.lemmas.Option.{get_or_from_slice_get, slice_get-map, slice_get_within}
 use Rattle.std.specs.List.{AllByRecursion}
 use Rattle.class_model.specs.ClassOf.{ClassOf}
+use Rattle.class_model.specs.Header.{header_of}
 use Rattle.class_model.specs.Spelling.{class_bytes}
 use Rattle.class_model.specs.declared.class_file.ClassFile.{ClassFile}
-use Rattle.class_rewrite.specs.Laws.Kept.{written_is_kept}
 use Rattle.class_rewrite.specs.Optimised.{with_folder}
-use Rattle.class_tree.specs.Headers.{Classes, IsClassFile}
-use Rattle.class_tree.specs.Trees.{IsArranged}
+use Rattle.class_tree.specs.Headers.{Classes, IsClassFile, headers_of}
+use Rattle.class_tree.specs.Hierarchy.{IsHierarchy}
+use Rattle.class_tree.specs.Order.{place_of}
+use Rattle.class_tree.specs.Trees.{IsArranged, IsTree}
+use Rattle.class_tree.specs.declared.place.Place.{Place}
+use Rattle.class_tree.specs.declared.place.Place.TheVariants as places
 use Rattle.host_tree.specs.Host.{Bytes, Folder, Files}
 use Rattle.pea_top.specs.Effects.{ArePut, DoneFiles, Leaves, LeavesDone}
 use Rattle.pea_top.specs.Status.{Ending, completed, refused, failed, out_of_memory}
@@ -29,23 +36,65 @@ item_is P (y ∷ ys) (suc n) x are is = item_is P ys n x are.1 is
 abbrev OneClass : Type 0
 OneClass = (bytes : List ℕ) (one other : ClassFile) → ClassOf bytes one → ClassOf bytes other → one ≡ other
 
-module _ (one_class : OneClass) (tree : Classes) (written : List ClassFile) (kept : written ≡ tree.folder) (spelled : AllByRecursion IsClassFile written) (input final : Folder) (are : AreFinal tree written input final) where
-  -- a class file is written as the class that it is read as
-  class_of_final : (name before after : Bytes) (value : ClassFile) → IsTrue (names_class_file name) → ClassOf before value → IsFinal tree written name before after → ClassOf after value
+-- ---- the class that is written of a class
+
+-- the class at the same place
+written_at : List ClassFile → Option Place → ClassFile → ClassFile
+written_at written (Some (places.Folder number)) class = get_or written number class
+written_at written place class = class
+
+written_behind : Classes → List ClassFile → ClassFile → ClassFile
+written_behind tree written class = written_at written (place_of (headers_of tree) (header_of class).name) class
+
+-- lists of one length that have the same items are one
+same_items : (xs ys : List ClassFile) → length xs ≡ length ys → ((n : ℕ) (x y : ClassFile) → slice_get xs n ≡ Some x → slice_get ys n ≡ Some y → x ≡ y) → xs ≡ ys
+same_items [] [] count same = refl
+same_items [] (y ∷ ys) count same = absurd (omega (arith, count))
+same_items (x ∷ xs) [] count same = absurd (omega (arith, count))
+same_items (x ∷ xs) (y ∷ ys) count same =
+    let first : x ≡ y = same zero x y refl refl in
+    let rest : xs ≡ ys = same_items xs ys (omega (arith, count)) (λ n. same (suc n)) in
+    cc (first, rest)
+
+module _ (one_class : OneClass) (tree : Classes) (hierarchy : IsHierarchy (headers_of tree)) (written : List ClassFile) (count : length written ≡ length tree.folder) (spelled : AllByRecursion IsClassFile written) (input final : Folder) (are : AreFinal tree written input final) where
+  -- of the class at a number, the class at that number
+  behind_at : (number : ℕ) (class last : ClassFile) → slice_get tree.folder number ≡ Some class → slice_get written number ≡ Some last → written_behind tree written class ≡ last
+  unfolding written_at written_behind
+  behind_at number class last stands is_written =
+      let header = slice_get-map header_of tree.folder number ∙ ap (option_map header_of) stands in
+      let placed = hierarchy.of_place (places.Folder number) (header_of class) header in
+      ap (λ (place : Option Place). written_at written place class) placed.is_place ∙ get_or_from_slice_get written number last class is_written
+
+  -- the written classes are those behind the classes of the folder
+  all_behind : map (written_behind tree written) tree.folder ≡ written
+  all_behind = same_items (map (written_behind tree written) tree.folder) written (length-map tree.folder (written_behind tree written) ∙ sym count)
+      (λ n x y is_behind is_written.
+          let within = subst (λ (k : ℕ). n < k) count (slice_get_within written n y is_written) in
+          let there = there_is tree.folder n within in
+          let mapped : Some (written_behind tree written there.0) ≡ Some x = sym (slice_get-map (written_behind tree written) tree.folder n ∙ ap (option_map (written_behind tree written)) there.1) ∙ is_behind in
+          let behind : written_behind tree written there.0 ≡ x = cc mapped in
+          sym behind ∙ behind_at n there.0 y there.1 is_written)
+    where
+      there_is : (xs : List ClassFile) (n : ℕ) → n < length xs → (x : ClassFile) × (slice_get xs n ≡ Some x)
+      there_is [] n within = absurd (omega arith)
+      there_is (x ∷ xs) zero within = (x, refl)
+      there_is (x ∷ xs) (suc n) within = there_is xs n (omega (arith, within))
+
+  -- a class file is written as the class behind the one that it is read as
+  class_of_final : (name before after : Bytes) (value : ClassFile) → IsTrue (names_class_file name) → ClassOf before value → IsFinal tree written name before after → ClassOf after (written_behind tree written value)
   class_of_final name before after value named of (optimising.other_file not_named same) = absurd (not_named named)
   class_of_final name before after value named of (optimising.class_file class last number _ its_of stands is_written after_is) =
       let one : class ≡ value = one_class before class value its_of of in
-      let both : Some last ≡ Some class = sym is_written ∙ ap (λ (folder : List ClassFile). slice_get folder number) kept ∙ stands in
-      let same : last ≡ value = cc (one, both) in
+      let same : last ≡ written_behind tree written value = sym (behind_at number class last stands is_written) ∙ ap (written_behind tree written) one in
       let is : ClassOf (class_bytes last) last = item_is IsClassFile written number last spelled is_written in
-      subst (λ (bytes : Bytes). ClassOf bytes value) (sym after_is) (subst (λ (class : ClassFile). ClassOf (class_bytes last) class) same is)
+      subst (λ (bytes : Bytes). ClassOf bytes (written_behind tree written value)) (sym after_is) (subst (λ (class : ClassFile). ClassOf (class_bytes last) class) same is)
 
-  reads : {names : List Bytes} {values : List ClassFile} → AreReadAs ClassOf input names values → AreReadAs ClassOf final names values
+  reads : {names : List Bytes} {values : List ClassFile} → AreReadAs ClassOf input names values → AreReadAs ClassOf final names (map (written_behind tree written) values)
   reads no_name = no_name
   reads (class_file name bytes names value values named there of rest) =
       let each = are.each name bytes there in
-      class_file name each.0 names value values named each.1 (class_of_final name bytes each.0 value named of each.2) (reads rest)
-  reads (other_file name names values not_named rest) = other_file name names values not_named (reads rest)
+      class_file name each.0 names (written_behind tree written value) (map (written_behind tree written) values) named each.1 (class_of_final name bytes each.0 value named of each.2) (reads rest)
+  reads (other_file name names values not_named rest) = other_file name names (map (written_behind tree written) values) not_named (reads rest)
 
   same_held : (name : Bytes) → is_some (final name) ≡ is_some (input name)
   same_held name = by (input name) refl
@@ -54,7 +103,7 @@ module _ (one_class : OneClass) (tree : Classes) (written : List ClassFile) (kep
       by None e = ap is_some (are.no_other name e) ∙ sym (ap is_some e)
       by (Some before) e = ap is_some (are.each name before e).1 ∙ sym (ap is_some e)
 
-  final_read : {values : List ClassFile} → HasClassFiles ClassOf input values → HasClassFiles ClassOf final values
+  final_read : {values : List ClassFile} → HasClassFiles ClassOf input values → HasClassFiles ClassOf final (map (written_behind tree written) values)
   final_read has = record {
     names = has.names;
     are_names = record { once = λ name. has.are_names.once name ∙ ap {B = ℕ} (λ b. cond b 1 0) (sym (same_held name)); in_order = has.are_names.in_order };
@@ -85,16 +134,24 @@ module _ (one_class : OneClass) (tree : Classes) (written : List ClassFile) (kep
     under_is_final = λ i name. sym (under_is name) i
 
 -- The files of a folder that was optimised were put.
-pub means_the_same : OneClass → (input output library : Bytes) (old new : Files) → PutsOptimised (λ final. ArePut final output old new) (old input) (old library) → MeansTheSame (old input) (old library) (under_names (old input) (new output))
-means_the_same one_class input output library old new puts =
+pub means_the_same : OneClass → ((classes : Classes) → IsTree classes → IsHierarchy (headers_of classes)) → (input output library : Bytes) (old new : Files) → PutsOptimised (λ final. ArePut final output old new) (old input) (old library) → MeansTheSame (old input) (old library) (under_names (old input) (new output))
+means_the_same one_class hierarchies input output library old new puts =
     let tree = puts.tree in
     let are = puts.are in
     let written = puts.optimised.classes in
     let keeps = are.is.keeps in
-    let kept = written_is_kept tree are.verified.typed written are.is.written in
+    let hierarchy = hierarchies tree are.verified.tree in
+    let count = are.is.count in
     let spelled = keeps.verified.tree.folder in
-    let arranged : IsArranged are.classes are.headers (with_folder tree written) = subst (λ (folder : List ClassFile). IsArranged are.classes are.headers (with_folder tree folder)) (sym kept) are.arranged in
-    let read = final_read one_class tree written kept spelled (old input) puts.final puts.are_final are.read.classes_read in
+    let arranged : IsArranged (map (written_behind tree written) are.classes) are.headers (with_folder tree written) =
+    record {
+      folder_same = subst (IsPermutation (map (written_behind tree written) are.classes)) (all_behind one_class tree hierarchy written count spelled (old input) puts.final puts.are_final) (IsPermutation-map (written_behind tree written) are.classes tree.folder are.arranged.folder_same);
+      library_same = are.arranged.library_same;
+      folder_sorted = keeps.verified.tree.in_order.folder;
+      library_sorted = are.arranged.library_sorted;
+    }
+    in
+    let read = final_read one_class tree hierarchy written count spelled (old input) puts.final puts.are_final are.read.classes_read in
     let at_final : MeansTheSame (old input) (old library) puts.final =
     record {
       before = keeps.runs.first;
@@ -110,7 +167,7 @@ means_the_same one_class input output library old new puts =
       };
       after = keeps.runs.second;
       is_after = record {
-        files = are.classes;
+        files = map (written_behind tree written) are.classes;
         files_read = read;
         headers = are.headers;
         headers_read = are.read.headers_read;
@@ -120,18 +177,18 @@ means_the_same one_class input output library old new puts =
         program = keeps.runs.is_second;
       };
       same_runs = keeps.runs.same_runs;
-      there = λ name some. same_held one_class tree written kept spelled (old input) puts.final puts.are_final name ∙ some;
-      other_files = final_others one_class tree written kept spelled (old input) puts.final puts.are_final;
+      there = λ name some. same_held one_class tree hierarchy written count spelled (old input) puts.final puts.are_final name ∙ some;
+      other_files = final_others one_class tree hierarchy written count spelled (old input) puts.final puts.are_final;
     }
     in
-    subst (λ (folder : Folder). MeansTheSame (old input) (old library) folder) (under_is_final one_class tree written kept spelled (old input) puts.final puts.are_final (new output) puts.put.put) at_final
+    subst (λ (folder : Folder). MeansTheSame (old input) (old library) folder) (under_is_final one_class tree hierarchy written count spelled (old input) puts.final puts.are_final (new output) puts.put.put) at_final
 
 -- a call that was done with words that spell this command
-pub done_means : OneClass → ((words : List Word) (one other : Command) → Spells one words → Spells other words → one ≡ other) → (words : List Word) (input output library : Bytes) (old new : Files) → Spells (OnFolder input library (Optimise output)) words → LeavesDone words old new
+pub done_means : OneClass → ((classes : Classes) → IsTree classes → IsHierarchy (headers_of classes)) → ((words : List Word) (one other : Command) → Spells one words → Spells other words → one ≡ other) → (words : List Word) (input output library : Bytes) (old new : Files) → Spells (OnFolder input library (Optimise output)) words → LeavesDone words old new
     → MeansTheSame (old input) (old library) (under_names (old input) (new output))
-done_means one_class one_command words input output library old new spelled done =
+done_means one_class hierarchies one_command words input output library old new spelled done =
     let same : done.command ≡ OnFolder input library (Optimise output) = one_command words done.command (OnFolder input library (Optimise output)) done.spelled spelled in
-    means_the_same one_class input output library old new (subst (λ (command : Command). DoneFiles command old new) same done.files)
+    means_the_same one_class hierarchies input output library old new (subst (λ (command : Command). DoneFiles command old new) same done.files)
 
 -- what a call that was done has left
 abbrev pub LeavesDoneAt : List Word → Files → Files → Ending → Type 0

@@ -16,7 +16,7 @@ use Rattle.pea_top.specs.Answer.{Refusal, broken, other_version, IsRefusedClass,
 use Rattle.pea_top.specs.Linking.{IsLinkProblem}
 use Rattle.pea_top.specs.Verifying.{IsTypeFailure}
 use Rattle.script_text.specs.Scripts.{lines_of, IsFirstOutside}
-use Rattle.pea_top.specs.Words.{Word, Task, Command, OnFolder, Listing, IsUsage}
+use Rattle.pea_top.specs.Words.{Word, Task, Command, OnFolder, Listing, Generated, IsUsage}
 use Rattle.pea_top.specs.declared.status.Status.{Status}
 use Rattle.pea_top.specs.declared.status.Status.TheVariants as statuses
 use Rattle.pea_top.proofs.BytesLaws.{ClassLaws, HeaderLaws, one_class, one_class_refusal, class_not_refused, one_header, one_header_refusal, header_not_refused}
@@ -298,6 +298,7 @@ module _ (laws : Laws) where
   one_of_command : (command : Command) (files : Files) (one other : Status) → IsCommandAnswer command files one → IsCommandAnswer command files other → one ≡ other
   one_of_command (OnFolder input library task) files one other h i = one_task_answer input library task files one other h i
   one_of_command (Listing input name) files one other h i = one_file_answer (files input) name one other h i
+  one_of_command (Generated number size) files one other h i = h ∙ sym i
 
   module _ (words : List Word) (files : Files) where
     -- the words are outside the grammar, or spell a command with this answer

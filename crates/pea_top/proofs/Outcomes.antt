@@ -18,9 +18,10 @@ use Rattle.host_tree.specs.declared.call.HostCall.TheVariants as calls
 use Rattle.machine_values.specs.declared.action.Action.{Action}
 use Rattle.member_link.specs.Machine.Runs.{shown_after}
 use Rattle.pea_top.proofs.Copying.{files_are_put, files_are_partly_put}
-use Rattle.pea_top.proofs.WrittenFiles.{written_final, written_same}
+use Rattle.pea_top.proofs.WrittenFiles.{folder_of, written_are, written_final}
 use Rattle.pea_top.specs.Answer.{AreRead, IsFirstOf, IsScriptThere, HasScript, CanDo, IsCommandAnswer, HasAnswer, IsAnswer, CauseOf}
 use Rattle.pea_top.specs.Both.{AreBothShown}
+use Rattle.pea_top.specs.Generating.{IsGeneratedText}
 use Rattle.pea_top.specs.Effects.{DoneFiles, IsNeverStuck, LeavesDone, LeavesPart, IsRunText, IsBothText, IsTaskText, IsListingText, IsDoneText, IsSummary, PrintsPart, PrintsLine, before_work, in_refusal, in_writes, in_print, Leaves}
 use Rattle.pea_top.specs.Folders.{HasClassFiles}
 use Rattle.pea_top.specs.Inner.Both.{AreBoth}
@@ -33,7 +34,7 @@ use Rattle.pea_top.specs.Inner.Writing.{Puts, PutsSome}
 use Rattle.pea_top.specs.Lines.{summary_line}
 use Rattle.pea_top.specs.Optimising.{AreFinal, AreOptimised, IsPlanText}
 use Rattle.pea_top.specs.Status.{Ending, completed, refused, failed, out_of_memory, ending, is_refused, line_of}
-use Rattle.pea_top.specs.Words.{Word, Task, Optimise, Verify, Plan, Run, Both, Command, OnFolder, Listing, Spells}
+use Rattle.pea_top.specs.Words.{Word, Task, Optimise, Verify, Plan, Run, Both, Command, OnFolder, Listing, Generated, Spells}
 use Rattle.pea_top.specs.declared.folder.NamedFile.{NamedFile}
 use Rattle.pea_top.specs.declared.listing.ListStop.{ListStop}
 use Rattle.pea_top.specs.declared.listing.ListStop.TheVariants as lists
@@ -207,10 +208,10 @@ module _ (words : List Word) (input output library : Word) (spelled : Spells (On
   optimised : AreOptimised (old input) (old library) tree is.optimised
   optimised = optimised_as ready typed types is.optimised is.is
 
-  out_are : AreFiles (old input) out.files.items
-  out_are = subst (AreFiles (old input)) (sym (written_same tree is.optimised.classes files out.files.items is.written)) ready.prepared.read.good.are
+  out_are : AreFiles (folder_of out.files.items) out.files.items
+  out_are = written_are tree is.optimised.classes (old input) files out.files.items ready.prepared.read.good.are is.written
 
-  finals : AreFinal tree is.optimised.classes (old input) (old input)
+  finals : AreFinal tree is.optimised.classes (old input) (folder_of out.files.items)
   finals = written_final tree is.optimised.classes (old input) files out.files.items ready.prepared.read.good.are is.written
 
   is_line : IsTaskText input library (Optimise output) old (length files) ready.classes out.line.items
@@ -225,14 +226,14 @@ module _ (words : List Word) (input output library : Word) (spelled : Spells (On
   are_put puts = record {
     command = OnFolder input library (Optimise output);
     spelled = spelled;
-    files = record { tree = tree; optimised = is.optimised; are = optimised; final = old input; are_final = finals; put = files_are_put (old input) output out.files.items old new out_are puts };
+    files = record { tree = tree; optimised = is.optimised; are = optimised; final = folder_of out.files.items; are_final = finals; put = files_are_put (folder_of out.files.items) output out.files.items old new out_are puts };
   }
 
   are_partly_put : PutsSome output out.files.items old new → LeavesPart words old new
   are_partly_put puts = record {
     command = OnFolder input library (Optimise output);
     spelled = spelled;
-    files = record { tree = tree; optimised = is.optimised; are = optimised; final = old input; are_final = finals; put = files_are_partly_put (old input) output out.files.items old new out_are puts };
+    files = record { tree = tree; optimised = is.optimised; are = optimised; final = folder_of out.files.items; are_final = finals; put = files_are_partly_put (folder_of out.files.items) output out.files.items old new out_are puts };
   }
 
   can : CanDo words old
@@ -282,6 +283,13 @@ pub stop_listed : (words : List Word) (input name : Word) → Spells (Listing in
 stop_listed words input name spelled old new text before after is status left =
     let can : CanDo words old = record { command = Listing input name; spelled = spelled; is = record { bytes = is.bytes; there = is.there; class = is.class; is_class = is.is_class } } in
     stop_printed words (Listing input name) spelled old new can (λ same. same) text is before after status left
+
+-- the line of generated work is printed
+pub stop_generated : (words : List Word) (number size : ℕ) → Spells (Generated number size) words → (old new : Files) (text before after : Bytes) → IsGeneratedText number size text → (status : Status) → LeavesPrinted text old new before after (ending status)
+    → IsStop words old new before after status
+stop_generated words number size spelled old new text before after is status left =
+    let can : CanDo words old = record { command = Generated number size; spelled = spelled; is = refl } in
+    stop_printed words (Generated number size) spelled old new can (λ same. same) text is before after status left
 
 -- what carrying out the work leaves, as its calls say
 abbrev pub WorkLeaves : Work → List NamedFile → Classes → Files → Files → Bytes → Bytes → Ending → Type 0

@@ -1,9 +1,9 @@
 -- Words are cut into parts in one way, and spell one command.
-use Rattle.std.proofs.Common.{◌≡◌, ◌≢◌, ◌==◌, ℕ, List, [], ◌∷◌, ◌++◌, get_or, if◌then◌else◌, true, Option, None, Some, refl, sym, ap, subst, ◌∙◌}
+use Rattle.std.proofs.Common.{◌≡◌, ◌≢◌, ◌⊎◌, inl, inr, ◌==◌, ℕ, List, [], ◌∷◌, ◌++◌, get_or, if◌then◌else◌, true, Option, None, Some, refl, sym, ap, subst, ◌∙◌}
 use Rattle.std.specs.Prelude.{codes}
 use Rattle.std.specs.List.{flat_map, AllByRecursion}
 use Rattle.std.specs.Str.Parse.{digits_value}
-use Rattle.pea_top.specs.Words.{Word, Task, Optimise, Verify, Plan, Run, Both, Command, OnFolder, Listing, name_of, positionals_of, HasSteps, HasValues, CommandOption, lib_option, steps_option, option_name, Part, Positional, Separate, Joined, words_of, IsOperand, IsPart, positionals, values_of, Spells}
+use Rattle.pea_top.specs.Words.{Word, Task, Optimise, Verify, Plan, Run, Both, Command, OnFolder, Listing, Generated, name_of, positionals_of, HasNumber, IsWithin, HasSteps, HasValues, CommandOption, lib_option, steps_option, number_option, size_option, option_name, Part, Positional, Separate, Joined, words_of, IsOperand, IsPart, positionals, values_of, Spells}
 use Rattle.std.specs.Borrow.{Bor}
 use Rattle.std.specs.Option.{is_some}
 use Rattle.pea_top.specs.Seen.{Makes, MakesNone, positional_words, value_words, values_seen}
@@ -18,23 +18,35 @@ not_dashed (first ∷ word) rest operand e = operand cc
 pub not_name : (option : CommandOption) (word : Word) → IsOperand word → word ≢ option_name option
 not_name lib_option word operand e = not_dashed word (codes "-lib") operand e
 not_name steps_option word operand e = not_dashed word (codes "-steps") operand e
+not_name number_option word operand e = not_dashed word (codes "-number") operand e
+not_name size_option word operand e = not_dashed word (codes "-size") operand e
 
 -- nor such a name with its value behind an equals sign
 not_joined : (option : CommandOption) (word value : Word) → IsOperand word → word ≢ option_name option ++ codes "=" ++ value
 not_joined lib_option word value operand e = not_dashed word (codes "-lib=" ++ value) operand e
 not_joined steps_option word value operand e = not_dashed word (codes "-steps=" ++ value) operand e
+not_joined number_option word value operand e = not_dashed word (codes "-number=" ++ value) operand e
+not_joined size_option word value operand e = not_dashed word (codes "-size=" ++ value) operand e
 
 -- the fifth letter of its name tells an option from the others
 abbrev option_from : Word → CommandOption
-option_from word = if get_or word 4 0 == 98 then lib_option else steps_option
+option_from word =
+    if get_or word 4 0 == 98 then lib_option
+    else if get_or word 4 0 == 101 then steps_option
+    else if get_or word 4 0 == 109 then number_option
+    else size_option
 
 option_named : (option : CommandOption) → option_from (option_name option) ≡ option
 option_named lib_option = refl
 option_named steps_option = refl
+option_named number_option = refl
+option_named size_option = refl
 
 option_joined : (option : CommandOption) (value : Word) → option_from (option_name option ++ codes "=" ++ value) ≡ option
 option_joined lib_option value = refl
 option_joined steps_option value = refl
+option_joined number_option value = refl
+option_joined size_option value = refl
 
 same_option : (one other : CommandOption) → option_name one ≡ option_name other → one ≡ other
 same_option one other e = sym (option_named one) ∙ ap option_from e ∙ option_named other
@@ -42,6 +54,8 @@ same_option one other e = sym (option_named one) ∙ ap option_from e ∙ option
 not_longer : (option : CommandOption) (value : Word) → option_name option ≢ option_name option ++ codes "=" ++ value
 not_longer lib_option value e = cc
 not_longer steps_option value e = cc
+not_longer number_option value e = cc
+not_longer size_option value e = cc
 
 pub name_not_joined : (one other : CommandOption) (value : Word) → option_name one ≢ option_name other ++ codes "=" ++ value
 name_not_joined one other value e =
@@ -51,6 +65,8 @@ name_not_joined one other value e =
 same_value : (option : CommandOption) (value word : Word) → option_name option ++ codes "=" ++ value ≡ option_name option ++ codes "=" ++ word → value ≡ word
 same_value lib_option value word e = cc
 same_value steps_option value word e = cc
+same_value number_option value word e = cc
+same_value size_option value word e = cc
 
 same_joined : (one other : CommandOption) (value word : Word)
     → option_name one ++ codes "=" ++ value ≡ option_name other ++ codes "=" ++ word → Joined one value ≡ Joined other word
@@ -102,19 +118,29 @@ steps_are steps [] h = sym h
 steps_are steps (word ∷ []) h = h.is.value
 steps_are steps (first ∷ second ∷ values) h = absurd h
 
+abbrev pub number_in : List Word → ℕ
+number_in [] = 0
+number_in (word ∷ words) = digits_value 10 word
+
+number_is : (low high number : ℕ) (values : List Word) → HasNumber low high number values → number_in values ≡ number
+number_is low high number [] h = absurd h
+number_is low high number (word ∷ []) h = h.is.value
+number_is low high number (first ∷ second ∷ values) h = absurd h
+
 -- the command of a name whose first letter is this
-abbrev pub command_by : ℕ → (input second library : Word) (steps : ℕ) → Command
-command_by letter input second library steps =
+abbrev pub command_by : ℕ → (input second library : Word) (steps number size : ℕ) → Command
+command_by letter input second library steps number size =
     if letter == 111 then OnFolder input library (Optimise second)
     else if letter == 118 then OnFolder input library Verify
     else if letter == 112 then OnFolder input library Plan
     else if letter == 114 then OnFolder input library (Run second steps)
     else if letter == 98 then OnFolder input library (Both second steps)
+    else if letter == 103 then Generated number size
     else Listing input second
 
 abbrev pub command_from : Word → List Word → (CommandOption → List Word) → Command
 command_from name words values =
-    command_by (get_or name 0 0) (get_or words 0 []) (get_or words 1 []) (get_or (values lib_option) 0 []) (steps_in (values steps_option))
+    command_by (get_or name 0 0) (get_or words 0 []) (get_or words 1 []) (get_or (values lib_option) 0 []) (steps_in (values steps_option)) (number_in (values number_option)) (number_in (values size_option))
 
 pub rebuilt : (command : Command) (values : CommandOption → List Word) → ((option : CommandOption) → HasValues command option (values option))
     → command_from (name_of command) (positionals_of command) values ≡ command
@@ -128,6 +154,9 @@ rebuilt (OnFolder input library (Both script steps)) values has =
     let number : steps_in (values steps_option) ≡ steps = steps_are steps (values steps_option) (has steps_option) in
     ap (λ words. OnFolder input (get_or words 0 []) (Both script (steps_in (values steps_option)))) (has lib_option) ∙ ap (λ n. OnFolder input library (Both script n)) number
 rebuilt (Listing input name) values has = refl
+rebuilt (Generated number size) values has =
+    ap (λ n. Generated n (number_in (values size_option))) (number_is 0 2147483647 number (values number_option) (has number_option))
+    ∙ ap (λ n. Generated number n) (number_is 1 1000 size (values size_option) (has size_option))
 
 -- words spell one command at most
 pub same_command : (words : List Word) (one other : Command) → Spells one words → Spells other words → one ≡ other
@@ -165,3 +194,14 @@ no_library seen input library task none makes =
 pub no_value : (value : Option (Bor Word)) → is_some value ≡ true → value_words value ≢ []
 no_value None some e = cc
 no_value (Some word) some e = cc
+
+-- no value of an option of generated work is given
+pub given_none : (seen : Arguments) → (values_seen seen number_option ≢ []) ⊎ (values_seen seen size_option ≢ []) → values_seen seen number_option ≡ [] → values_seen seen size_option ≡ [] → ⊥
+given_none seen (inl some) number size = some number
+given_none seen (inr some) number size = some size
+
+pub no_number : (value : Option (Bor Word)) (low high number : ℕ) → value ≡ None → ¬ HasNumber low high number (value_words value)
+no_number value low high number none has = rw none at has
+
+pub other_number : (value : Option (Bor Word)) (word : Bor Word) (low high : ℕ) → value ≡ Some word → ((number : ℕ) → ¬ IsWithin low high number word.now) → (number : ℕ) → ¬ HasNumber low high number (value_words value)
+other_number value word low high some outside number has = outside number (rw some at has)

@@ -2,7 +2,7 @@
 use Rattle.std.proofs.Common.{◌≡◌, ◌≢◌, ℕ, ◌+◌, ◌<◌, ◌≤◌, List, [], ◌∷◌, ◌++◌, length, length-append, get_or, drop, map, refl, sym, ap, ◌∙◌, append_assoc, arith}
 use Rattle.std.proofs.lemmas.List.{drop_more}
 use Rattle.std.specs.Prelude.{codes, ◌↔◌, IfNone, Option, None, Some}
-use Rattle.pea_top.specs.Words.{Word, Command, CommandOption, lib_option, steps_option, option_name, Part, Positional, Separate, Joined, words_of, IsOperand, IsPart, positionals, values_of, IsUsage}
+use Rattle.pea_top.specs.Words.{Word, Command, CommandOption, lib_option, steps_option, number_option, size_option, option_name, Part, Positional, Separate, Joined, words_of, IsOperand, IsPart, positionals, values_of, IsUsage}
 use Rattle.pea_top.specs.Seen.{option_view, positional_words, values_seen, awaiting, Makes, MakesNone, AreBehindName, EndsCommand, Leads, Fails, Adds, IsTooMany}
 use Rattle.pea_top.specs.declared.words.OptionName.{OptionName}
 use Rattle.pea_top.specs.declared.words.Arguments.{Arguments}
@@ -17,8 +17,12 @@ no_more : (seen : Arguments) (part : Part) → IsTooMany seen part
 no_more seen (Positional word) many words values = omega (arith, many, simp length-append at words)
 no_more seen (Separate lib_option value) many words values = omega (arith, many, simp length-append at (values lib_option))
 no_more seen (Separate steps_option value) many words values = omega (arith, many, simp length-append at (values steps_option))
+no_more seen (Separate number_option value) many words values = omega (arith, many, simp length-append at (values number_option))
+no_more seen (Separate size_option value) many words values = omega (arith, many, simp length-append at (values size_option))
 no_more seen (Joined lib_option value) many words values = omega (arith, many, simp length-append at (values lib_option))
 no_more seen (Joined steps_option value) many words values = omega (arith, many, simp length-append at (values steps_option))
+no_more seen (Joined number_option value) many words values = omega (arith, many, simp length-append at (values number_option))
+no_more seen (Joined size_option value) many words values = omega (arith, many, simp length-append at (values size_option))
 
 -- the word is the value of the option that awaits one
 pub value_ends : (awaited : Option OptionName) (option : OptionName) (word : Word) → awaited ≡ Some option

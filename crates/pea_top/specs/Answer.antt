@@ -12,7 +12,7 @@ use Rattle.host_tree.specs.declared.call.HostCall.TheVariants as calls
 use Rattle.machine_values.specs.declared.action.Action.{Action}
 use Rattle.script_text.specs.Scripts.{IsFirstOutside, IsScript, lines_of}
 use Rattle.verify_folder.specs.Verifying.{Failure}
-use Rattle.pea_top.specs.Words.{Word, Task, Run, Both, Command, OnFolder, Listing, Spells, IsUsage}
+use Rattle.pea_top.specs.Words.{Word, Task, Run, Both, Command, OnFolder, Listing, Generated, Spells, IsUsage}
 use Rattle.pea_top.specs.Folders.{IsBytesBefore, names_class_file, HasClassFiles}
 use Rattle.pea_top.specs.Linking.{IsLinkProblem}
 use Rattle.pea_top.specs.Status.{Ending, completed, refused, failed, out_of_memory, ending}
@@ -200,6 +200,12 @@ IsFileAnswer folder name (Version told major minor) =
 IsFileAnswer folder name (Absent told) = IsAbsentThere folder name told
 IsFileAnswer folder name status = ⊥
 
+-- ---- what is answered of generated work
+
+-- it reads no file, and can always be made
+abbrev pub IsGeneratedAnswer : Status → Type 0
+IsGeneratedAnswer status = status ≡ Done
+
 -- ---- the answer
 
 -- that of a command
@@ -207,6 +213,7 @@ abbrev pub IsCommandAnswer : Command → Files → Status → Type 0
 IsCommandAnswer (OnFolder input library task) files status =
     IsTaskAnswer input library task files status
 IsCommandAnswer (Listing input name) files status = IsFileAnswer (files input) name status
+IsCommandAnswer (Generated number size) files status = IsGeneratedAnswer status
 
 -- the words spell a command with this answer
 pub record HasAnswer (words : List Word) (files : Files) (status : Status) : Type 0 where

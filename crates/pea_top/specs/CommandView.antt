@@ -1,7 +1,7 @@
 -- The program's command as the grammar sees it.
 use Rattle.pea_top.specs.Words as grammar
 use Rattle.pea_top.specs.declared.words.Command.{Command}
-use Rattle.pea_top.specs.declared.words.Command.TheVariants.{OnFolder, Listing}
+use Rattle.pea_top.specs.declared.words.Command.TheVariants.{OnFolder, Listing, Generated}
 use Rattle.pea_top.specs.declared.words.Task.{Task}
 use Rattle.pea_top.specs.declared.words.Task.TheVariants.{Optimise, Verify, Plan, Run, Both}
 
@@ -16,3 +16,4 @@ abbrev pub command_view : Command → grammar.Command
 command_view (OnFolder input library task) =
     grammar.OnFolder input.now library.now (task_view task)
 command_view (Listing input name) = grammar.Listing input.now name.now
+command_view (Generated number size) = grammar.Generated number size

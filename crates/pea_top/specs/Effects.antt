@@ -17,10 +17,11 @@ use Rattle.member_link.specs.Machine.Runs.{shown_after}
 use Rattle.machine_values.specs.declared.event.End.TheVariants as ends
 use Rattle.machine_values.specs.declared.event.Shown.{Shown}
 use Rattle.script_text.specs.Events.{events_text}
-use Rattle.pea_top.specs.Words.{Word, Task, Optimise, Verify, Plan, Run, Both, Command, OnFolder, Listing, Spells}
+use Rattle.pea_top.specs.Words.{Word, Task, Optimise, Verify, Plan, Run, Both, Command, OnFolder, Listing, Generated, Spells}
 use Rattle.pea_top.specs.Folders.{IsBytesBefore, AreNames, AreReadAs, HasClassFiles}
 use Rattle.pea_top.specs.Lines.{verified_line}
 use Rattle.pea_top.specs.Both.{AreBothShown, both_text}
+use Rattle.pea_top.specs.Generating.{IsGeneratedText}
 use Rattle.pea_top.specs.Optimising.{AreOptimised, IsOptimisedLine, IsPlanText, PutsOptimised}
 use Rattle.pea_top.specs.Status.{Ending, completed, refused, failed, out_of_memory, line_of, refusal_line}
 use Rattle.pea_top.specs.Answer.{CanDo, IsAnswer, IsScriptThere}
@@ -141,6 +142,7 @@ pub record IsListingText (folder : Folder) (name text : Bytes) : Type 0 where
 abbrev pub IsDoneText : Command → Files → Bytes → Type 0
 IsDoneText (OnFolder input library task) files text = IsFolderText input library task files text
 IsDoneText (Listing input name) files text = IsListingText (files input) name text
+IsDoneText (Generated number size) files text = IsGeneratedText number size text
 
 -- what is printed of the command that the words spell
 pub record IsSummary (words : List Word) (files : Files) (line : Bytes) : Type 0 where
@@ -208,6 +210,7 @@ WritesTask task = ⊥
 abbrev pub IsWriting : Command → Type 0
 IsWriting (OnFolder input library task) = WritesTask task
 IsWriting (Listing input name) = ⊥
+IsWriting (Generated number size) = ⊥
 
 -- the words spell no command that writes
 abbrev pub SpellNoWrite : List Word → Type 0
@@ -217,6 +220,7 @@ SpellNoWrite words = (command : Command) → Spells command words → ¬ IsWriti
 abbrev pub IsOnFolder : Command → Type 0
 IsOnFolder (OnFolder input library task) = Unit {0}
 IsOnFolder (Listing input name) = ⊥
+IsOnFolder (Generated number size) = ⊥
 
 -- the words spell no command that reads folders
 abbrev pub SpellNoFolder : List Word → Type 0

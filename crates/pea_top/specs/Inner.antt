@@ -5,6 +5,7 @@ pub mod ReadingSteps
 pub mod ReadFiles
 pub mod Optimising
 pub mod Both
+pub mod Generating
 pub mod Scripts
 pub mod Listing
 pub mod Linking

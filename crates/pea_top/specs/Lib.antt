@@ -7,6 +7,7 @@ pub mod Verifying
 pub mod Answer
 pub mod Optimising
 pub mod Both
+pub mod Generating
 pub mod Effects
 pub mod Meaning
 pub mod CommandView

@@ -2,9 +2,9 @@
 use Rattle.std.specs.Prelude.{◌≡◌, ◌↔◌, Option, Some, None, List, [], ◌∷◌, ◌++◌, length}
 use Rattle.std.specs.Borrow.{Bor}
 use Rattle.std.specs.List.{flat_map, AllByRecursion}
-use Rattle.pea_top.specs.Words.{Word, Command, CommandOption, lib_option, steps_option, option_name, Part, Positional, Separate, Joined, words_of, IsPart, positionals, values_of, name_of, positionals_of, HasValues, IsApart}
+use Rattle.pea_top.specs.Words.{Word, Command, CommandOption, lib_option, steps_option, number_option, size_option, option_name, Part, Positional, Separate, Joined, words_of, IsPart, positionals, values_of, name_of, positionals_of, HasValues, IsApart}
 use Rattle.pea_top.specs.declared.words.OptionName.{OptionName}
-use Rattle.pea_top.specs.declared.words.OptionName.TheVariants.{Lib, Steps}
+use Rattle.pea_top.specs.declared.words.OptionName.TheVariants.{Lib, Steps, Number, Size}
 use Rattle.pea_top.specs.declared.words.Positionals.{Positionals}
 use Rattle.pea_top.specs.declared.words.Positionals.TheVariants.{Zero, One, Two}
 use Rattle.pea_top.specs.declared.words.Arguments.{Arguments}
@@ -14,6 +14,8 @@ use Rattle.pea_top.specs.declared.words.Seen.{Seen}
 abbrev pub option_view : OptionName → CommandOption
 option_view Lib = lib_option
 option_view Steps = steps_option
+option_view Number = number_option
+option_view Size = size_option
 
 -- the positional words seen, in order
 abbrev pub positional_words : Positionals → List Word
@@ -30,6 +32,8 @@ value_words (Some value) = value.now ∷ []
 abbrev pub values_seen : Arguments → CommandOption → List Word
 values_seen seen lib_option = value_words seen.library
 values_seen seen steps_option = value_words seen.steps
+values_seen seen number_option = value_words seen.number
+values_seen seen size_option = value_words seen.size
 
 -- the option whose value is the next word
 abbrev pub awaiting : Option OptionName → List Word

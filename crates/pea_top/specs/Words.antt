@@ -16,11 +16,12 @@ pub data Task : Type 0 where
   Run : (script : Word) (steps : ℕ) → Task
   Both : (script : Word) (steps : ℕ) → Task
 
--- What the words ask for: to do this with the folder input and the library's folder, or to list the class file of this name in the folder
--- input.
+-- What the words ask for: to do this with the folder input and the library's folder, to list the class file of this name in the folder
+-- input, or to generate work of this number and size and to run it before and after it is optimised.
 pub data Command : Type 0 where
   OnFolder : (input library : Word) (task : Task) → Command
   Listing : (input name : Word) → Command
+  Generated : (number size : ℕ) → Command
 
 abbrev pub task_name : Task → Word
 task_name (Optimise output) = codes "optimise"
@@ -32,6 +33,7 @@ task_name (Both script steps) = codes "both"
 abbrev pub name_of : Command → Word
 name_of (OnFolder input library task) = task_name task
 name_of (Listing input name) = codes "list"
+name_of (Generated number size) = codes "gen"
 
 -- the positional words of its spelling, in order: of a task those behind the input
 abbrev pub task_positionals : Task → List Word
@@ -44,6 +46,7 @@ task_positionals (Both script steps) = script ∷ []
 abbrev pub positionals_of : Command → List Word
 positionals_of (OnFolder input library task) = input ∷ task_positionals task
 positionals_of (Listing input name) = input ∷ name ∷ []
+positionals_of (Generated number size) = []
 
 -- the output differs as text from the input and from the library
 abbrev pub IsApart : Command → Type 0
@@ -55,10 +58,14 @@ IsApart command = Unit {0}
 pub data CommandOption : Type 0 where
   lib_option : CommandOption
   steps_option : CommandOption
+  number_option : CommandOption
+  size_option : CommandOption
 
 abbrev pub option_name : CommandOption → Word
 option_name lib_option = codes "--lib"
 option_name steps_option = codes "--steps"
+option_name number_option = codes "--number"
+option_name size_option = codes "--size"
 
 -- a number: 1 to 20 decimal digits
 pub record IsNumber (number : ℕ) (word : Word) : Type 0 where
@@ -93,6 +100,8 @@ TaskSteps task values = values ≡ []
 abbrev pub HasValues : Command → CommandOption → List Word → Type 0
 HasValues (OnFolder input library task) lib_option values = values ≡ library ∷ []
 HasValues (OnFolder input library task) steps_option values = TaskSteps task values
+HasValues (Generated number size) number_option values = HasNumber 0 2147483647 number values
+HasValues (Generated number size) size_option values = HasNumber 1 1000 size values
 HasValues command option values = values ≡ []
 
 -- ---- parts
@@ -130,6 +139,8 @@ positionals (Joined option value ∷ parts) = positionals parts
 abbrev pub with_value : CommandOption → CommandOption → Word → List Word → List Word
 with_value lib_option lib_option value values = value ∷ values
 with_value steps_option steps_option value values = value ∷ values
+with_value number_option number_option value values = value ∷ values
+with_value size_option size_option value values = value ∷ values
 with_value asked option value values = values
 
 -- the values of an option, in order

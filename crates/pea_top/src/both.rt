@@ -16,7 +16,9 @@ use class_model::{Header, NoMemory};
 use class_rewrite::{Optimised, Report, optimise_folder};
 use class_tree::{ClassFileList, HeaderList, LinkFault, Tree, a_folder_is_told_once, build_tree};
 use explain::explain_end;
-use machine_laws::{a_run_goes_on_where_it_stopped, a_run_that_is_over_stays};
+use machine_laws::{
+    a_run_goes_on_where_it_stopped, a_run_that_is_over_stays, turns_keep_what_was_shown,
+};
 use machine_run::a_tree_has_a_program;
 use machine_values::{ActionList, Shown};
 use never_stuck::run_verified;
@@ -47,6 +49,7 @@ pub(crate) fn runs_of(
 {
     a_run_that_is_over_stays();
     a_run_goes_on_where_it_stopped();
+    turns_keep_what_was_shown();
     let Optimised { classes, report } = optimise_folder(alloc, tree, typed)?;
     let before = run_verified(alloc, tree, typed, actions, steps)?;
     let after = run_written(alloc, tree, classes, actions, steps)?;
@@ -103,8 +106,8 @@ fn copied_headers(alloc: Global, headers: &[Header]) -> Result<HeaderList, NoMem
     Ok(copied)
 }
 
-// The frames of a folder that verifies.
-fn frames_of(alloc: Global, tree: &Tree) -> Result<TypedFolder, NoMemory>
+/// The frames of a folder that verifies.
+pub(crate) fn frames_of(alloc: Global, tree: &Tree) -> Result<TypedFolder, NoMemory>
     requires { IsVerified tree.now }
     ensures { IfOk result (λ typed. TypesFolder tree.now typed) }
 {

@@ -4,6 +4,7 @@
 mod both;
 mod explaining;
 mod folder;
+mod generating;
 mod laws;
 mod lines;
 mod linking;

@@ -1,5 +1,7 @@
 //! What is written of an optimised folder, and what is printed of it.
-ghost use Rattle.std.specs.Prelude.{◌≡◌, IfOk};
+ghost use Rattle.std.specs.Prelude.{◌≡◌, IfOk, length};
+ghost use Rattle.std.specs.List.{AllByRecursion};
+ghost use Rattle.class_bytes.specs.Counts.{FitsCounts};
 ghost use Rattle.member_link.specs.Linked.{IsLinked};
 ghost use Rattle.pea_top.specs.Inner.Optimising.{AreWrittenFiles, IsOutput, IsReported, IsWrittenFile, StandsWritten};
 ghost use Rattle.pea_top.specs.Inner.ReadFiles.{AreFilesOf};
@@ -65,7 +67,8 @@ fn written_files(
     names: &[Text],
 ) -> Result<Vec<NamedFile>, NoMemory>
     requires files { AreFilesOf files.items tree.now names.now }
-    requires kept { written.now ≡ tree.now.folder }
+    requires count { length written.now ≡ length tree.now.folder }
+    requires fits { AllByRecursion FitsCounts written.now }
     ensures { IfOk result (λ outs. AreWrittenFiles tree.now written.now files.items outs.items) }
 {
     a_tree_is_a_hierarchy(tree);

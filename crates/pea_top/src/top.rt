@@ -1,16 +1,17 @@
 //! The top call.
-ghost use Rattle.std.specs.Prelude.{◌≡◌, ◌≢◌, ◌⊎◌, List, map, string_bytes, IsTrue, IsErrOf};
+ghost use Rattle.std.specs.Prelude.{◌≡◌, ◌≢◌, ◌≤◌, ◌⊎◌, List, map, string_bytes, IsTrue, IsErrOf};
 ghost use Rattle.std.specs.List.{AllByRecursion};
 ghost use Rattle.class_tree.specs.Headers.{IsClassFile, IsLibraryClass};
 ghost use Rattle.host_tree.specs.declared.call.HostCall.{HostCall};
 ghost use Rattle.host_tree.specs.Host.{Bytes, Files};
 ghost use Rattle.host_tree.specs.Counts.{NeverFalls, Rose, CountsOnly};
 ghost use Rattle.member_link.specs.Linked.{IsLinked};
-ghost use Rattle.pea_top.specs.Words.{Word, Task as grammar_task, Optimise, OnFolder, Listing, Spells, IsUsage};
+ghost use Rattle.pea_top.specs.Words.{Word, Task as grammar_task, Optimise, OnFolder, Listing, Generated, Spells, IsUsage};
 ghost use Rattle.pea_top.specs.Meaning.{MeansTheSame, under_names};
 ghost use Rattle.pea_top.specs.CommandView.{command_view, task_view};
 ghost use Rattle.pea_top.specs.Status.{ending};
 ghost use Rattle.pea_top.specs.Inner.Ended.{ended};
+ghost use Rattle.pea_top.specs.Inner.Generating.{IsBounded};
 ghost use Rattle.pea_top.specs.Answer.{CanDo, HasCause, IsAnswer};
 ghost use Rattle.pea_top.specs.Effects.{IsWriting, WritesTask, IsOnFolder, SpellNoWrite, SpellNoFolder, Leaves};
 ghost use Rattle.pea_top.specs.Inner.ReadFiles.{AreClassesOf, AreFilesFor, HasNames};
@@ -21,6 +22,7 @@ use crate::explaining::{
     explain_words, note_input,
 };
 use crate::folder::NamedFile;
+use crate::generating::generated_text;
 use crate::laws::{words_and_files_have_one_answer, words_spell_one_command};
 use crate::lines::refusal;
 use crate::linking::{link, link_status};
@@ -31,8 +33,8 @@ use crate::status::Status;
 use crate::verifying::{verify_for, verify_status};
 use crate::words::{Command, Task, command_of};
 use crate::work::{Work, carry_out, finish, work_of};
-use class_model::bytes_are_one_class_file;
-use class_tree::Tree;
+use class_model::{NoMemory, bytes_are_one_class_file};
+use class_tree::{Tree, classes_of_a_tree_are_a_hierarchy};
 use explain::Outlines;
 use host_tree::{Host, HostFail};
 use std::alloc::Global;
@@ -46,7 +48,9 @@ use std::alloc::Global;
 /// decides the same and that the file SCRIPT is a script, runs the folder IN by it, in at most as many steps as `--steps N`
 /// says or else 1,000,000, writes no file, and prints the events of the run and its end. `both` takes the same words, and prints
 /// `before`, this run, `after`, and the run of the folder that `optimise` would write, which is made in memory. `list IN NAME` reads the
-/// file NAME of the folder IN alone, whatever its name ends with, and prints its listing.
+/// file NAME of the folder IN alone, whatever its name ends with, and prints its listing. `gen --number S --size N` reads no file: it makes
+/// a folder with N methods and a script that calls them, drawn from the number S, verifies it with a library of its own, optimises it, runs it
+/// before and after, in 1,000,000 steps each, and prints one line, which says whether both runs show the same.
 ///
 /// # Errors
 /// `Done` and each refusal come exactly where their clauses say, unless memory runs out or a call of the host fails. A fault of the
@@ -111,6 +115,7 @@ pub fn pea<H: Host>(alloc: Global, words: &[String], host: &mut H) -> Status
     words_and_files_have_one_answer();
     words_spell_one_command();
     bytes_are_one_class_file();
+    classes_of_a_tree_are_a_hierarchy();
     match run(alloc, words, host) {
         Ok(()) => Status::Done,
         Err(stop) => refuse(alloc, host, stop),
@@ -150,6 +155,7 @@ fn run<H: Host>(alloc: Global, words: &[String], host: &mut H) -> Result<(), Sta
 
 /// Does what a command asks for, up to where it stops.
 fn perform<H: Host>(alloc: Global, command: Command<'_>, host: &mut H) -> Result<(), Status>
+    requires { IsBounded (command_view command) }
     ensures not_usage { ¬ IsErrOf result Status.Usage }
     ensures fault { (call : HostCall)
         → IsErrOf result (Status.HostFault call)
@@ -176,6 +182,7 @@ fn perform<H: Host>(alloc: Global, command: Command<'_>, host: &mut H) -> Result
             task,
         } => read_folder(alloc, host, input, library, task),
         Command::Listing { input, name } => list(alloc, host, input, name),
+        Command::Generated { number, size } => generated(alloc, host, number, size),
     }
 }
 
@@ -204,6 +211,31 @@ fn list<H: Host>(alloc: Global, host: &mut H, input: &str, name: &str) -> Result
             explain_listing(alloc, host, input, &stop);
             Err(list_status(stop))
         }
+    }
+}
+
+/// Generates work, optimises it, runs it before and after, and prints its line.
+fn generated<H: Host>(alloc: Global, host: &mut H, number: u32, size: u32) -> Result<(), Status>
+    requires number { number ≤ 2147483647 }
+    requires size { size ≤ 1000 }
+    ensures not_usage { ¬ IsErrOf result Status.Usage }
+    ensures not_absent { (name : Bytes) → ¬ IsErrOf result (Status.Absent name) }
+    ensures fault { (call : HostCall)
+        → IsErrOf result (Status.HostFault call)
+        → Rose (H.faults host.old call) (H.faults host.new call) }
+    ensures counts { (call : HostCall)
+        → NeverFalls (H.faults host.old call) (H.faults host.new call) }
+    ensures write_count { H.faults host.new HostCall.Write ≡ H.faults host.old HostCall.Write }
+    ensures list_count { H.faults host.new HostCall.List ≡ H.faults host.old HostCall.List }
+    ensures stop { (words : List Word)
+        → Spells (Generated number size) words
+        → IsTrue H.tells
+        → IsStop words (H.file host.old) (H.file host.new) (H.printed host.old) (H.printed host.new)
+        (ended result) }
+{
+    match generated_text(alloc, number, size) {
+        Ok(text) => finish(alloc, host, text.as_slice()),
+        Err(NoMemory) => Err(Status::NoMemory),
     }
 }
 

@@ -1,6 +1,6 @@
 //! The grammar of the words.
-ghost use Rattle.std.specs.Prelude.{◌≡◌, ◌≢◌, ℕ, [], ◌++◌, ◌↔◌, codes, map, string_bytes, IfSome, IfNone};
-ghost use Rattle.pea_top.specs.Words.{Word, IsOperand, IsWithin, HasSteps, CommandOption, steps_option, option_name, Positional, Joined};
+ghost use Rattle.std.specs.Prelude.{◌≡◌, ◌≢◌, ◌⊎◌, ℕ, true, false, [], ◌++◌, ◌↔◌, codes, map, string_bytes, IfSome, IfNone};
+ghost use Rattle.pea_top.specs.Words.{Word, IsOperand, IsWithin, HasSteps, CommandOption, steps_option, number_option, size_option, option_name, Positional, Joined};
 ghost use Rattle.pea_top.specs.Words.{name_of, Spells, IsUsage};
 ghost use Rattle.pea_top.specs.Words.{Command as grammar_command};
 ghost use Rattle.pea_top.specs.CommandView.{command_view};
@@ -17,8 +17,8 @@ pub(crate) enum Task<'a> {
     Both { script: &'a str, steps: u64 },
 }
 
-/// What the words ask for: to do this with the folder `input` and the folder of the library, or to list the class file of this name in
-/// the folder `input`.
+/// What the words ask for: to do this with the folder `input` and the folder of the library, to list the class file of this name in
+/// the folder `input`, or to generate work of this number and size and to run it before and after it is optimised.
 #[derive(Clone, Copy)]
 pub(crate) enum Command<'a> {
     OnFolder {
@@ -30,6 +30,10 @@ pub(crate) enum Command<'a> {
         input: &'a str,
         name: &'a str,
     },
+    Generated {
+        number: u32,
+        size: u32,
+    },
 }
 
 /// The steps of a run where --steps is absent.
@@ -38,6 +42,12 @@ const DEFAULT_STEPS: u64 = 1_000_000;
 /// The most steps that --steps may give.
 const MOST_STEPS: u64 = 10_000_000;
 
+/// The greatest number that --number may give.
+const MOST_NUMBER: u64 = 2_147_483_647;
+
+/// The most methods that --size may give.
+const MOST_SIZE: u64 = 1000;
+
 /// An option of a command.
 #[derive(Clone, Copy)]
 enum OptionName {
@@ -45,6 +55,10 @@ enum OptionName {
     Lib,
     /// `--steps`, the most steps of a run.
     Steps,
+    /// `--number`, from which generated work is drawn.
+    Number,
+    /// `--size`, how many methods are generated.
+    Size,
 }
 
 /// The positional words seen so far.
@@ -61,6 +75,8 @@ struct Arguments<'a> {
     positional: Positionals<'a>,
     library: Option<&'a str>,
     steps: Option<&'a str>,
+    number: Option<&'a str>,
+    size: Option<&'a str>,
 }
 
 /// What the words seen so far say of a command.
@@ -86,6 +102,7 @@ pub(crate) fn command_of(words: &[String]) -> Option<Command<'_>>
         "run" => arguments.run(),
         "both" => arguments.both(),
         "list" => arguments.list(),
+        "gen" => arguments.generated(),
         _ => None,
     }
 }
@@ -118,6 +135,8 @@ fn seen_in(words: &[String]) -> Option<Seen<'_>>
             positional: Positionals::Zero,
             library: None,
             steps: None,
+            number: None,
+            size: None,
         },
         awaited: None,
     };
@@ -204,6 +223,14 @@ impl<'a> Arguments<'a> {
                 steps: Some(value),
                 ..self
             }),
+            OptionName::Number if self.number.is_none() => Some(Arguments {
+                number: Some(value),
+                ..self
+            }),
+            OptionName::Size if self.size.is_none() => Some(Arguments {
+                size: Some(value),
+                ..self
+            }),
             _ => None,
         }
     }
@@ -215,6 +242,9 @@ impl<'a> Arguments<'a> {
         ensures some { IfSome result (λ command. Makes self.entry (command_view command)) }
         ensures none { IfNone result (MakesNone self.entry (codes "optimise")) }
     {
+        if self.is_of_generated() {
+            return None;
+        }
         let Positionals::Two(input, output) = self.positional else {
             return None;
         };
@@ -236,6 +266,9 @@ impl<'a> Arguments<'a> {
         ensures some { IfSome result (λ command. Makes self.entry (command_view command)) }
         ensures none { IfNone result (MakesNone self.entry (codes "verify")) }
     {
+        if self.is_of_generated() {
+            return None;
+        }
         let Positionals::One(input) = self.positional else {
             return None;
         };
@@ -257,6 +290,9 @@ impl<'a> Arguments<'a> {
         ensures some { IfSome result (λ command. Makes self.entry (command_view command)) }
         ensures none { IfNone result (MakesNone self.entry (codes "plan")) }
     {
+        if self.is_of_generated() {
+            return None;
+        }
         let Positionals::One(input) = self.positional else {
             return None;
         };
@@ -278,6 +314,9 @@ impl<'a> Arguments<'a> {
         ensures some { IfSome result (λ command. Makes self.entry (command_view command)) }
         ensures none { IfNone result (MakesNone self.entry (codes "run")) }
     {
+        if self.is_of_generated() {
+            return None;
+        }
         let Positionals::Two(input, script) = self.positional else {
             return None;
         };
@@ -297,6 +336,9 @@ impl<'a> Arguments<'a> {
         ensures some { IfSome result (λ command. Makes self.entry (command_view command)) }
         ensures none { IfNone result (MakesNone self.entry (codes "both")) }
     {
+        if self.is_of_generated() {
+            return None;
+        }
         let Positionals::Two(input, script) = self.positional else {
             return None;
         };
@@ -307,6 +349,36 @@ impl<'a> Arguments<'a> {
             input,
             library,
             task,
+        })
+    }
+
+    /// Whether an option of generated work is given.
+    fn is_of_generated(self) -> bool
+        ensures given { result ≡ true
+            → (values_seen self.entry number_option ≢ []) ⊎ (values_seen self.entry size_option ≢ []) }
+        ensures not_given { result ≡ false
+            → (values_seen self.entry number_option ≡ []) × (values_seen self.entry size_option ≡ []) }
+    {
+        self.number.is_some() || self.size.is_some()
+    }
+
+    /// The command that generates work, where these are its arguments.
+    fn generated(self) -> Option<Command<'a>>
+        ensures name { IfSome result (λ command. name_of (command_view command) ≡ codes "gen") }
+        ensures some { IfSome result (λ command. Makes self.entry (command_view command)) }
+        ensures none { IfNone result (MakesNone self.entry (codes "gen")) }
+    {
+        let Positionals::Zero = self.positional else {
+            return None;
+        };
+        if self.library.is_some() || self.steps.is_some() {
+            return None;
+        }
+        let number = number_of(self.number?, 0, MOST_NUMBER)?;
+        let size = number_of(self.size?, 1, MOST_SIZE)?;
+        Some(Command::Generated {
+            number: number as u32,
+            size: size as u32,
         })
     }
 
@@ -329,6 +401,9 @@ impl<'a> Arguments<'a> {
         ensures some { IfSome result (λ command. Makes self.entry (command_view command)) }
         ensures none { IfNone result (MakesNone self.entry (codes "list")) }
     {
+        if self.is_of_generated() {
+            return None;
+        }
         let Positionals::Two(input, name) = self.positional else {
             return None;
         };
@@ -359,6 +434,8 @@ fn option_of(name: &str) -> Option<OptionName>
     match name {
         "--lib" => Some(OptionName::Lib),
         "--steps" => Some(OptionName::Steps),
+        "--number" => Some(OptionName::Number),
+        "--size" => Some(OptionName::Size),
         _ => None,
     }
 }

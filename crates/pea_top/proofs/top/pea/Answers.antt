@@ -27,7 +27,7 @@ returns-in-Ok-clause-answered g c = λ answer tells is other no_list no_read.
 pub returns-in-Ok-clause-meaning : goal.returns-in-Ok-clause-meaning
 returns-in-Ok-clause-meaning g c = λ input output library tells done spelled.
     let left = (outcome_kept (map string_bytes c.args.words.now) _ _ ⊥ _ _ Done refl (c.in-Ok.ensures.stop tells)).left in
-    done_means c.bytes_are_one_class_file.ensures c.words_spell_one_command.ensures (map string_bytes c.args.words.now) input output library _ _ spelled left.0
+    done_means c.bytes_are_one_class_file.ensures c.classes_of_a_tree_are_a_hierarchy.ensures c.words_spell_one_command.ensures (map string_bytes c.args.words.now) input output library _ _ spelled left.0
 
 pub returns-in-Err-clause-answered : goal.returns-in-Err-clause-answered
 returns-in-Err-clause-answered g c = λ answer tells is other no_list no_read.
@@ -47,4 +47,4 @@ returns-in-Err-clause-meaning g c = λ input output library tells is spelled.
     let outcome = c.refuse.ensures.outcome (map string_bytes c.args.words.now) (g.H.Host.file c.args.host.now) (g.H.Host.printed c.args.host.now) tells (c.in-Err.ensures.stop tells) in
     let words = map string_bytes c.args.words.now in
     let left = subst (λ (status : Status). LeavesDoneAt words (g.H.Host.file c.args.host.now) (g.H.Host.file c.refuse.new.host) (ending status)) is (left_done words _ _ _ _ _ (ending c.refuse.result) outcome.left) in
-    done_means c.bytes_are_one_class_file.ensures c.words_spell_one_command.ensures words input output library _ _ spelled left
+    done_means c.bytes_are_one_class_file.ensures c.classes_of_a_tree_are_a_hierarchy.ensures c.words_spell_one_command.ensures words input output library _ _ spelled left

@@ -1,6 +1,7 @@
+use Rattle.std.specs.Prelude.{codes}
 use Rattle.std.proofs.Common.{sym, ◌∙◌}
-use Rattle.pea_top.specs.Words.{steps_option}
-use Rattle.pea_top.proofs.WordGrammar.{makes_none, no_library, no_value}
+use Rattle.pea_top.specs.Words.{steps_option, number_option, size_option}
+use Rattle.pea_top.proofs.WordGrammar.{makes_none, no_library, no_value, given_none}
 use Rattle.pea_top.proofs.words.Arguments.verify.Goals as goal
 
 pub returns-in_err-library-clause-none : goal.returns-in_err-library-clause-none
@@ -8,3 +9,7 @@ returns-in_err-library-clause-none c = rw c.from_residual.ensures (makes_none c.
 
 pub returns-then-is_some-clause-none : goal.returns-then-is_some-clause-none
 returns-then-is_some-clause-none c = makes_none c.args.self _ (λ makes. no_value c.args.self.steps (sym c.is_some.ensures ∙ c.if-is_some.true) (makes.values_are steps_option))
+
+pub returns-then-is_of_generated-clause-none : goal.returns-then-is_of_generated-clause-none
+returns-then-is_of_generated-clause-none c =
+    makes_none c.args.self (codes "verify") (λ makes. given_none c.args.self (c.is_of_generated.ensures.given c.if-is_of_generated.true) (makes.values_are number_option) (makes.values_are size_option))
