@@ -42,7 +42,7 @@ awk '
         why["Expanded"] = "more than 8,000 instructions with its callees"
         why["NoSite"] = "no object that may be kept in locals"
         why["Wide"] = "too many objects, fields, locals or stack"
-        why["NoGain"] = "nothing gained, or no plan made yet"
+        why["NoGain"] = "nothing gained: each object is made on each way, or none is"
         why["Long"] = "its new code would be too long"
         why["PoolFull"] = "its constant pool would be too large"
         total = split(reasons, name, " ")

@@ -38,7 +38,7 @@ pub use ends::explain_end;
 pub use hierarchy::{Folders, explain_hierarchy};
 pub use links::explain_links;
 pub use malformed::explain_malformed;
-pub use notes::{class_counts, plan_note};
+pub use notes::class_counts;
 pub use outlines::Outlines;
 pub use scripts::{explain_absent, explain_line, explain_no_file};
 pub use side::Side;

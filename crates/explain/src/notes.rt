@@ -23,11 +23,3 @@ pub fn class_counts(
     }
     lines.finish()
 }
-
-/// Notes that no plan is made yet.
-pub fn plan_note(alloc: Global) -> Result<String, NoMemory> {
-    let mut lines = Lines::new(alloc);
-    lines.put("pea: note: no plan is made yet: NoGain is said of each method that no other reason");
-    lines.put(" holds of, and says nothing of a gain\n");
-    lines.finish()
-}

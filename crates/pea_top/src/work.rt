@@ -30,7 +30,7 @@ use crate::words::Task;
 use crate::writing::write_files;
 use class_model::{ByteList, ClassFile, NoMemory, Text};
 use class_tree::Tree;
-use explain::{explain_end, plan_note};
+use explain::explain_end;
 use host_tree::{Host, HostCall, HostFail};
 use machine_run::a_tree_has_a_program;
 use machine_values::ActionList;
@@ -167,7 +167,7 @@ pub(crate) fn carry_out<H: Host>(
         Work::Plan => {
             let typed = kept(typed);
             match plan_text(alloc, tree, typed) {
-                Ok(text) => finish_noted(alloc, host, plan_note(alloc), text.as_slice()),
+                Ok(text) => finish(alloc, host, text.as_slice()),
                 Err(NoMemory) => Err(Status::NoMemory),
             }
         }

@@ -18,8 +18,8 @@ returns-in-Ok-clause-stop g c = λ input library task words spelled tells ready.
 pub returns-in-Ok-plan_text-clause-stop : goal.returns-in-Ok-plan_text-clause-stop
 returns-in-Ok-plan_text-clause-stop g c = λ input library task words spelled tells ready.
     let types = frames_type c.args.tree.now c.args.work.now _ c.kept-typed-in-Plan.result.now c.requires.kept (subst NeedsFrames (sym c.in-Plan.is) tt) c.kept-typed-in-Plan.ensures in
-    let left = rw c.as_slice-in-Ok-plan_text.ensures.value at (c.finish_noted.ensures.left tells) in
-    stop_carried words _ _ _ _ input library task spelled _ (rw c.in-Plan.is at ready) (ended c.finish_noted.result) (c.kept-typed-in-Plan.result.now, types, c.in-Ok-plan_text.text.items, c.in-Ok-plan_text.ensures, left)
+    let left = rw c.as_slice-in-Ok-plan_text.ensures.value at (c.finish-in-Ok-plan_text.ensures.left tells) in
+    stop_carried words _ _ _ _ input library task spelled _ (rw c.in-Plan.is at ready) (ended c.finish-in-Ok-plan_text.result) (c.kept-typed-in-Plan.result.now, types, c.in-Ok-plan_text.text.items, c.in-Ok-plan_text.ensures, left)
 
 pub returns-in-Ok-both_text-clause-stop : goal.returns-in-Ok-both_text-clause-stop
 returns-in-Ok-both_text-clause-stop g c = λ input library task words spelled tells ready.
