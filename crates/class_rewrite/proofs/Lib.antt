@@ -31,3 +31,6 @@ pub mod SameHandles
 pub mod WrittenSettings
 mod NamedItems
 mod SpelledWalk
+mod SoundNeeds
+mod PlacedFits
+mod SoundItems

@@ -1,3 +1,4 @@
 pub mod Reporting
 pub mod ReadyFolders
 pub mod SpelledFrames
+pub mod SoundStates

@@ -1,7 +1,9 @@
 //! What the frames of written code name.
 ghost use Rattle.std.specs.Prelude.{ℕ, List, Option};
 ghost use Rattle.class_model.specs.declared.frame.Frame.{Frame};
+ghost use Rattle.class_rewrite.specs.Inner.SoundStates.{AreFramedItems, AreSoundStates};
 ghost use Rattle.class_rewrite.specs.Inner.SpelledFrames.{AreSpelledFrames};
+ghost use Rattle.code_layout.specs.declared.emitted.EmitItem.{EmitItem};
 ghost use Rattle.expanded_runs.specs.NamedFrames.{HasFramedNames};
 ghost use Rattle.plan_flow.specs.Written.FramedCode.{IsFramed};
 ghost use Rattle.written_types.specs.Setting.{Setting};
@@ -20,4 +22,17 @@ pub fn frames_of_written_code_have_spelled_names()
     written_types::frames_type_written_code();
     written_types::stated_frames_have_framed_names();
     written_types::written_field_constructors_have_no_result();
+}
+
+/// What items that are written push has names that are texts, and the frames that they state are whole, name what is there, have sound constants, and
+/// can be written where the items are laid out.
+pub fn frames_of_written_items_are_sound()
+    ensures { (w : Writing) (items : List EmitItem) (state : ℕ → Option Frame) (frames : List Frame)
+        → AreFramedItems w items state frames
+        → AreSoundStates w items state frames }
+{
+    frames_of_written_code_have_spelled_names();
+    written_types::stated_frames_are_whole();
+    written_types::stated_frames_have_framed_names();
+    code_bytes::instructions_are_consecutive();
 }

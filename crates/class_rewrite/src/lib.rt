@@ -10,7 +10,9 @@ mod report;
 mod verified_laws;
 
 pub use folder::{Optimised, optimise_folder};
-pub use frame_facts::frames_of_written_code_have_spelled_names;
+pub use frame_facts::{
+    frames_of_written_code_have_spelled_names, frames_of_written_items_are_sound,
+};
 pub use laws::{
     a_method_has_one_reason, a_written_folder_runs_as_its_folder, a_written_folder_runs_the_same,
     an_expanded_flat_code_of_a_verified_folder_is_typed,
