@@ -1,5 +1,6 @@
 -- The classes of a written folder, each beside the class of the folder that it is written of.
 use Rattle.std.proofs.Common.{◌≡◌, ◌+◌, ℕ, zero, suc, List, [], ◌∷◌, slice_get, Some, refl, subst, arith}
+use Rattle.std.proofs.lemmas.Option.{none-some, same_Some}
 use Rattle.class_model.specs.declared.class_file.ClassFile.{ClassFile}
 use Rattle.class_rewrite.specs.Rewriting.Folders.{AreClassesWritten, IsClassWritten, IsFolderWritten}
 use Rattle.class_rewrite.specs.Rewriting.Methods.{Rewriting}
@@ -49,3 +50,27 @@ module _ (r : Rewriting) (files : List ClassFile) (w : IsFolderWritten r files) 
 
   pub all_pairs : ArePairs r files w zero r.classes.folder files
   all_pairs = pairs_from zero r.classes.folder files w.classes (stands r.classes.folder) (stands files)
+
+  -- a class of the folder has its class beside it
+  pair_in : (number : ℕ) (olds news : List ClassFile) → ArePairs r files w number olds news
+      → (n : ℕ) (file : ClassFile)
+      → slice_get olds n ≡ Some file
+      → (also : ClassFile) × IsPair r files w (number + n) file also
+  pair_in number [] news all n file is = absurd (none-some file is)
+  pair_in number (old ∷ olds) [] all n file is = absurd all
+  pair_in number (old ∷ olds) (also ∷ news) all zero file is =
+      let here : number ≡ number + zero = omega arith in (
+        also,
+        subst (λ (n : ℕ). IsPair r files w n file also) here
+            (subst (λ (one : ClassFile). IsPair r files w number one also) (same_Some old file is) all.0),
+      )
+  pair_in number (old ∷ olds) (also ∷ news) all (suc n) file is =
+      let rest = pair_in (suc number) olds news all.1 n file is in
+      let here : suc number + n ≡ number + suc n = omega arith in
+      (rest.0, subst (λ (m : ℕ). IsPair r files w m file rest.0) here rest.1)
+
+  pub pair_at : (class : ℕ) (file : ClassFile) → slice_get r.classes.folder class ≡ Some file → (also : ClassFile) × IsPair r files w class file also
+  pair_at class file is =
+      let found = pair_in zero r.classes.folder files all_pairs class file is in
+      let here : zero + class ≡ class = omega arith in
+      (found.0, subst (λ (n : ℕ). IsPair r files w n file found.0) here found.1)

@@ -34,3 +34,7 @@ mod SpelledWalk
 mod SoundNeeds
 mod PlacedFits
 mod SoundItems
+pub mod LastItems
+pub mod EmittedItems
+pub mod LinkedParts
+pub mod SoundFolders

@@ -8,13 +8,14 @@ use Rattle.class_model.specs.declared.class_file.ClassFile.{ClassFile}
 use Rattle.class_model.specs.declared.class_file.Method.{Method}
 use Rattle.class_model.specs.declared.frame.Frame.{Frame}
 use Rattle.class_rewrite.proofs.FolderPairs.{ArePairs, IsPair, all_pairs}
-use Rattle.class_rewrite.proofs.TypedRewriting.{TypingLaws, method_typed}
-use Rattle.class_rewrite.proofs.WrittenScopes.{added_scope, hosted, now_scope, numbered}
+use Rattle.class_rewrite.proofs.TypedRewriting.{TypingLaws, found, method_typed}
+use Rattle.class_rewrite.proofs.WrittenScopes.{added_scope, now_scope, numbered}
 use Rattle.class_rewrite.specs.Inner.ReadyFolders.{IsReadyFolder}
 use Rattle.class_rewrite.specs.Optimised.{with_folder}
 use Rattle.class_rewrite.specs.Rewriting.Folders.{AddsMethods, AreMethodsWritten, IsFolderWritten, IsMade, IsMethodWritten, IsPoolBefore, adds_none, adds_one, is_kept, is_rewritten}
 use Rattle.class_rewrite.specs.Rewriting.Methods.{Rewriting}
 use Rattle.class_rewrite.specs.Rewriting.Verifying.{IsFolderSound, IsOfVerified, laid_of}
+use Rattle.class_rewrite.specs.Rewriting.WellWritten.{IsWellWritten}
 use Rattle.class_tree.specs.Headers.{Headers, IsClassFile, Name, headers_of}
 use Rattle.flow_code.specs.TypedFrames.{FolderFrames}
 use Rattle.making_code.specs.Constants.{grow}
@@ -52,7 +53,7 @@ both_typed headers class (method ∷ ones) others (one ∷ frames) more all rest
     (all.0, both_typed headers class ones others frames more all.1 rest)
 
 module _ (laws : KeptLaws) (r : Rewriting) (files : List ClassFile) (w : IsFolderWritten r files) (verified : IsOfVerified r)
-    (ready : IsReadyFolder r files w) (sound : IsFolderSound r files w) where
+    (ready : IsReadyFolder r files w) (well : IsWellWritten r files w) (sound : IsFolderSound r files w) where
   abbrev before : Headers
   before = headers_of r.classes
 
@@ -78,12 +79,12 @@ module _ (laws : KeptLaws) (r : Rewriting) (files : List ClassFile) (w : IsFolde
     method_has number method _ frames got (is_kept has kept) typed =
         (frames, laws.typed before after file also number method frames ready.headers is_file (ready.grown class file also pair.there pair.is) got typed)
     method_has number method _ frames got (is_rewritten {w = v} is_at) typed =
-        let found = hosted r files w class file also pair number method v got is_at in
-        let host : Scope = record { headers = before; class = file; method = method; part = found.part } in
+        let here = found r files w verified ready class file also pair number method got v is_at in
+        let host : Scope = record { headers = before; class = file; method = method; part = here.part } in
         let now = now_scope r files w class file also pair method v.part in
-        has_typing now.method now (frames_by_offset (laid_of host v is_at.is.framed.state)) found.scope
-        (method_typed r files w verified ready class file also pair number method got v is_at laws.typing
-        (sound.methods (numbered r files w class file also pair number) v host now found.is))
+        has_typing now.method now (frames_by_offset (laid_of host v is_at.is.framed.state)) here.scope
+        (method_typed r files w verified ready class file also pair number method got v is_at laws.typing (well.emitted (numbered r files w class file also pair number) v is_at)
+        (sound.methods (numbered r files w class file also pair number) v host now here.is))
 
     abbrev HaveTyping : List Method → Type 0
     HaveTyping methods = (frames : List (Option (List Frame))) × AreTypedMethods after also methods frames

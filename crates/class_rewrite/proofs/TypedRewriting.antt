@@ -1,42 +1,36 @@
 -- A method that is rewritten is typed in the class that is written of its class, by the frames of its items at their offsets.
-use Rattle.std.proofs.Common.{◌≡◌, ◌≢◌, ◌≤◌, ◌<◌, ◌+◌, ◌∙◌, ℕ, zero, suc, nat_le, Bool, true, List, [], length, slice_get, Option, Some, if◌then◌else◌, refl, sym, ap, subst, arith}
+use Rattle.std.proofs.Common.{◌≡◌, ◌≤◌, ◌<◌, ◌+◌, ◌∙◌, ℕ, zero, suc, nat_le, Bool, true, List, [], length, slice_get, Option, Some, if◌then◌else◌, refl, sym, ap, subst, arith}
 use Rattle.std.proofs.lemmas.Option.{same_Some, slice_get_within}
 use Rattle.class_model.specs.Laws.Lists.{at_index}
 use Rattle.class_model.specs.declared.class_file.ClassFile.{ClassFile}
 use Rattle.class_model.specs.declared.class_file.Method.{Method}
 use Rattle.class_model.specs.declared.class_file.MethodAt.{MethodAt}
 use Rattle.class_model.specs.declared.frame.Frame.{Frame}
-use Rattle.class_model.specs.declared.instr.Instr.{Instr}
 use Rattle.class_rewrite.proofs.FolderPairs.{IsPair}
 use Rattle.class_rewrite.proofs.ReadMajors.{states_frames}
 use Rattle.class_rewrite.proofs.StackRoom.{framed_roomy, greatest_roomy}
-use Rattle.class_rewrite.proofs.WrittenFolders.{IsRewrittenHost, rewritten_host}
+use Rattle.class_rewrite.proofs.WrittenSettings.{setting, writing}
 use Rattle.class_rewrite.proofs.WrittenScopes.{IsHosted, hosted, now_scope, numbered}
-use Rattle.class_rewrite.specs.Inner.ReadyFolders.{IsReadyFolder, IsReadyHost}
-use Rattle.class_rewrite.specs.Laws.GrownPools.{pool_begins, written_begins}
+use Rattle.class_rewrite.specs.Inner.ReadyFolders.{IsReadyFolder}
+use Rattle.class_rewrite.specs.Laws.GrownPools.{written_begins}
 use Rattle.class_rewrite.specs.Laws.WrittenGrown.{added_begins}
 use Rattle.class_rewrite.specs.Rewriting.Folders.{IsFolderWritten, IsPoolBefore, IsRewrittenAt}
 use Rattle.class_rewrite.specs.Rewriting.Methods.{Rewriting, Rewritten}
 use Rattle.class_rewrite.specs.Rewriting.Verifying.{IsMethodSound, IsOfVerified, laid_of}
 use Rattle.class_tree.specs.Headers.{IsClassFile, headers_of}
+use Rattle.code_layout.specs.Emitting.{IsEmitted}
 use Rattle.code_layout.specs.Layout.{start_in}
 use Rattle.code_layout.specs.PlainItems.{plain_items}
-use Rattle.expanded_runs.specs.CarriedConstants.{IsCarriable}
-use Rattle.flow_code.specs.FlatCode.{point_at}
-use Rattle.flow_code.specs.declared.point.FlatInstr.TheVariants.{Of}
-use Rattle.flow_code.specs.declared.point.Point.{Point}
 use Rattle.making_code.specs.Constants.{grow}
 use Rattle.making_code.specs.IndexedItems.{IndexedItem}
-use Rattle.making_code.specs.Laws.GrownPools.{Begins, begins_itself, begins_through}
+use Rattle.making_code.specs.Laws.GrownPools.{Begins, begins_through}
 use Rattle.member_link.specs.Bodies.{Body}
 use Rattle.member_link.specs.BodyTyping.{HasFrames}
 use Rattle.member_link.specs.Scope.{Scope}
-use Rattle.plan_flow.specs.PlanScope.{PlanScope, pool_of}
+use Rattle.plan_flow.specs.PlanScope.{PlanScope}
 use Rattle.plan_flow.specs.Written.FramedCode.{IsFramed, body_of_items, greatest_of}
-use Rattle.plan_flow.specs.Written.WrittenCode.{Form}
 use Rattle.plan_flow.specs.Written.WrittenConstants.{indexed_items}
 use Rattle.plan_flow.specs.Written.WrittenPrograms.{finished_of, plan_scope}
-use Rattle.same_runs.specs.ReadyCode.{IsReadyCode, IsReadyInstr, IsReadyItem}
 use Rattle.stackmap_emit.specs.FrameConstants.{table_needs}
 use Rattle.stackmap_emit.specs.FramesAttribute.{IsFramesAttribute}
 use Rattle.stackmap_emit.specs.PlacedFrames.{placed_frames, stated_from}
@@ -66,7 +60,7 @@ module _ (r : Rewriting) (files : List ClassFile) (w : IsFolderWritten r files) 
   abbrev s : PlanScope
   s = plan_scope r.classes r.links v.one
 
-  found : IsHosted r files w class file also pair number method v
+  pub found : IsHosted r files w class file also pair number method v
   found = hosted r files w class file also pair number method v got is_at
 
   abbrev host : Scope
@@ -110,54 +104,6 @@ module _ (r : Rewriting) (files : List ClassFile) (w : IsFolderWritten r files) 
             (rest.0, omega (arith, same))
 
   -- ---- its items are typed by their numbers
-
-  rewritten : IsRewrittenHost r at v.one
-  rewritten = rewritten_host r files w at v.one (w.rewritten.all at v is_at)
-
-  ready_host : IsReadyHost r at v.one
-  ready_host = ready.ready at v.one (w.rewritten.all at v is_at)
-
-  -- a writing of the method in a form, with so much room on the stack
-  abbrev writing : Form → ℕ → Writing
-  writing form room = record {
-    s = s;
-    host = host;
-    constructor = r.constructor;
-    pool = v.code_pool;
-    form = form;
-    blocks = finished_of r.classes r.links v.one;
-    max_stack = room;
-  }
-
-  carried : (place : ℕ) (point : Point) (of : ℕ) (instr : Instr) → point_at v.one.flat place ≡ Some point → point.instr ≡ Of of instr
-      → of ≢ v.one.flat.host.class
-      → IsCarriable (pool_of s of) instr
-  carried place point of instr there is other =
-      let item : IsReadyInstr r.classes v.one.flat.locals of instr =
-      subst (IsReadyItem r.classes v.one.flat.locals) is
-      (at_index (λ (one : Point). IsReadyItem r.classes v.one.flat.locals one.instr) v.one.flat.points place point ready_host.code.points there) in
-      rw (item.there) (ready.carries at v.one.flat rewritten.expanded place point of instr item.file there is item.there other)
-
-  pub setting : (form : Form) (room : ℕ) → Setting (writing form room)
-  setting form room = record {
-    plan = rewritten.plan;
-    routes = v.one.routes;
-    tree = verified.tree;
-    links = verified.links;
-    ready = subst (λ (one : Scope). IsReadyCode r.classes one v.one.flat) (same_Some ready_host.scope host (sym ready_host.is_scope ∙ found.is.is_host)) ready_host.code;
-    sites = ready_host.sites;
-    for_plans = ready_host.for_plans;
-    carried = carried;
-    valid = rewritten.valid;
-    routed = rewritten.routed;
-    blocks = refl;
-    constructors = w.constructors;
-    before = is_at.pool;
-    begins_before = pool_begins r class file number is_at.pool before_it;
-    grown = v.code_pool;
-    grows = is_at.is.coded.grows;
-    begins = begins_itself v.code_pool;
-  }
 
   abbrev state : ℕ → Option Frame
   state = is_at.is.framed.state
@@ -205,12 +151,13 @@ module _ (r : Rewriting) (files : List ClassFile) (w : IsFolderWritten r files) 
     enough = enough;
   }
 
-  module _ (laws : TypingLaws) (sound : IsMethodSound r at v host now) where
+  module _ (laws : TypingLaws) (emitted : IsEmitted v.items) (sound : IsMethodSound r at v host now) where
     typed_items : HasFrames (body (plain_items v.items) room) v.frames
     typed_items =
         let wanted : List IndexedItem = indexed_items s r.constructor v.code_pool v.one.form (finished_of r.classes r.links v.one) in
         let here : Fits wanted = subst Fits items_are fits in
-        subst IsTypedBy (sym items_are) (laws.frames (writing v.one.form room) state v.frames (setting v.one.form room) here.framed here.enough)
+        subst IsTypedBy (sym items_are) (laws.frames (writing r v host v.one.form room) state v.frames
+        (setting r files w verified ready at v is_at host found.is.is_host v.one.form room) here.framed here.enough)
 
     -- ---- the method has them laid out
 
@@ -235,7 +182,7 @@ module _ (r : Rewriting) (files : List ClassFile) (w : IsFolderWritten r files) 
 
     laid_code : HasLaidCode laid now
     laid_code = record {
-      emitted = sound.emitted;
+      emitted = emitted;
       laid = is_at.is.framed.laid;
       code = is_at.is.code;
       handlers = is_at.is.handlers;

@@ -11,6 +11,7 @@ use Rattle.class_model.specs.Pool.{Constants}
 use Rattle.class_model.specs.declared.class_file.ClassFile.{ClassFile}
 use Rattle.class_model.specs.declared.class_file.Method.{Method}
 use Rattle.class_rewrite.proofs.FolderPairs.{ArePairs, IsPair, all_pairs}
+use Rattle.class_rewrite.proofs.LinkedParts.{parts_linked}
 use Rattle.class_rewrite.proofs.WrittenScopes.{added_in, added_scope, hosted, now_scope, numbered}
 use Rattle.class_rewrite.specs.Inner.ReadyFolders.{IsReadyFolder}
 use Rattle.class_rewrite.specs.Optimised.{with_folder}
@@ -28,7 +29,7 @@ use Rattle.member_link.specs.Uses.{attr_checks, methods_use_checks, use_checks}
 use Rattle.plan_flow.specs.Laws.WrittenBlocks.{holds_of_both}
 use Rattle.type_rules.specs.Grown.{AreGrownHeaders, IsGrownClass}
 use Rattle.written_files.specs.FieldConstructors.{IsConstructorIn}
-use Rattle.written_files.specs.LinkedConstructors.{HasLinkedMembers, IsLinkedMethod}
+use Rattle.written_files.specs.LinkedConstructors.{HasLinkedMembers, IsLinkedMethod, uses_in}
 
 -- ---- laws of the crates below
 
@@ -102,8 +103,11 @@ module _ (laws : UsesLaws) (r : Rewriting) (files : List ClassFile) (w : IsFolde
         (sym (laws.site file also number method is_file grows got)) there
     method_linked number method _ got (is_rewritten {w = v} is_at) holds =
         let found = hosted r files w class file also pair number method v got is_at in
-        (sound.methods (numbered r files w class file also pair number) v (record { headers = before; class = file; method = method; part = found.part })
-        (now_scope r files w class file also pair method v.part) found.is).linked
+        let now = now_scope r files w class file also pair method v.part in
+        let method_sound =
+        sound.methods (numbered r files w class file also pair number) v
+        (record { headers = before; class = file; method = method; part = found.part }) now found.is in
+        parts_linked (uses_in now) (home_of also) now.method v.part method_sound.instrs method_sound.handlers method_sound.stated method.attrs
 
     methods_linked : (number : ℕ) (methods news : List Method) → AreMethodsWritten r class number methods news
         → ((n m : ℕ) (method : Method) → m ≡ number + n → slice_get methods n ≡ Some method → slice_get file.methods m ≡ Some method)

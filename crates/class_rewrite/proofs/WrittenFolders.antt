@@ -14,7 +14,6 @@ use Rattle.class_rewrite.specs.Inner.ReadyFolders.{IsReadyHost, flats_written}
 use Rattle.class_rewrite.specs.Rewriting.Folders.{AddsMethods, AreClassesWritten, IsClassWritten, IsFolderWritten, IsMade, adds_none, adds_one}
 use Rattle.class_rewrite.specs.Rewriting.Methods.{Rewriting}
 use Rattle.class_tree.specs.Headers.{Name}
-use Rattle.class_tree.specs.Layouts.{chain}
 use Rattle.expanded_code.specs.CandidateSites.{IsSite}
 use Rattle.expanded_code.specs.Candidates.{IsCandidate}
 use Rattle.expanded_code.specs.ExpandAnswers.{IsExpanded, IsNoHost, IsWide}
@@ -22,7 +21,6 @@ use Rattle.expanded_runs.specs.ExpandedPrograms.{AreExpanded}
 use Rattle.flow_code.specs.FlatCode.{FlatCode}
 use Rattle.flow_code.specs.ReadTypes.{class_of_site}
 use Rattle.flow_code.specs.declared.point.Site.{Site}
-use Rattle.making_code.specs.Items.{makes}
 use Rattle.member_link.specs.Machine.Programs.{RunMethod}
 use Rattle.plan_flow.specs.Plans.{IsValid, Plan}
 use Rattle.plan_flow.specs.Written.Routes.{IsRouted}

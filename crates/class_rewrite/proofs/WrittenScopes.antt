@@ -85,7 +85,7 @@ module _ (r : Rewriting) (files : List ClassFile) (w : IsFolderWritten r files) 
       → IsAddedIn r files w class file (added_scope method is)
   added_in method is made = record {
     of_folder = pair.there;
-    class = pair.now;
+    of_written = pair.now;
     written = pair.is;
     headers = refl;
     made = made;

@@ -19,4 +19,6 @@ pub use laws::{
     expanded_flat_codes_of_a_verified_folder_run_equally,
 };
 pub use report::{Line, Report, is_rewritten, reason_name, rewritten};
-pub use verified_laws::a_sound_written_folder_verifies;
+pub use verified_laws::{
+    a_sound_written_folder_keeps_its_meaning, a_sound_written_folder_verifies,
+};

@@ -1,12 +1,13 @@
-//! The written folder verifies: a function that does nothing, whose contract says so.
+//! The written folder verifies: functions that do nothing, whose contracts say so.
 ghost use Rattle.std.specs.Prelude.{List};
 ghost use Rattle.class_model.specs.declared.class_file.ClassFile.{ClassFile};
-ghost use Rattle.class_rewrite.specs.Optimised.{with_folder};
+ghost use Rattle.class_rewrite.specs.Optimised.{KeepsMeaning, with_folder};
 ghost use Rattle.class_rewrite.specs.Rewriting.Folders.{IsFolderWritten};
 ghost use Rattle.class_rewrite.specs.Rewriting.Methods.{Rewriting};
 ghost use Rattle.class_rewrite.specs.Rewriting.Verifying.{IsFolderSound, IsOfVerified};
 ghost use Rattle.type_rules.specs.Verified.{IsVerified};
 
+use crate::laws::a_written_folder_runs_as_its_folder;
 use crate::ready_laws::a_written_folder_is_ready;
 use stackmap_emit::what_types_items_types_the_laid_method;
 use type_rules::{
@@ -38,4 +39,15 @@ pub fn a_sound_written_folder_verifies()
     a_field_constructor_is_typed();
     frames_type_written_code();
     what_types_items_types_the_laid_method();
+}
+
+/// So it keeps its meaning: it verifies, and runs as the folder that was read.
+pub fn a_sound_written_folder_keeps_its_meaning()
+    ensures { (r : Rewriting) (files : List ClassFile) (w : IsFolderWritten r files)
+        → IsOfVerified r
+        → IsFolderSound r files w
+        → KeepsMeaning r.classes files }
+{
+    a_sound_written_folder_verifies();
+    a_written_folder_runs_as_its_folder();
 }

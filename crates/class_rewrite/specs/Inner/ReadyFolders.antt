@@ -82,7 +82,8 @@ pub record IsReadyFolder (r : Rewriting) (files : List ClassFile) (w : IsFolderW
   -- the program with their flat codes, and field constructors
   pub flats : Replacement
   pub setup : IsSetup (setup_of r files w flats typings)
-  pub flat_typings_are : HasFlatTypings (flats_written r files w) (setup_of r files w flats typings).typings
+  pub flat_typings_are : HasFlatTypings (flats_written r files w)
+      (setup_of r files w flats typings).typings
   pub adds : AddsToCandidates (setup_of r files w flats typings)
   pub free : (class : ℕ) (file : ClassFile) (method : RunMethod)
       → slice_get r.classes.folder class ≡ Some file
@@ -93,8 +94,10 @@ pub record IsReadyFolder (r : Rewriting) (files : List ClassFile) (w : IsFolderW
       → IsClassWritten r w.written w.s class file also
       → IsMade r w.written (header_of file).name
       → IsPoolBefore r class file (length file.methods) pool
-      → grow 65535 pool (constructor_method_needs (headers_of r.classes) r.constructor (header_of file).name) ≡ Some also.pool
-      → (is : IsConstructorMethod (headers_of r.classes) r.constructor (header_of file).name also.pool method)
+      → grow 65535 pool (constructor_method_needs (headers_of r.classes) r.constructor (header_of file).name)
+      ≡ Some also.pool
+      → (is : IsConstructorMethod (headers_of r.classes) r.constructor (header_of file).name
+      also.pool method)
       → IsConstructorIn (headers_of r.classes) r.constructor file
       (record {
         headers = headers_of (with_folder r.classes files);

@@ -1,7 +1,11 @@
 -- What the written classes of a folder that verifies are asked, so that the written folder verifies too. It is this project's profile.
 use Rattle.std.specs.Prelude.{◌≡◌, ◌<◌, ℕ, List, length, slice_get, Option, Some}
 use Rattle.std.specs.List.{AllByRecursion}
+use Rattle.class_model.specs.Checks.{AllHold, asked_each}
 use Rattle.class_model.specs.Header.{header_of}
+use Rattle.class_model.specs.Instructions.{decoded}
+use Rattle.class_model.specs.Methods.{home_of}
+use Rattle.class_model.specs.Stated.{stated_in}
 use Rattle.class_model.specs.declared.class_file.ClassFile.{ClassFile}
 use Rattle.class_model.specs.declared.class_file.MethodAt.{MethodAt}
 use Rattle.class_model.specs.declared.frame.Frame.{Frame}
@@ -16,9 +20,10 @@ use Rattle.making_code.specs.ConstructorCode.{IsConstructorMethod}
 use Rattle.member_link.specs.Linked.{IsLinked}
 use Rattle.member_link.specs.Machine.Links.{AreLinksOf}
 use Rattle.member_link.specs.Scope.{Scope, scope_at}
+use Rattle.member_link.specs.Uses.{frame_checks, handler_use_checks, instrs_checks}
 use Rattle.stackmap_emit.specs.TypedMethods.{AreWhole, LaidCode, PassAccess}
 use Rattle.type_rules.specs.Verified.{TypesFolder}
-use Rattle.written_files.specs.LinkedConstructors.{HasLinkedMembers, IsLinkedMethod}
+use Rattle.written_files.specs.LinkedConstructors.{HasLinkedMembers, uses_in}
 
 -- A rewriting of a folder that verifies, which has a class. Its codes are bytes, as those of class files that were read are.
 pub record IsOfVerified (r : Rewriting) : Type 0 where
@@ -48,7 +53,7 @@ pub record IsAddedIn (r : Rewriting) (files : List ClassFile) (w : IsFolderWritt
     (file : ClassFile) (s : Scope)
     : Type 0 where
   pub of_folder : slice_get r.classes.folder class ≡ Some file
-  pub class : slice_get files class ≡ Some s.class
+  pub of_written : slice_get files class ≡ Some s.class
   pub written : IsClassWritten r w.written w.s class file s.class
   pub headers : s.headers ≡ headers_of (with_folder r.classes files)
   pub made : IsMade r w.written (header_of file).name
@@ -69,12 +74,15 @@ laid_of host v state = record {
   frames = v.frames;
 }
 
--- What is asked of each method that is rewritten: its items are emitted code, it is linked, each item may use the protected member that it names,
--- and the frames that it states are whole.
+-- What is asked of each method that is rewritten: its items are emitted code; what its instructions and handlers refer to, and the classes that its
+-- frames name, are linked; each item may use the protected member that it names; and the frames that it states are whole.
 pub record IsMethodSound (r : Rewriting) (at : MethodAt) (v : Rewritten) (host now : Scope)
     : Type 0 where
   pub emitted : IsEmitted v.items
-  pub linked : IsLinkedMethod now
+  pub instrs : AllHold (instrs_checks (uses_in now) (decoded now.part.code))
+  pub handlers : AllHold (asked_each (handler_use_checks (uses_in now)) now.part.handlers)
+  pub stated : AllHold (asked_each (frame_checks (uses_in now))
+      (stated_in (home_of now.class) now.method now.part now.part.attrs))
   pub access : (is : IsRewrittenAt r at v) → PassAccess (laid_of host v is.is.framed.state) now
   pub whole : (is : IsRewrittenAt r at v) → AreWhole (laid_of host v is.is.framed.state)
 
@@ -82,7 +90,7 @@ pub record IsMethodSound (r : Rewriting) (at : MethodAt) (v : Rewritten) (host n
 -- there.
 pub record IsFolderSound (r : Rewriting) (files : List ClassFile) (w : IsFolderWritten r files)
     : Type 0 where
-  pub files : AllByRecursion IsClassFile files
+  pub class_files : AllByRecursion IsClassFile files
   pub methods : (at : MethodAt) (v : Rewritten) (host now : Scope)
       → IsWrittenIn r files w at v host now
       → IsMethodSound r at v host now

@@ -8,7 +8,6 @@ use Rattle.class_model.specs.declared.class_file.ClassFile.{ClassFile}
 use Rattle.class_model.specs.declared.class_file.Method.{Method}
 use Rattle.class_model.specs.declared.class_file.MethodAt.{MethodAt}
 use Rattle.class_rewrite.proofs.MadeClasses.{above, described, described_above, few, fields_are, grow_count, is_above, pool_count}
-use Rattle.class_rewrite.proofs.WholeFolders.{class_grown, headers_grown}
 use Rattle.class_rewrite.proofs.WrittenFolders.{added_is_made, are_expanded, are_flats, made_is_candidate, of_flat, ready_method, rewritten_host, sites_are_news}
 use Rattle.class_rewrite.proofs.ready_laws.a_written_folder_is_ready.Goals as goal
 use Rattle.class_rewrite.specs.Laws.MadeConstructors.{made_is_added}

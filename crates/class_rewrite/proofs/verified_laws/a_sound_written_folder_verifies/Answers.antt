@@ -5,6 +5,7 @@ use Rattle.class_model.specs.declared.class_file.ClassFile.{ClassFile}
 use Rattle.class_rewrite.proofs.DeclaredFolders.{DeclaredLaws, folder_declared}
 use Rattle.class_rewrite.proofs.GrownTrees.{grown_tree}
 use Rattle.class_rewrite.proofs.SameHandles.{handles_same, types_same}
+use Rattle.class_rewrite.proofs.SoundFolders.{sound_is_well}
 use Rattle.class_rewrite.proofs.TypedFolders.{KeptLaws, folder_typed}
 use Rattle.class_rewrite.proofs.UsedFolders.{UsesLaws, folder_used}
 use Rattle.class_rewrite.proofs.verified_laws.a_sound_written_folder_verifies.Goals as goal
@@ -59,7 +60,7 @@ module _ (c : goal.After-what_types_items_types_the_laid_method) (r : Rewriting)
   tree =
       grown_tree r.classes.library r.classes.folder files
       (c.grown_classes_are_found_alike.ensures.alike (headers_of r.classes) after ready.headers) (handles_same r files w) (types_same r files w)
-      sound.files verified.tree
+      sound.class_files verified.tree
 
   linked : IsLinked (with_folder r.classes files)
   linked =
@@ -67,7 +68,7 @@ module _ (c : goal.After-what_types_items_types_the_laid_method) (r : Rewriting)
       (folder_declared declared r files w verified ready) (folder_used uses r files w verified ready sound)
 
   typed : (frames : FolderFrames) × TypesFolder (with_folder r.classes files) frames
-  typed = folder_typed kept r files w verified ready sound
+  typed = folder_typed kept r files w verified ready (sound_is_well r files w sound) sound
 
 pub returns : goal.returns
 returns c r files w verified sound = record {
