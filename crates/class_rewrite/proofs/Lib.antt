@@ -38,3 +38,4 @@ pub mod LastItems
 pub mod EmittedItems
 pub mod LinkedParts
 pub mod SoundFolders
+mod RewrittenFrames

@@ -2,3 +2,4 @@ pub mod Reporting
 pub mod ReadyFolders
 pub mod SpelledFrames
 pub mod SoundStates
+pub mod SoundFrames

@@ -1,13 +1,22 @@
 //! What the frames of written code name.
-ghost use Rattle.std.specs.Prelude.{ℕ, List, Option};
+ghost use Rattle.std.specs.Prelude.{◌≡◌, ℕ, List, Option, Some};
+ghost use Rattle.class_model.specs.declared.class_file.ClassFile.{ClassFile};
+ghost use Rattle.class_model.specs.declared.class_file.MethodAt.{MethodAt};
 ghost use Rattle.class_model.specs.declared.frame.Frame.{Frame};
+ghost use Rattle.class_rewrite.specs.Inner.SoundFrames.{HasSoundFrames};
 ghost use Rattle.class_rewrite.specs.Inner.SoundStates.{AreFramedItems, AreSoundStates};
 ghost use Rattle.class_rewrite.specs.Inner.SpelledFrames.{AreSpelledFrames};
+ghost use Rattle.class_rewrite.specs.Rewriting.Folders.{IsFolderWritten, IsRewrittenAt};
+ghost use Rattle.class_rewrite.specs.Rewriting.Methods.{Rewriting, Rewritten};
+ghost use Rattle.class_rewrite.specs.Rewriting.Verifying.{IsOfVerified};
 ghost use Rattle.code_layout.specs.declared.emitted.EmitItem.{EmitItem};
 ghost use Rattle.expanded_runs.specs.NamedFrames.{HasFramedNames};
+ghost use Rattle.member_link.specs.Scope.{Scope, scope_at};
 ghost use Rattle.plan_flow.specs.Written.FramedCode.{IsFramed};
 ghost use Rattle.written_types.specs.Setting.{Setting};
 ghost use Rattle.written_types.specs.Writing.{Writing, body_in, items_in};
+
+use crate::ready_laws::a_written_folder_is_ready;
 
 /// The frames of written code name classes and arrays by texts that a Class constant may have, and so does what its items push, where the flat code
 /// that it is written from does.
@@ -35,4 +44,18 @@ pub fn frames_of_written_items_are_sound()
     written_types::stated_frames_are_whole();
     written_types::stated_frames_have_framed_names();
     code_bytes::instructions_are_consecutive();
+}
+
+/// The frames of each method of a folder that verifies are sound where it is rewritten: its items push types whose names are texts, and the frames that
+/// they state are whole, name what is there, have sound constants, and can be written.
+pub fn rewritten_methods_have_sound_frames()
+    ensures { (r : Rewriting) (files : List ClassFile) (w : IsFolderWritten r files) (at : MethodAt)
+        (v : Rewritten) (host : Scope) (is : IsRewrittenAt r at v)
+        → IsOfVerified r
+        → scope_at r.classes at ≡ Some host
+        → HasSoundFrames r v host is.is.framed.state }
+{
+    a_written_folder_is_ready();
+    frames_of_written_items_are_sound();
+    expanded_runs::expanded_flat_codes_have_framed_names();
 }
