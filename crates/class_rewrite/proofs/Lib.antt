@@ -39,3 +39,4 @@ pub mod EmittedItems
 pub mod LinkedParts
 pub mod SoundFolders
 mod RewrittenFrames
+mod LinkedFrames

@@ -15,8 +15,7 @@ use Rattle.class_tree.specs.Headers.{Name}
 use Rattle.code_bytes.specs.Consecutive.{AreConsecutive}
 use Rattle.code_layout.specs.Layout.{Spelled, len_of, placed_from, starts_from}
 use Rattle.code_layout.specs.declared.emitted.EmitItem.{EmitItem}
-use Rattle.making_code.specs.Constants.{Need, needs_class}
-use Rattle.map_frames.specs.Writing.{FitsFrame, FitsTable, FitsType, PlacesIncrease, index_of, is_by_unit}
+use Rattle.map_frames.specs.Writing.{FitsFrame, FitsType, PlacesIncrease, index_of, is_by_unit}
 use Rattle.map_frames.specs.declared.writing.NamedIndex.{NamedIndex}
 use Rattle.stackmap_emit.specs.FrameConstants.{frame_needs, type_needs}
 use Rattle.stackmap_emit.specs.FramesAttribute.{CanBeWritten, IsNamed, placed_needs}

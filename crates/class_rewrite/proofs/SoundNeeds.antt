@@ -1,6 +1,6 @@
 -- The constants of stated frames are sound where these name what a Class constant may.
 use Rattle.std.proofs.Common.{◌≡◌, ◌++◌, ℕ, suc, List, [], ◌∷◌, Option, Some, None, refl}
-use Rattle.std.specs.List.{AllByRecursion, flat_map}
+use Rattle.std.specs.List.{flat_map}
 use Rattle.class_model.specs.Code.{stack_map_table}
 use Rattle.class_model.specs.Laws.Texts.{plain_text}
 use Rattle.class_model.specs.declared.frame.Frame.{Frame}

@@ -11,7 +11,7 @@ mod verified_laws;
 
 pub use folder::{Optimised, optimise_folder};
 pub use frame_facts::{
-    frames_of_written_code_have_spelled_names, frames_of_written_items_are_sound,
+    frames_of_rewritten_methods_are_linked, frames_of_written_code_have_spelled_names, frames_of_written_items_are_sound,
     rewritten_methods_have_sound_frames,
 };
 pub use laws::{
