@@ -49,5 +49,15 @@ pub mod CaughtItems
 pub mod OpenedFields
 pub mod MadeMembers
 pub mod WrittenUses
+pub mod WrittenSettings
 mod NamedItems
 mod SpelledWalk
+mod SoundNeeds
+mod PlacedFits
+mod SoundItems
+pub mod LastItems
+pub mod EmittedItems
+pub mod LinkedParts
+pub mod SoundFolders
+mod RewrittenFrames
+mod LinkedFrames
