@@ -1,3 +1,4 @@
+pub mod AddedTexts
 pub mod AskedCodes
 pub mod CheckedCodes
 pub mod CheckedItems
@@ -32,6 +33,7 @@ pub mod StackRoom
 pub mod WholeFolders
 pub mod FolderPairs
 pub mod ReadMajors
+pub mod SoundFolders
 pub mod WrittenScopes
 pub mod DeclaredFolders
 pub mod UsedFolders

@@ -83,7 +83,7 @@ units_same (field ∷ fields) =
 
 -- ---- the class above
 
-kept_name : (name : Name) (names : List Name) → IsTrue (list_any (bytes_eq name) names) → bytes_eq name object ≡ false
+pub kept_name : (name : Name) (names : List Name) → IsTrue (list_any (bytes_eq name) names) → bytes_eq name object ≡ false
     → IsTrue (list_any (bytes_eq name) (filter (λ (n : Name). not (bytes_eq n object)) names))
 kept_name name [] one other = absurd (false≢true one)
 kept_name name (first ∷ names) one other = by (bytes_eq first object) refl (one_of_first first names name one) (λ later. kept_name name names later other) where
@@ -99,7 +99,7 @@ kept_name name (first ∷ names) one other = by (bytes_eq first object) refl (on
 
 module _ (headers : Headers) (hierarchy : IsHierarchy headers) where
   -- a class is among its own superclasses
-  itself : (name : Name) (header : Header) → class_named headers name ≡ Some header → IsTrue (list_any (bytes_eq name) (superclasses headers name))
+  pub itself : (name : Name) (header : Header) → class_named headers name ≡ Some header → IsTrue (list_any (bytes_eq name) (superclasses headers name))
   itself name header is = by header.super_name refl where
     first : (others : List Name) → IsTrue (list_any (bytes_eq name) (name ∷ others))
     first others = one_name_first name name others refl
@@ -118,7 +118,7 @@ module _ (headers : Headers) (hierarchy : IsHierarchy headers) where
       → header.super_name ≡ Some above
       → IsTrue (list_any (bytes_eq above) (superclasses headers low))
 
-  above_there : (low : Name) (low_header : Header) → class_named headers low ≡ Some low_header → HasAbove low
+  pub above_there : (low : Name) (low_header : Header) → class_named headers low ≡ Some low_header → HasAbove low
   above_there low low_header there = of_each_class headers hierarchy HasAbove top step low low_header there where
     top : (top_header : Header) → class_named headers object ≡ Some top_header → HasAbove object
     top top_header is name above header one is_name some =
@@ -264,15 +264,19 @@ module _ (u : Setup) (setup : IsSetup u) (hierarchy : IsHierarchy (headers_of u.
   pub fields_are : instance_fields headers name ≡ instance_fields headers above.0 ++ own_fields headers name
   fields_are = fields_above_and_own headers hierarchy name (header_of file) to.named_class above.0 above.1
 
-  pub described_above : above.0 ≢ object → IsDescribed headers u.constructor above.0
-  described_above differ =
+  -- the class above is of the chain too
+  pub above_in_chain : above.0 ≢ object → IsTrue (list_any (bytes_eq above.0) (chain headers to.candidate))
+  above_in_chain differ =
       let there =
       above_there headers hierarchy to.candidate to.is_candidate.header candidate_is name above.0 (header_of file)
       (of_chain headers to.candidate name to.of_chain_of).there to.named_class above.1 in
-      described_of above.0 (kept_name above.0 (superclasses headers to.candidate) there (apart above.0 differ))
+      kept_name above.0 (superclasses headers to.candidate) there (apart above.0 differ)
     where
       apart : (n : Name) → n ≢ object → bytes_eq n object ≡ false
       apart n other = by (bytes_eq n object) refl where
         by : (b : Bool) → bytes_eq n object ≡ b → b ≡ false
         by true same = absurd (other ((bytes_eq-Decides n object).0 same))
         by false same = refl
+
+  pub described_above : above.0 ≢ object → IsDescribed headers u.constructor above.0
+  described_above differ = described_of above.0 (above_in_chain differ)
