@@ -1,3 +1,4 @@
+pub mod AddedTexts
 pub mod AskedCodes
 pub mod CheckedCodes
 pub mod CheckedItems
@@ -58,6 +59,5 @@ mod SoundItems
 pub mod LastItems
 pub mod EmittedItems
 pub mod LinkedParts
-pub mod SoundFolders
 mod RewrittenFrames
 mod LinkedFrames
