@@ -1,5 +1,4 @@
 pub mod Reporting
-pub mod WrittenKept
 pub mod SomeClasses
 pub mod WrittenInstrs
 pub mod WrittenFolders

@@ -5,8 +5,7 @@ use Rattle.class_model.specs.Pool.{Constants}
 use Rattle.class_model.specs.declared.class_file.MethodAt.{MethodAt}
 use Rattle.class_model.specs.declared.instr.Instr.{Instr}
 use Rattle.class_model.specs.declared.frame.Frame.{Frame}
-use Rattle.class_rewrite.specs.Laws.OneReason.{one_reason}
-use Rattle.class_rewrite.specs.Reasons.{HasReason}
+use Rattle.class_rewrite.specs.Laws.OneReason.{HasEarlyReason, one_reason}
 use Rattle.class_rewrite.specs.Rewriting.Methods.{CodeIsPast, FramesArePast, GainsNothing, HasReasonIn, IsCoded, IsFramedIn, IsLongCode, IsPlanned, IsRewritten, IsTooLong, Rewriting, Rewritten, short_items}
 use Rattle.code_layout.specs.Layout.{end_from, short_spelled}
 use Rattle.code_layout.specs.PlainItems.{plain_item, plain_items}
@@ -204,7 +203,7 @@ pub record HaveOne (r : Rewriting) : Type 0 where
       → edges ≡ also
 
 module _ (r : Rewriting) (known : HaveOne r) where
-  before_plan : (at : MethodAt) (pool : Constants) (reason : Reason) → HasReasonIn r at pool reason → HasReason r.classes r.typed at (early reason)
+  before_plan : (at : MethodAt) (pool : Constants) (reason : Reason) → HasReasonIn r at pool reason → HasEarlyReason r.classes r.typed at (early reason)
   before_plan at pool reasons.Host has = has
   before_plan at pool reasons.Float has = has
   before_plan at pool reasons.Expanded has = has
