@@ -3,6 +3,7 @@
 
 mod folder;
 mod laws;
+mod outcome;
 mod reasons;
 mod report;
 
