@@ -1,10 +1,18 @@
 //! The rewriting of a folder: what becomes of each method and why, and the folder that is written.
 #![tactic(auto)]
 
+mod entered;
 mod folder;
+mod grown_pool;
 mod laws;
+mod made_sites;
+mod outcome;
 mod reasons;
 mod report;
+mod rewriter;
+mod used_fields;
+mod written_method;
+mod written_part;
 
 pub use folder::{Optimised, optimise_folder};
 pub use laws::{
