@@ -1,3 +1,5 @@
+pub mod Deciding
+pub mod Finishing
+pub mod Marking
 pub mod Outcomes
-pub mod Reporting
 pub mod VerifiedFolders

@@ -3,7 +3,7 @@ use Rattle.std.specs.Prelude.{◌≡◌, ◌⊎◌, ◌<◌, ◌++◌, ◌∷◌
 use Rattle.class_model.specs.declared.class_file.ClassFile.{ClassFile}
 use Rattle.class_model.specs.declared.class_file.Method.{Method}
 use Rattle.class_model.specs.declared.class_file.MethodAt.{MethodAt}
-use Rattle.class_rewrite.specs.Inner.Outcomes.{AreFieldsOf, AreNamesOf, ClearsFinalHere, MakesHere, OpensPrivateHere, line_of}
+use Rattle.class_rewrite.specs.Inner.Outcomes.{AreFieldsOf, AreNamesOf, ClearsFinalHere, IsOutcome, MakesHere, OpensPrivateHere, line_of}
 use Rattle.class_rewrite.specs.Reports.{AreLines, class_methods_from, methods_from}
 use Rattle.class_rewrite.specs.Rewriting.Folders.{AreMethodsWritten, IsPoolBefore, IsRewrittenAt, with_part}
 use Rattle.class_rewrite.specs.Rewriting.Methods.{Rewriting, Rewritten, rewriting_of}
@@ -16,8 +16,15 @@ use Rattle.class_tree.specs.Headers.{Classes, Name, headers_of}
 use Rattle.flow_code.specs.TypedFrames.{FolderFrames}
 use Rattle.member_link.specs.Machine.Links.{AreLinksOf}
 use Rattle.member_link.specs.Machine.Programs.{Links}
-use Rattle.plan_flow.specs.Written.WrittenPrograms.{GivesConstructors}
+use Rattle.plan_flow.specs.Written.WrittenPrograms.{GivesConstructors, WrittenMethod}
 use Rattle.pool_edit.specs.Edits.{Edit, grown}
+
+-- links of a folder, and descriptors of its field constructors
+pub record HasRules (classes : Classes) : Type 0 where
+  pub links : Links
+  pub are_links : AreLinksOf (headers_of classes) links
+  pub constructor : Name → List ℕ
+  pub gives : GivesConstructors classes constructor
 
 -- ---- what follows from what becomes of a method
 
@@ -50,42 +57,40 @@ decided_for at (outcomes.Rewritten method) known = record {
   privates = known.privates ++ method.privates;
 }
 
+-- A method is decided: what is written of it, what its class's pool is then, and what is known then.
+pub record IsMethodDecided (classes : Classes) (typed : FolderFrames) (at : MethodAt)
+    (method : Method) (old new : Edit) (before known : Decided) (written : Method)
+    : Type 0 where
+  pub outcome : Outcome
+  pub is : IsOutcome classes typed at old new outcome
+  pub known_is : known ≡ decided_for at outcome before
+  pub written_is : written ≡ method_for outcome method
+
 -- ---- the methods before one
 
 -- one before those of a class of this number from a number on, by the numbers of classes and then by their own
 abbrev pub IsBefore : MethodAt → ℕ → ℕ → Type 0
 IsBefore at class method = (at.class < class) ⊎ ((at.class ≡ class) × (at.method < method))
 
--- one of them is rewritten so
-pub record IsRewrittenBefore (r : Rewriting) (class method : ℕ) (at : MethodAt) (w : Rewritten)
+-- one of them is rewritten, and its code asks for something
+pub record IsAsked (r : Rewriting) (Asks : MethodAt → WrittenMethod → Type 0) (class method : ℕ)
     : Type 0 where
+  pub at : MethodAt
   pub before : IsBefore at class method
+  pub w : Rewritten
   pub is : IsRewrittenAt r at w
-
--- its code makes objects of a class, stores into a final field, or opens a private one
-pub record MakesBefore (r : Rewriting) (class method : ℕ) (name : Name) : Type 0 where
-  pub at : MethodAt
-  pub w : Rewritten
-  pub rewritten : IsRewrittenBefore r class method at w
-  pub makes : MakesHere r w.one name
-
-pub record ClearsFinalBefore (r : Rewriting) (class method of number : ℕ) : Type 0 where
-  pub at : MethodAt
-  pub w : Rewritten
-  pub rewritten : IsRewrittenBefore r class method at w
-  pub clears : ClearsFinalHere r w.one of number
-
-pub record OpensPrivateBefore (r : Rewriting) (class method of number : ℕ) : Type 0 where
-  pub at : MethodAt
-  pub w : Rewritten
-  pub rewritten : IsRewrittenBefore r class method at w
-  pub opens : OpensPrivateHere r at w.one of number
+  pub asks : Asks at w.one
 
 -- what their codes ask of the folder
 pub record AreGathered (r : Rewriting) (class method : ℕ) (known : Decided) : Type 0 where
-  pub made : AreNamesOf (MakesBefore r class method) known.made
-  pub finals : AreFieldsOf (ClearsFinalBefore r class method) known.finals
-  pub privates : AreFieldsOf (OpensPrivateBefore r class method) known.privates
+  pub made : AreNamesOf (λ name. IsAsked r (λ at one. MakesHere r one name) class method)
+      known.made
+  pub finals : AreFieldsOf
+      (λ of number. IsAsked r (λ at one. ClearsFinalHere r one of number) class method)
+      known.finals
+  pub privates : AreFieldsOf
+      (λ of number. IsAsked r (λ at one. OpensPrivateHere r at one of number) class method)
+      known.privates
 
 -- ---- the methods of a class
 
@@ -100,17 +105,16 @@ pub record AreDecided (r : Rewriting) (class : ℕ) (file : ClassFile) (count : 
   pub are_lines : AreLines r (methods_from class zero (take count file.methods)) lines
   pub gathered : AreGathered r class 0 before → AreGathered r class count known
 
--- all of them, whatever links and descriptors of field constructors are meant
+-- whatever links and descriptors of field constructors are meant
 pub record AreAllDecided (classes : Classes) (typed : FolderFrames) (class : ℕ)
-    (file : ClassFile) (count : ℕ) (old new : Edit) (methods : List Method) (before known : Decided)
+    (file : ClassFile) (count : ℕ) (pool : Edit) (methods : List Method) (before known : Decided)
     : Type 0 where
   pub each :
       (links : Links) (constructor : Name → List ℕ)
       → AreLinksOf (headers_of classes) links
       → GivesConstructors classes constructor
-      → slice_get classes.folder class ≡ Some file
-      → grown old ≡ file.pool
-      → AreDecided (rewriting_of classes typed links constructor) class file count new methods before known
+      → AreDecided (rewriting_of classes typed links constructor) class file count pool methods before
+      known
 
 -- ---- the classes
 
@@ -120,7 +124,8 @@ pub record IsDraft (r : Rewriting) (class : ℕ) (file : ClassFile) (draft : Dra
   pub methods : AreMethodsWritten r class zero file.methods draft.methods
 
 -- of the first so many classes
-pub record AreDrafts (r : Rewriting) (count : ℕ) (drafts : List Draft) (known : Decided) : Type 0 where
+pub record AreDrafts (r : Rewriting) (count : ℕ) (drafts : List Draft) (known : Decided)
+    : Type 0 where
   pub len : length drafts ≡ count
   pub each : (number : ℕ) (file : ClassFile) (draft : Draft)
       → slice_get r.classes.folder number ≡ Some file

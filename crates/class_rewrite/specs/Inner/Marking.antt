@@ -53,6 +53,13 @@ pub record StandsInChains (headers : Headers) (classes : List Bool) (count numbe
   pub is_marked : IsMarked classes class
   pub stands : StandsInChain headers class number
 
+-- it stands in the chain of the class of one of the names
+pub record StandsInMade (headers : Headers) (names : List Name) (count number : ℕ) : Type 0 where
+  pub class : ℕ
+  pub before : class < count
+  pub named : IsNamed headers names class
+  pub stands : StandsInChain headers class number
+
 -- ---- fields
 
 -- the field of these numbers is one of these

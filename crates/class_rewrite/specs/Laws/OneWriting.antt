@@ -274,12 +274,12 @@ module _ (r : Rewriting) (known : HaveOne r) where
   abbrev chosen : List EmitItem → Form
   chosen items = if nat_le (end_from short_spelled 0 items) 32767 then short else wide
 
-  record SameCoded (w v : Rewritten) : Type 0 where
-    one : w.one ≡ v.one
-    pool : w.code_pool ≡ v.code_pool
-    items : w.items ≡ v.items
+  pub record SameCoded (w v : Rewritten) : Type 0 where
+    pub one : w.one ≡ v.one
+    pub pool : w.code_pool ≡ v.code_pool
+    pub items : w.items ≡ v.items
 
-  same_coded : (at : MethodAt) (pool : Constants) (w v : Rewritten) → IsCoded r at pool w → IsCoded r at pool v → SameCoded w v
+  pub same_coded : (at : MethodAt) (pool : Constants) (w v : Rewritten) → IsCoded r at pool w → IsCoded r at pool v → SameCoded w v
   same_coded at pool w v p q =
       let planned = same_planned at w.one v.one w.plan v.plan p.planned q.planned in
       let pools : w.code_pool ≡ v.code_pool =
