@@ -14,3 +14,13 @@ pub mod WrittenSorts
 pub mod WrittenClasses
 pub mod MadeClasses
 pub mod WholeFolders
+pub mod WrittenParts
+pub mod Listed
+pub mod AddedMarks
+pub mod ClearedFields
+pub mod Gathering
+pub mod DecidedMethods
+pub mod DecidedClasses
+pub mod FolderRules
+pub mod CandidateChains
+pub mod AssembledFolders

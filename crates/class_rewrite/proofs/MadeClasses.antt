@@ -75,7 +75,7 @@ names_none (suc dimensions) some = subst (λ (found : Option Name). IfSome found
 
 -- ---- units
 
-units_same : (fields : List Member) → parameter_units (map (λ (field : Member). type_of field.desc) fields) ≡ units_of_fields fields
+pub units_same : (fields : List Member) → parameter_units (map (λ (field : Member). type_of field.desc) fields) ≡ units_of_fields fields
 units_same [] = refl
 units_same (field ∷ fields) =
     sum_by-cons (λ (type : FieldType). units_of (kind_of type)) (type_of field.desc) (map (λ (one : Member). type_of one.desc) fields)
@@ -83,7 +83,7 @@ units_same (field ∷ fields) =
 
 -- ---- the class above
 
-kept_name : (name : Name) (names : List Name) → IsTrue (list_any (bytes_eq name) names) → bytes_eq name object ≡ false
+pub kept_name : (name : Name) (names : List Name) → IsTrue (list_any (bytes_eq name) names) → bytes_eq name object ≡ false
     → IsTrue (list_any (bytes_eq name) (filter (λ (n : Name). not (bytes_eq n object)) names))
 kept_name name [] one other = absurd (false≢true one)
 kept_name name (first ∷ names) one other = by (bytes_eq first object) refl (one_of_first first names name one) (λ later. kept_name name names later other) where
@@ -118,7 +118,7 @@ module _ (headers : Headers) (hierarchy : IsHierarchy headers) where
       → header.super_name ≡ Some above
       → IsTrue (list_any (bytes_eq above) (superclasses headers low))
 
-  above_there : (low : Name) (low_header : Header) → class_named headers low ≡ Some low_header → HasAbove low
+  pub above_there : (low : Name) (low_header : Header) → class_named headers low ≡ Some low_header → HasAbove low
   above_there low low_header there = of_each_class headers hierarchy HasAbove top step low low_header there where
     top : (top_header : Header) → class_named headers object ≡ Some top_header → HasAbove object
     top top_header is name above header one is_name some =
