@@ -21,7 +21,7 @@ use Rattle.flow_code.specs.TypedFrames.{FolderFrames}
 use Rattle.pool_edit.specs.Edits.{Edit, grown}
 
 -- the last of a list, or one before
-of_last : {A : Type 0} (front : List A) (last one : A) (place : ℕ) → slice_get (front ++ last ∷ []) place ≡ Some one
+pub of_last : {A : Type 0} (front : List A) (last one : A) (place : ℕ) → slice_get (front ++ last ∷ []) place ≡ Some one
     → (slice_get front place ≡ Some one) ⊎ ((place ≡ length front) × (last ≡ one))
 of_last [] last one zero there = inr (refl, same_Some last one there)
 of_last [] last one (suc place) there = absurd (none-some one there)

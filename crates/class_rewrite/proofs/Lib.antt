@@ -24,3 +24,5 @@ pub mod DecidedClasses
 pub mod FolderRules
 pub mod CandidateChains
 pub mod AssembledFolders
+pub mod FinishedClasses
+pub mod OptimisedFolders

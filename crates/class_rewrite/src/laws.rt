@@ -74,6 +74,7 @@ pub(crate) fn a_rewriting_has_one_answer()
 pub(crate) fn a_tree_has_rules(tree: &Tree)
     ensures { HasRules tree.now }
 {
+    let _folder = tree.folder();
     a_tree_has_links(tree);
 }
 

@@ -13,14 +13,16 @@ use Rattle.class_rewrite.specs.declared.outcome.Outcome.{Outcome}
 use Rattle.class_rewrite.specs.declared.outcome.Outcome.TheVariants as outcomes
 use Rattle.class_rewrite.specs.declared.report.Line.{Line}
 use Rattle.class_tree.specs.Headers.{Classes, Name, headers_of}
+use Rattle.class_tree.specs.Trees.{IsTree}
 use Rattle.flow_code.specs.TypedFrames.{FolderFrames}
 use Rattle.member_link.specs.Machine.Links.{AreLinksOf}
 use Rattle.member_link.specs.Machine.Programs.{Links}
 use Rattle.plan_flow.specs.Written.WrittenPrograms.{GivesConstructors, WrittenMethod}
 use Rattle.pool_edit.specs.Edits.{Edit, grown}
 
--- links of a folder, and descriptors of its field constructors
+-- a tree, with links and with descriptors of its field constructors
 pub record HasRules (classes : Classes) : Type 0 where
+  pub tree : IsTree classes
   pub links : Links
   pub are_links : AreLinksOf (headers_of classes) links
   pub constructor : Name → List ℕ

@@ -66,7 +66,7 @@ pub record IsMethodSound (r : Rewriting) (at : MethodAt) (v : Rewritten) (host n
 -- What is asked of the written folder: its classes are class files, and its rewritten methods are sound.
 pub record IsFolderSound (r : Rewriting) (files : List ClassFile) (w : IsFolderWritten r files)
     : Type 0 where
-  pub files : AllByRecursion IsClassFile files
+  pub class_files : AllByRecursion IsClassFile files
   pub methods : (at : MethodAt) (v : Rewritten) (host now : Scope)
       → IsWrittenIn r files w at v host now
       → IsMethodSound r at v host now
