@@ -292,10 +292,10 @@ fields_item fields at one before middle after is earlier here = record {
           (subst (IsItem (one ∷ [])) (field_is one class number now.0 now.1) (first_item [] one)))
     ]),
     λ listed. elim (of_either front (one ∷ []) (record { class = class; field = number })
-    (item (front ++ one ∷ []) class number (subst (λ (list : List FieldAt). IsListed list class number) whole listed))) [
-      | inl old ↦ inl (listed_by front class number old)
-      | inr now ↦ inr (same_field one (record { class = class; field = number }) (of_one one (record { class = class; field = number }) now))
-    ],
+        (item (front ++ one ∷ []) class number (subst (λ (list : List FieldAt). IsListed list class number) whole listed))) [
+          | inl old ↦ inl (listed_by front class number old)
+          | inr now ↦ inr (same_field one (record { class = class; field = number }) (of_one one (record { class = class; field = number }) now))
+        ],
   )
 
 pub fields_none : (before : List (List Bool)) → MarksFields (IsListed []) before before

@@ -566,7 +566,7 @@ module _ (r : Rewriting) (known : HaveOne r) (hierarchy : IsHierarchy (headers_o
           let later : (number : ℕ) → first + suc number ≡ suc first + number = λ number. omega arith in (
             subst (λ (n : ℕ). IsClassWritten r written s n one other) same (each zero one other refl refl),
             classes_among (suc first) olds news (omega (arith, long))
-            (λ number file also there is_also. subst (λ (n : ℕ). IsClassWritten r written s n file also) (later number) (each (suc number) file also there is_also)),
+                (λ number file also there is_also. subst (λ (n : ℕ). IsClassWritten r written s n file also) (later number) (each (suc number) file also there is_also)),
           )
 
       module _ (files : List ClassFile) (are_files : AreFinished r.classes drafts extended finals privates (length r.classes.folder) files) where
@@ -581,10 +581,10 @@ module _ (r : Rewriting) (known : HaveOne r) (hierarchy : IsHierarchy (headers_o
           no_more = no_more;
           classes = classes_among zero r.classes.folder files are_files.len
               (λ number file also there is_also.
-                  let same : number ≡ 0 + number = omega arith in
-                  let draft = draft_at number file there in
-                  subst (λ (n : ℕ). IsClassWritten r written s n file also) same
-                  (class_written number file also draft.0 there draft.1 (are_files.each number file also draft.0 there draft.1 is_also)));
+              let same : number ≡ 0 + number = omega arith in
+              let draft = draft_at number file there in
+              subst (λ (n : ℕ). IsClassWritten r written s n file also) same
+              (class_written number file also draft.0 there draft.1 (are_files.each number file also draft.0 there draft.1 is_also)));
         }
 
   -- and there is a line for each method

@@ -26,11 +26,7 @@ pub(crate) struct Drafts {
 }
 
 /// Decides the methods of a folder, class by class.
-pub(crate) fn drafts_of(
-    alloc: Global,
-    tree: &Tree,
-    typed: &TypedFolder,
-) -> Result<Drafts, NoMemory>
+pub(crate) fn drafts_of(alloc: Global, tree: &Tree, typed: &TypedFolder) -> Result<Drafts, NoMemory>
     requires linked { IsLinked tree.now }
     requires typed { TypesFolder tree.now typed.now }
     ensures { IfOk result (λ all. AreDraftsOf tree.now typed.now (length tree.now.folder)
@@ -96,14 +92,7 @@ fn written_methods(
             class: number,
             method,
         };
-        written.push(written_method(
-            alloc,
-            rewriter,
-            at,
-            &methods[method],
-            pool,
-            known,
-        )?)?;
+        written.push(written_method(alloc, rewriter, at, &methods[method], pool, known)?)?;
     }
     Ok(written)
 }

@@ -146,9 +146,9 @@ fn with_members(
     methods: MethodList,
 ) -> Result<ClassFile, NoMemory>
     ensures { IfOk result (λ also. also ≡ record file.now {
-        pool = pool;
-        fields = fields;
-        methods = methods;
+      pool = pool;
+      fields = fields;
+      methods = methods;
     }) }
 {
     let interfaces = indices_copied(alloc, &file.interfaces)?;

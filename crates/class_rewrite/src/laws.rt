@@ -98,8 +98,7 @@ pub fn a_written_folder_verifies()
     ensures { (r : Rewriting) (files : List ClassFile) (w : IsFolderWritten r files)
         → IsOfVerified r
         → IsVerified (with_folder r.classes files) × IsWellWritten r files w }
-{
-}
+{}
 
 /// In the program of a verified folder any hosts may run their expanded flat codes, callees in place of their calls, and it runs equally: for
 /// every list of actions it shows the same events with equal counts and the same end, and it goes on exactly where the program of the folder

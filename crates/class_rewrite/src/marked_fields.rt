@@ -81,18 +81,13 @@ pub(crate) fn cleared_fields(
 ) -> Result<FieldList, NoMemory>
     ensures { IfOk result (λ cleared. cleared
         ≡ map_numbered (λ (number : ℕ) (field : Field). record field {
-            flags = without_flags field.flags
-                (cleared_flags (get_or finals.now number false) (get_or privates.now number false));
+          flags = without_flags field.flags
+              (cleared_flags (get_or finals.now number false) (get_or privates.now number false));
         }) zero fields.now) }
 {
     let mut cleared = ListOf::new(alloc);
     for (number, field) in fields.iter().enumerate() {
-        cleared.push(cleared_field(
-            alloc,
-            field,
-            finals.has(number),
-            privates.has(number),
-        )?)?;
+        cleared.push(cleared_field(alloc, field, finals.has(number), privates.has(number))?)?;
     }
     Ok(cleared)
 }
@@ -105,7 +100,7 @@ fn cleared_field(
     is_private: bool,
 ) -> Result<Field, NoMemory>
     ensures { IfOk result (λ cleared. cleared ≡ record field.now {
-        flags = without_flags field.now.flags (cleared_flags is_final is_private);
+      flags = without_flags field.now.flags (cleared_flags is_final is_private);
     }) }
 {
     let mut cleared = field.copy(alloc)?;
