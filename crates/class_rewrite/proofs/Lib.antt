@@ -14,7 +14,7 @@ pub mod WrittenSorts
 pub mod WrittenClasses
 pub mod MadeClasses
 pub mod WholeFolders
-pub mod WrittenParts
+pub mod AttrsWithCode
 pub mod Listed
 pub mod AddedMarks
 pub mod ClearedFields

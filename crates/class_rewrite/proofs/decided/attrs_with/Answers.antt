@@ -1,5 +1,5 @@
 use Rattle.std.proofs.Common.{◌∙◌}
-use Rattle.class_rewrite.proofs.WrittenParts.{part_more}
+use Rattle.class_rewrite.proofs.AttrsWithCode.{part_more}
 use Rattle.class_rewrite.proofs.decided.attrs_with.Goals as goal
 
 pub loop-attr-preserved : goal.loop-attr-preserved
