@@ -1,3 +1,6 @@
+pub mod LaidMethods
+pub mod Meanings
 pub mod Outcomes
 pub mod Reporting
 pub mod VerifiedFolders
+pub mod WrittenCodes

@@ -4,8 +4,11 @@
 mod entered;
 mod folder;
 mod grown_pool;
+mod home;
 mod laws;
+mod local_units;
 mod made_sites;
+mod method_laws;
 mod outcome;
 mod reasons;
 mod report;
