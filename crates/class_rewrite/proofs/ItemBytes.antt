@@ -33,9 +33,9 @@ of_int number =
     (if is_short number then BIPUSH ∷ cast_unsigned w8 number ∷ [] else SIPUSH ∷ u2 (cast_unsigned w16 number)) (first _ _)
     (of_if (is_short number) (BIPUSH ∷ cast_unsigned w8 number ∷ []) (SIPUSH ∷ u2 (cast_unsigned w16 number)) (first _ _) (first _ _))
 
-of_local : (short general : ℕ) (kind : Kind) (index : ℕ) → HasFirst (local_bytes short general kind index)
-of_local short general kind index =
-    of_if (nat_lt index 4) ((short + 4 * kind_index kind + index) ∷ [])
+of_local : (low general : ℕ) (kind : Kind) (index : ℕ) → HasFirst (local_bytes low general kind index)
+of_local low general kind index =
+    of_if (nat_lt index 4) ((low + 4 * kind_index kind + index) ∷ [])
     (if nat_lt index 256 then (general + kind_index kind) ∷ index ∷ [] else WIDE ∷ (general + kind_index kind) ∷ u2 index) (first _ _)
     (of_if (nat_lt index 256) ((general + kind_index kind) ∷ index ∷ []) (WIDE ∷ (general + kind_index kind) ∷ u2 index) (first _ _) (first _ _))
 
@@ -80,4 +80,4 @@ bytes_from form at (item ∷ items) =
 
 -- code has at least as many bytes as items
 pub bytes_many : (form : Form) (items : List EmitItem) → length items ≤ end_from (spelled_in form) 0 items
-bytes_many form items = bytes_from form 0 items
+bytes_many form items = let all = bytes_from form 0 items in omega (arith, all)

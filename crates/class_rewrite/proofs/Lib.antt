@@ -15,3 +15,9 @@ pub mod WrittenSorts
 pub mod WrittenClasses
 pub mod MadeClasses
 pub mod WholeFolders
+pub mod ItemBytes
+pub mod LastItems
+pub mod LongItems
+pub mod StatedNeeds
+pub mod WideEnters
+pub mod ReadyMethods

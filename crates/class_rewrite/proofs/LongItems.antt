@@ -112,7 +112,7 @@ widened_many (one ∷ ones) =
     let both = length-append (widened one) (flat_map widened ones) in omega (arith, some, rest, both)
 
 entries_both : (ones others : List WItem) → table_entries (ones ++ others) ≡ table_entries ones + table_entries others
-entries_both [] others = refl
+entries_both [] others = omega arith
 entries_both (one ∷ ones) others = let rest = entries_both ones others in omega (arith, rest)
 
 blocks_many : (blocks : List Finished) → length (written_items short blocks) ≤ length (written_items wide blocks)
