@@ -1,97 +1,98 @@
--- The last item of typed code is no conditional jump, since control would go on behind it: so nothing stands behind the wide form of emitted items.
-use Rattle.std.proofs.Common.{◌≡◌, ◌+◌, ◌==◌, ◌<◌, ℕ, suc, Bool, true, false, List, [], ◌∷◌, length, Option, Some, None, if◌then◌else◌, refl, sym, ap, subst, ◌∙◌, arith}
+-- The last of items that frames type is no conditional jump, so that nothing stands behind them in the wide form.
+use Rattle.std.proofs.Common.{◌≡◌, ◌==◌, ◌≤◌, ◌+◌, ◌∙◌, ℕ, zero, suc, Bool, true, false, List, [], ◌∷◌, length, is_some, Option, Some, None, refl, sym, subst, arith}
 use Rattle.std.specs.List.{AllByRecursion}
+use Rattle.std.proofs.lemmas.Bool.{false≢true}
 use Rattle.std.proofs.lemmas.Bool.Decides.{Decides-eqb}
+use Rattle.std.proofs.lemmas.List.{length-map}
 use Rattle.std.proofs.lemmas.Option.{none-some}
-use Rattle.class_model.specs.Instructions.{targets}
 use Rattle.class_model.specs.Pool.{Constants}
 use Rattle.class_model.specs.declared.frame.Frame.{Frame}
 use Rattle.class_model.specs.declared.instr.Instr.{Instr}
 use Rattle.class_model.specs.declared.instr.Instr.TheVariants.{If, If2, IfNull, IfSame}
 use Rattle.code_layout.specs.PlainItems.{plain_item, plain_items}
-use Rattle.code_layout.specs.WideForm.{closing, jump_over, nop_behind}
+use Rattle.code_layout.specs.WideForm.{closing, jump_over}
 use Rattle.code_layout.specs.declared.emitted.EmitItem.{EmitItem}
+use Rattle.flow_code.specs.FlatCode.{FlatCode}
 use Rattle.making_code.specs.IndexedItems.{IndexedItem}
 use Rattle.making_code.specs.Opposites.{opposite_instr}
-use Rattle.member_link.specs.Bodies.{Body, BodyPoint, falls_through, flows_on, frame_behind}
-use Rattle.member_link.specs.BodyTyping.{FlowsInto, HasFrames, MayGoTo, PointFits, frame_among, frame_at}
+use Rattle.member_link.specs.Bodies.{Body, flows_on}
+use Rattle.member_link.specs.BodyTyping.{FlowsInto, HasFrames, PointFits, frame_among, frame_at}
 use Rattle.member_link.specs.Machine.Replaced.{map_numbered}
 use Rattle.member_link.specs.RowScope.{RowScope}
+use Rattle.member_link.specs.Rows.Operands.{Need}
+use Rattle.member_link.specs.Rows.Row.{row_frame}
+use Rattle.member_link.specs.Rows.Table.{jump_row}
 use Rattle.member_link.specs.Scope.{Scope}
-use Rattle.plan_flow.specs.Written.FramedCode.{body_of_items, item_body, items_scope}
-use Rattle.flow_code.specs.FlatCode.{FlatCode}
+use Rattle.plan_flow.specs.Written.FramedCode.{body_of_items, item_body}
 
--- a conditional jump has a target, and control may fall through it
-record Jumps (instr : Instr) : Type 0 where
-  to : ℕ
-  one : targets instr ≡ to ∷ []
-  falls : falls_through instr ≡ true
+-- ---- conditional jumps go on
 
-opposite_jumps : (instr other : Instr) → opposite_instr instr ≡ Some other → Jumps instr
-opposite_jumps (If opcode to) other is = record { to = to; one = refl; falls = refl }
-opposite_jumps (If2 opcode to) other is = record { to = to; one = refl; falls = refl }
-opposite_jumps (IfSame opcode to) other is = record { to = to; one = refl; falls = refl }
-opposite_jumps (IfNull opcode to) other is = record { to = to; one = refl; falls = refl }
-opposite_jumps instr other is = absurd (none-some other is)
+jump_goes_on : (f : Frame) (known : Bool) (takes : List Need) → is_some (row_frame f (jump_row f known takes)) ≡ true
+jump_goes_on f true takes = refl
+jump_goes_on f false takes = refl
 
-module _ (pool : Constants) (scope : RowScope) where
-  -- a frame is at a place of an item alone
-  among_below : (first : ℕ) (items : List IndexedItem) (frames : List Frame) (place : ℕ) (frame : Frame)
-      → frame_among (map_numbered (item_body pool scope) first items) frames place ≡ Some frame
-      → place < first + length items
-  among_below first [] frames place frame is = absurd (none-some frame is)
-  among_below first (item ∷ items) [] place frame is = absurd (none-some frame is)
-  among_below first (item ∷ items) (one ∷ frames) place frame is = by (first == place) refl (λ found. among_below (suc first) items frames place frame found) is where
-    by : (b : Bool) → (first == place) ≡ b
-        → (frame_among (map_numbered (item_body pool scope) (suc first) items) frames place ≡ Some frame → place < suc first + length items)
-        → (if b then Some one else frame_among (map_numbered (item_body pool scope) (suc first) items) frames place) ≡ Some frame
-        → place < first + length (item ∷ items)
-    by true told behind found = let same = (Decides-eqb first place).0 told in omega (arith, same)
-    by false told behind found = let rest = behind found in omega (arith, rest)
+goes_on : (pool : Constants) (scope : RowScope) (number : ℕ) (one : IndexedItem) (frame : Frame) (jump : Instr) → opposite_instr one.instr ≡ Some jump
+    → is_some (flows_on (item_body pool scope number one) frame) ≡ true
+goes_on pool scope number one frame jump = by one.instr where
+  by : (instr : Instr) → opposite_instr instr ≡ Some jump → is_some (flows_on (item_body pool scope number (record one { instr = instr })) frame) ≡ true
+  by (If opcode to) is = jump_goes_on frame _ _
+  by (If2 opcode to) is = jump_goes_on frame _ _
+  by (IfSame opcode to) is = jump_goes_on frame _ _
+  by (IfNull opcode to) is = jump_goes_on frame _ _
+  by other is = absurd (none-some jump is)
 
-  module _ (b : Body) (frames : List Frame) (end : ℕ) (none : (frame : Frame) → frame_at b frames end ≡ Some frame → ⊥) where
-    goes_on : (number : ℕ) (item : IndexedItem) → Jumps item.instr → PointFits b frames (item_body pool scope number item) → number + 1 ≡ end → ⊥
-    goes_on number item jumps fits last = by (frame_behind (item_body pool scope number item) fits.frame) refl where
-      by : (behind : Option Frame) → frame_behind (item_body pool scope number item) fits.frame ≡ behind → ⊥
-      by None is =
-          let here = subst (λ (to : List ℕ). AllByRecursion (λ (target : ℕ). MayGoTo b.scope (frame_behind (item_body pool scope number item) fits.frame) (b.stated target)) to) jumps.one fits.targets in
-          let goes : MayGoTo b.scope None (b.stated jumps.to) =
-          subst (λ (o : Option Frame). MayGoTo b.scope o (b.stated jumps.to)) is here.0 in goes
-      by (Some frame) is =
-          let flows : flows_on (item_body pool scope number item) fits.frame ≡ Some frame =
-          ap (λ (falls : Bool). if falls then frame_behind (item_body pool scope number item) fits.frame else None) jumps.falls ∙ is in
-          let into : FlowsInto b frames (number + 1) (Some frame) = subst (FlowsInto b frames (number + 1)) flows fits.next in
-          none into.0 (subst (λ (place : ℕ). frame_at b frames place ≡ Some into.0) last into.1)
+flows_there : (b : Body) (frames : List Frame) (place : ℕ) (flows : Option Frame) → is_some flows ≡ true → FlowsInto b frames place flows
+    → (frame : Frame) × (frame_at b frames place ≡ Some frame)
+flows_there b frames place None some is = absurd (false≢true some)
+flows_there b frames place (Some flows) some is = (is.0, is.1)
 
-    closes : (first : ℕ) (items : List EmitItem) → first + length items ≡ end
-        → AllByRecursion (PointFits b frames) (map_numbered (item_body pool scope) first (plain_items items))
-        → closing items ≡ []
-    closes first [] count all = refl
-    closes first (item ∷ []) count all = by_near item.near refl where
-      by_near : (near : Bool) → item.near ≡ near → nop_behind (jump_over item) ≡ []
-      by_near true is = rw (is) refl
-      by_near false is = by (opposite_instr item.instr) refl where
-        by : (found : Option Instr) → opposite_instr item.instr ≡ found → nop_behind (jump_over item) ≡ []
-        by None absent = rw (is, absent) refl
-        by (Some other) there = absurd (goes_on first (plain_item item) (opposite_jumps item.instr other there) all.0 (omega (arith, count)))
-    closes first (item ∷ next ∷ items) count all = closes (suc first) (next ∷ items) (omega (arith, count)) all.1
+-- ---- no item stands behind the last
 
-plain_many : (items : List EmitItem) → length (plain_items items) ≡ length items
-plain_many [] = refl
-plain_many (item ∷ items) = ap suc (plain_many items)
+none_behind : (pool : Constants) (scope : RowScope) (number : ℕ) (items : List IndexedItem) (frames : List Frame) (place : ℕ) → number + length items ≤ place
+    → frame_among (map_numbered (item_body pool scope) number items) frames place ≡ None
+none_behind pool scope number [] frames place low = refl
+none_behind pool scope number (item ∷ items) [] place low = refl
+none_behind pool scope number (item ∷ items) (frame ∷ frames) place low =
+    by (number == place) refl (none_behind pool scope (suc number) items frames place (omega (arith, low))) where
+      by : (b : Bool) → (number == place) ≡ b → frame_among (map_numbered (item_body pool scope) (suc number) items) frames place ≡ None
+          → frame_among (map_numbered (item_body pool scope) number (item ∷ items)) (frame ∷ frames) place ≡ None
+      by true e rest = let same = (Decides-eqb number place).0 e in absurd (omega (arith, same, low))
+      by false e rest = rw (e) rest
 
-module _ (host : Scope) (flat : FlatCode) (pool : Constants) (max_stack : ℕ) (items : List EmitItem) (state : ℕ → Option Frame) (frames : List Frame) where
-  abbrev scope_here : RowScope
-  scope_here = items_scope host pool max_stack (plain_items items)
+-- ---- nothing is closed
 
-  abbrev body_here : Body
-  body_here = body_of_items host flat pool max_stack (plain_items items) state
+no_jump : (item : EmitItem) → ((jump : Instr) → opposite_instr item.instr ≡ Some jump → ⊥) → jump_over item ≡ None
+no_jump item never = by item.near refl where
+  of : (found : Option Instr) → opposite_instr item.instr ≡ found → found ≡ None
+  of None e = refl
+  of (Some jump) e = absurd (never jump e)
 
-  none_behind : (frame : Frame) → frame_at body_here frames (length items) ≡ Some frame → ⊥
-  none_behind frame is =
-      let low = among_below pool scope_here 0 (plain_items items) frames (length items) frame is in
-      let count = plain_many items in omega (arith, low, count)
+  by : (near : Bool) → item.near ≡ near → jump_over item ≡ None
+  by true e = rw (e) refl
+  by false e = rw (e) (of (opposite_instr item.instr) refl)
 
-  -- Nothing stands behind the wide form of items that frames type.
-  pub typed_closes : HasFrames body_here frames → closing items ≡ []
-  typed_closes has = closes pool scope_here body_here frames (length items) none_behind 0 items (omega arith) has.points
+module _ (b : Body) (frames : List Frame) (pool : Constants) (scope : RowScope) where
+  last_closes : (number : ℕ) (items : List EmitItem) → frame_at b frames (number + length items) ≡ None
+      → AllByRecursion (PointFits b frames) (map_numbered (item_body pool scope) number (plain_items items))
+      → closing items ≡ []
+  last_closes number [] none all = refl
+  last_closes number (item ∷ []) none all =
+      let over : jump_over item ≡ None =
+      no_jump item (λ jump is.
+      let there =
+      flows_there b frames (number + 1) (flows_on (item_body pool scope number (plain_item item)) all.0.frame)
+      (goes_on pool scope number (plain_item item) all.0.frame jump is) all.0.next in
+      none-some there.0 (sym none ∙ there.1)) in
+      rw (over) refl
+  last_closes number (item ∷ next ∷ items) none all =
+      last_closes (suc number) (next ∷ items) (subst (λ (n : ℕ). frame_at b frames n ≡ None) (omega arith) none) all.1
+
+-- The last item of a typed body does not go on.
+pub nothing_closes : (host : Scope) (flat : FlatCode) (pool : Constants) (room : ℕ) (items : List EmitItem) (state : ℕ → Option Frame) (frames : List Frame)
+    → HasFrames (body_of_items host flat pool room (plain_items items) state) frames
+    → closing items ≡ []
+nothing_closes host flat pool room items state frames has =
+    let b : Body = body_of_items host flat pool room (plain_items items) state in
+    let long = length-map items plain_item in
+    last_closes b frames pool b.scope zero items (none_behind pool b.scope zero (plain_items items) frames (zero + length items) (omega (arith, long)))
+    has.points

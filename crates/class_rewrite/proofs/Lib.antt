@@ -17,6 +17,8 @@ pub mod MadeClasses
 pub mod WholeFolders
 pub mod ItemBytes
 pub mod LastItems
+pub mod StackRoom
+pub mod LaidMethods
 pub mod LongItems
 pub mod StatedNeeds
 pub mod WideEnters

@@ -82,7 +82,7 @@ module _ (s : PlanScope) (constructor : Name → List ℕ) (pool : Constants) (f
       let same : length (indexed_item s constructor pool form blocks number one).catches ≡ length one.catches = mapped_many _ one.catches in
       let rest = numbered_entries (suc number) ones in omega (arith, same, rest)
 
-  items_many : (items : List EmitItem) → plain_items items ≡ indexed_items s constructor pool form blocks → length items ≡ length (written_items form blocks)
+  pub items_many : (items : List EmitItem) → plain_items items ≡ indexed_items s constructor pool form blocks → length items ≡ length (written_items form blocks)
   items_many items are = sym (mapped_many plain_item items) ∙ ap length are ∙ numbered_many zero (written_items form blocks)
 
   items_entries : (items : List EmitItem) → plain_items items ≡ indexed_items s constructor pool form blocks → table_len items ≡ table_entries (written_items form blocks)
