@@ -23,3 +23,5 @@ pub mod LongItems
 pub mod StatedNeeds
 pub mod WideEnters
 pub mod ReadyMethods
+pub mod KeptMethods
+pub mod GivenConstructors
