@@ -25,3 +25,5 @@ pub mod WideEnters
 pub mod ReadyMethods
 pub mod KeptMethods
 pub mod GivenConstructors
+pub mod LocalUnits
+pub mod PoolCopies

@@ -61,10 +61,18 @@ impl<'t> Home<'t> {
         ensures { result ≡ scope_at tree.now at }
     {
         a_class_file_has_read_methods();
-        let class = tree.folder().get(at.class)?;
-        let header = tree.header(Place::Folder(at.class))?;
-        let method = class.methods.get(at.method)?;
-        let part = code_of(method.attrs.as_slice())?;
+        let Some(class) = tree.folder().get(at.class) else {
+            return None;
+        };
+        let Some(header) = tree.header(Place::Folder(at.class)) else {
+            return None;
+        };
+        let Some(method) = class.methods.get(at.method) else {
+            return None;
+        };
+        let Some(part) = code_of(method.attrs.as_slice()) else {
+            return None;
+        };
         Some(Home {
             tree,
             class,
