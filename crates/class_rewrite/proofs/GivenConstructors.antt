@@ -83,6 +83,7 @@ module _ (classes : Classes) (class : Name) where
 
 -- a function that gives them
 pub descriptors_given : (classes : Classes) → (constructor : Name → List ℕ) × GivesConstructors classes constructor
-descriptors_given classes =
-    (λ class. text_of classes class (some_decided classes class),
-    λ class dimensions has. text_is classes class (some_decided classes class) dimensions has)
+descriptors_given classes = (
+  λ class. text_of classes class (some_decided classes class),
+  λ class dimensions has. text_is classes class (some_decided classes class) dimensions has,
+)

@@ -27,3 +27,4 @@ pub mod KeptMethods
 pub mod GivenConstructors
 pub mod LocalUnits
 pub mod PoolCopies
+pub mod ContinuedEdits
