@@ -1,10 +1,14 @@
 //! The rewriting of one method.
-ghost use Rattle.std.specs.Prelude.{◌≡◌, Ok, IfOk};
-ghost use Rattle.class_rewrite.specs.Inner.Outcomes.{IsEditOf, IsOutcome};
-ghost use Rattle.expanded_code.specs.ExpandAnswers.{AnswersExpanded};
+ghost use Rattle.std.specs.Prelude.{◌≡◌, IfOk};
+ghost use Rattle.class_model.specs.declared.class_file.MethodAt.{MethodAt};
+ghost use Rattle.class_rewrite.specs.Inner.Meanings.{IsEditOf};
+ghost use Rattle.class_rewrite.specs.Inner.Outcomes.{IsOutcome};
+ghost use Rattle.class_rewrite.specs.Inner.WrittenCodes.{IsFlatOf, IsLeastFor, IsOutcomeOf, MayBePlanned};
+ghost use Rattle.flow_code.specs.TypedFrames.{FolderFrames};
 ghost use Rattle.member_link.specs.Linked.{IsLinked};
 ghost use Rattle.type_rules.specs.Verified.{TypesFolder};
 
+use crate::method_laws::{a_flat_code_can_be_planned, field_constructors_have_descriptors};
 use crate::outcome::{Outcome, RewrittenMethod};
 use crate::written_method::written_method;
 use class_model::{MethodAt, NoMemory};
@@ -15,6 +19,7 @@ use field_constructors::Constructors;
 use flow_code::{Flat, KeptFault, Reason};
 use inline_expand::Expander;
 use materialise::Units;
+use member_link::a_tree_has_links;
 use plan_flow::{Plan, gain, least_plan};
 use pool_edit::PoolEdit;
 use std::alloc::Global;
@@ -113,7 +118,15 @@ fn of_flat(
     constructors: &Constructors<'_>,
     flat: &Flat,
     pool: &mut PoolEdit,
-) -> Result<Outcome, NoMemory> {
+) -> Result<Outcome, NoMemory>
+    requires constructors { constructors.now ≡ tree.now }
+    requires known { MayBePlanned tree.now flat.now pool.old }
+    ensures { IfOk result (λ outcome. (typed : FolderFrames) (at : MethodAt)
+        → IsFlatOf tree.now typed at flat.now
+        → IsOutcome tree.now typed at pool.old pool.new outcome) }
+{
+    a_tree_has_links(tree);
+    a_flat_code_can_be_planned();
     let plan = least_plan(alloc, tree, flat)?;
     let outcome = of_plan(alloc, tree, constructors, flat, &plan, pool);
     // let go by a call, so that its drop is proved once
@@ -129,7 +142,17 @@ fn of_plan(
     flat: &Flat,
     plan: &Plan,
     pool: &mut PoolEdit,
-) -> Result<Outcome, NoMemory> {
+) -> Result<Outcome, NoMemory>
+    requires constructors { constructors.now ≡ tree.now }
+    requires known { MayBePlanned tree.now flat.now pool.old }
+    requires least { IsLeastFor tree.now flat.now plan.now }
+    ensures { IfOk result (λ outcome. (typed : FolderFrames) (at : MethodAt)
+        → IsFlatOf tree.now typed at flat.now
+        → IsOutcome tree.now typed at pool.old pool.new outcome) }
+{
+    a_tree_has_links(tree);
+    a_flat_code_can_be_planned();
+    field_constructors_have_descriptors();
     if !gain(flat, plan) {
         return Ok(Outcome::Kept(Reason::NoGain));
     }
@@ -139,7 +162,9 @@ fn of_plan(
 }
 
 // What becomes of it where it could be written, or could not for a reason.
-fn outcome_of(written: Result<RewrittenMethod, KeptFault>) -> Result<Outcome, NoMemory> {
+fn outcome_of(written: Result<RewrittenMethod, KeptFault>) -> Result<Outcome, NoMemory>
+    ensures { IsOutcomeOf written result }
+{
     match written {
         Ok(method) => Ok(Outcome::Rewritten(method)),
         Err(KeptFault::Kept(reason)) => Ok(Outcome::Kept(reason)),

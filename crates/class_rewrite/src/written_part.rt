@@ -1,41 +1,36 @@
 //! The content of the Code attribute of a method that is rewritten (JVM Specification SE 8, 4.7.3).
-use class_model::{
-    ClassFile, CodePart, Frame, InnerAttrList, ListOf, Method, MethodAt, NoMemory, PlacedFrameList,
-    Pool, Text, VType,
+ghost use Rattle.std.specs.Prelude.{◌≡◌, ℕ, List, IfOk};
+ghost use Rattle.std.specs.Result.{IsErrOf};
+ghost use Rattle.class_rewrite.specs.Inner.Meanings.{IsCode, IsEditOf, IsFit, IsFullFor, IsKnownCode, IsMeant, IsPart, IsReasonOf, Meaning, StatesFrames};
+ghost use Rattle.class_tree.specs.Headers.{Name};
+ghost use Rattle.code_layout.specs.ChosenForm.{chosen_items};
+ghost use Rattle.flow_code.specs.declared.reason.Reason.{Reason};
+ghost use Rattle.plan_flow.specs.PlanScope.{PlanScope};
+ghost use Rattle.plan_flow.specs.Written.Routes.{Routes};
+ghost use Rattle.pool_edit.specs.Edits.{Continues, Edit};
+ghost use Rattle.stackmap_emit.specs.FrameConstants.{table_needs};
+ghost use Rattle.stackmap_emit.specs.FramedItems.{AreEmitted, ArePlacedBy, entry_with, finished_by, form_of};
+ghost use Rattle.stackmap_emit.specs.FramesAttribute.{CanBeWritten, all_stated, attributes};
+
+use crate::home::Home;
+use crate::local_units::local_units;
+use crate::method_laws::{
+    what_is_meant_can_be_written, what_is_written_fits, what_is_written_is_laid_out,
+    written_frames_are_sound,
 };
-use class_tree::{Place, Tree};
-use code_bytes::{entry_frame, method_descriptor};
+use class_model::{
+    CodePart, Frame, InnerAttr, InnerAttrList, ListOf, NoMemory, PlacedFrameList, Pool,
+};
 use code_drafts::Setting;
 use code_emit::WrittenCode;
 use code_layout::{Laid, layout};
-use flow_code::{Flat, KeptFault};
-use materialise::Units;
+use flow_code::KeptFault;
 use pool_edit::{PoolEdit, an_edit_goes_back_to_what_it_was};
 use stackmap_emit::{WrittenCode as FramedCode, WrittenFrames, frames_attribute, place_frames};
 use std::alloc::Global;
 
 // The first version of class files that state frames.
 const FIRST_FRAMES: u16 = 50;
-
-/// A method where it stands: its class, the name of that, and the method.
-#[derive(Clone, Copy)]
-pub(crate) struct Home<'t> {
-    pub(crate) class: &'t ClassFile,
-    pub(crate) name: &'t Text,
-    pub(crate) method: &'t Method,
-}
-
-/// The method of these numbers.
-pub(crate) fn home_of(tree: &Tree, at: MethodAt) -> Option<Home<'_>> {
-    let class = tree.folder().get(at.class)?;
-    let name = &tree.header(Place::Folder(at.class))?.name;
-    let method = class.methods.get(at.method)?;
-    Some(Home {
-        class,
-        name,
-        method,
-    })
-}
 
 /// The content of the Code attribute, by the written code. The constants of its frames are added to the pool.
 ///
@@ -49,13 +44,31 @@ pub(crate) fn written_part(
     code: &WrittenCode,
     grown: &Pool,
     pool: &mut PoolEdit,
-) -> Result<CodePart, KeptFault> {
+) -> Result<CodePart, KeptFault>
+    requires { IsKnownCode setting.now pool.old code.now home.now grown.now }
+    ensures ok { IfOk result (λ part. (m : Meaning) (before : Edit)
+        → IsMeant setting.now m
+        → IsEditOf setting.now.classes m.at before
+        → IsCode setting.now before pool.old code.now
+        → IsPart setting.now m before pool.old pool.new code.now part) }
+    ensures kept { (reason : Reason) (m : Meaning) (before : Edit)
+        → IsErrOf result (KeptFault.Kept reason)
+        → IsMeant setting.now m
+        → IsEditOf setting.now.classes m.at before
+        → IsCode setting.now before pool.old code.now
+        → IsReasonOf setting.now m before reason }
+    ensures more { Continues pool.old pool.new }
+{
     an_edit_goes_back_to_what_it_was();
+    what_is_meant_can_be_written();
+    what_is_written_is_laid_out();
+    what_is_written_fits();
+    written_frames_are_sound();
     let laid = layout(alloc, &code.emitted)?;
-    let locals = local_units(setting.flat(), setting.units());
-    let entry = entry_of(alloc, home, locals)?;
+    let locals = local_units(setting.units());
+    let entry = home.entry(alloc, locals)?;
     let frames = frames_of(alloc, setting, home, code, grown, &entry, &laid)?;
-    let attrs = attributes_of(alloc, home.class.major, &entry, &frames.placed, pool)?;
+    let attrs = attributes_of(alloc, home.class().major, &entry, &frames.placed, pool)?;
     let max_stack = frames.max_stack;
     // let go by a call, so that its drop is proved once
     drop(frames);
@@ -82,12 +95,20 @@ fn frames_of(
     grown: &Pool,
     entry: &Frame,
     laid: &Laid,
-) -> Result<WrittenFrames, NoMemory> {
+) -> Result<WrittenFrames, NoMemory>
+    requires { IsFit setting.now code.now }
+    ensures { IfOk result (λ made. (s : PlanScope) (constructor : Name → List ℕ) (routes : Routes)
+        → s.flat ≡ setting.now.flat
+        → entry.now ≡ entry_with home.now s.flat
+        → AreEmitted s constructor routes grown.now code.now.emitted code.now.starts
+        → ArePlacedBy home.now s.flat (form_of code.now.emitted) (finished_by s routes) grown.now
+        (chosen_items code.now.emitted) laid.now.starts made.placed made.max_stack) }
+{
     let framed = FramedCode {
         flat: setting.flat(),
         entry,
         pool: grown,
-        own: home.name,
+        own: home.name(),
         starts: code.starts.as_slice(),
     };
     place_frames(alloc, &framed, &code.emitted, laid)
@@ -100,78 +121,29 @@ fn attributes_of(
     entry: &Frame,
     placed: &PlacedFrameList,
     pool: &mut PoolEdit,
-) -> Result<InnerAttrList, KeptFault> {
-    let mut attrs = ListOf::new(alloc);
+) -> Result<InnerAttrList, KeptFault>
+    requires { CanBeWritten placed.now }
+    ensures ok { IfOk result (StatesFrames major pool.old pool.new entry.now placed.now) }
+    ensures full { (reason : Reason)
+        → IsErrOf result (KeptFault.Kept reason)
+        → IsFullFor major pool.old (table_needs (all_stated placed.now)) reason }
+    ensures more { Continues pool.old pool.new }
+{
+    an_edit_goes_back_to_what_it_was();
     if major < FIRST_FRAMES {
-        return Ok(attrs);
+        return Ok(ListOf::new(alloc));
     }
-    if let Some(attribute) = frames_attribute(alloc, entry, placed, pool)? {
+    let made = frames_attribute(alloc, entry, placed, pool)?;
+    Ok(listed(alloc, made)?)
+}
+
+// An attribute that may be there, as a list.
+fn listed(alloc: Global, made: Option<InnerAttr>) -> Result<InnerAttrList, NoMemory>
+    ensures { IfOk result (λ attrs. attrs ≡ attributes made) }
+{
+    let mut attrs = ListOf::new(alloc);
+    if let Some(attribute) = made {
         attrs.push(attribute)?;
     }
     Ok(attrs)
-}
-
-// The frame with which the code of a method begins that has so many local units.
-fn entry_of(alloc: Global, home: &Home<'_>, locals: u16) -> Result<Frame, NoMemory> {
-    let Some(text) = home.class.pool.utf8(home.method.desc) else {
-        unreachable!()
-    };
-    let descriptor = method_descriptor(alloc, text, home.method.flags)?;
-    let part = CodePart {
-        max_stack: 0,
-        max_locals: locals,
-        code: ListOf::new(alloc),
-        handlers: ListOf::new(alloc),
-        attrs: ListOf::new(alloc),
-    };
-    let entry = entry_frame(
-        alloc,
-        home.class,
-        home.method,
-        &part,
-        descriptor.params.as_slice(),
-    );
-    // let go by calls, so that their drops are proved once
-    drop(part);
-    drop(descriptor);
-    entry
-}
-
-// The local units of written code.
-fn local_units(flat: &Flat, units: &Units<'_>) -> u16 {
-    units.scratch(greatest_depth(flat))
-}
-
-// The most units of the stack before a point.
-fn greatest_depth(flat: &Flat) -> u16 {
-    let mut greatest = 0;
-    for at in 0..flat.len() {
-        greatest = depth_at(flat, at).max(greatest);
-    }
-    greatest
-}
-
-// The units of the stack before a point, or 65,535 where they are more.
-fn depth_at(flat: &Flat, at: usize) -> u16 {
-    match flat.typed(at) {
-        Some(types) => depth_of(types.stack.as_slice()),
-        None => 0,
-    }
-}
-
-// The units that stack entries take, or 65,535 where they are more.
-fn depth_of(entries: &[VType]) -> u16 {
-    let mut units: u16 = 0;
-    for entry in entries {
-        units = units.saturating_add(entry_units(entry));
-    }
-    units
-}
-
-// How many units an entry takes.
-fn entry_units(entry: &VType) -> u16 {
-    match entry {
-        VType::Long | VType::Double => 2,
-        _ => 1,
-    }
 }

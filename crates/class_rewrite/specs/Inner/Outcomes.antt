@@ -2,7 +2,6 @@
 use Rattle.std.specs.Prelude.{◌≡◌, ◌≢◌, ℕ, List, bytes_eq, slice_get, Some, IsTrue}
 use Rattle.std.specs.List.{list_any}
 use Rattle.class_model.specs.Members.{FINAL, PRIVATE, has}
-use Rattle.class_model.specs.declared.class_file.ClassFile.{ClassFile}
 use Rattle.class_model.specs.declared.class_file.MethodAt.{MethodAt}
 use Rattle.class_model.specs.declared.header.Member.{Member}
 use Rattle.class_rewrite.specs.Rewriting.Lines.{HasNumbers}
@@ -122,9 +121,3 @@ pub record IsOutcome (classes : Classes) (typed : FolderFrames) (at : MethodAt)
       → AreLinksOf (headers_of classes) links
       → GivesConstructors classes constructor
       → IsOutcomeBy (rewriting_of classes typed links constructor) at before after outcome
-
--- The edit of the pool of a method's class, up to the count that written code may take.
-pub record IsEditOf (classes : Classes) (at : MethodAt) (edit : Edit) : Type 0 where
-  pub limit : edit.limit ≡ 64535
-  pub base :
-      (file : ClassFile) → slice_get classes.folder at.class ≡ Some file → edit.base ≡ file.pool
