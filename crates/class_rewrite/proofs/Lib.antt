@@ -21,7 +21,6 @@ pub mod ClearedFields
 pub mod Gathering
 pub mod DecidedMethods
 pub mod DecidedClasses
-pub mod FolderRules
 pub mod CandidateChains
 pub mod AssembledFolders
 pub mod FinishedClasses

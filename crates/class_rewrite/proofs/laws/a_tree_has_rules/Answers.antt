@@ -1,4 +1,4 @@
-use Rattle.class_rewrite.proofs.FolderRules.{descriptors, descriptors_give}
+use Rattle.class_rewrite.proofs.GivenConstructors.{descriptors_given}
 use Rattle.class_rewrite.proofs.laws.a_tree_has_rules.Goals as goal
 
 pub returns : goal.returns
@@ -6,6 +6,6 @@ returns c = record {
   tree = c.folder-folder.ensures.tree;
   links = c.a_tree_has_links.ensures.0;
   are_links = c.a_tree_has_links.ensures.1;
-  constructor = descriptors c.args.tree.now;
-  gives = descriptors_give c.args.tree.now;
+  constructor = (descriptors_given c.args.tree.now).0;
+  gives = (descriptors_given c.args.tree.now).1;
 }
