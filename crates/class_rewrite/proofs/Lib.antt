@@ -9,7 +9,6 @@ pub mod FittingConstructors
 pub mod FittingParts
 pub mod ForeignOperands
 pub mod Reporting
-pub mod WrittenKept
 pub mod SomeClasses
 pub mod WrittenInstrs
 pub mod WrittenFolders
@@ -61,3 +60,29 @@ pub mod EmittedItems
 pub mod LinkedParts
 mod RewrittenFrames
 mod LinkedFrames
+pub mod AttrsWithCode
+pub mod Listed
+pub mod AddedMarks
+pub mod ClearedFields
+pub mod Gathering
+pub mod DecidedMethods
+pub mod DecidedClasses
+pub mod CandidateChains
+pub mod AssembledFolders
+pub mod FinishedClasses
+pub mod OptimisedFolders
+pub mod ItemBytes
+pub mod LastItems
+pub mod StackRoom
+pub mod LaidMethods
+pub mod LongItems
+pub mod StatedNeeds
+pub mod WideEnters
+pub mod ReadyMethods
+pub mod KeptMethods
+pub mod GivenConstructors
+pub mod LocalUnits
+pub mod PoolCopies
+pub mod ContinuedEdits
+pub mod RewrittenParts
+pub mod WrittenParts

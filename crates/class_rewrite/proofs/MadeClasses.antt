@@ -75,7 +75,7 @@ names_none (suc dimensions) some = subst (λ (found : Option Name). IfSome found
 
 -- ---- units
 
-units_same : (fields : List Member) → parameter_units (map (λ (field : Member). type_of field.desc) fields) ≡ units_of_fields fields
+pub units_same : (fields : List Member) → parameter_units (map (λ (field : Member). type_of field.desc) fields) ≡ units_of_fields fields
 units_same [] = refl
 units_same (field ∷ fields) =
     sum_by-cons (λ (type : FieldType). units_of (kind_of type)) (type_of field.desc) (map (λ (one : Member). type_of one.desc) fields)

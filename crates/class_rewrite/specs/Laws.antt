@@ -1,4 +1,3 @@
-pub mod Kept
 pub mod OneReason
 pub mod OneWriting
 pub mod OneFolder
