@@ -1,88 +1,82 @@
+mod LinkedFrames
+mod NamedItems
+mod PlacedFits
+mod RewrittenFrames
+mod SoundItems
+mod SoundNeeds
+mod SpelledWalk
+pub mod AccessedItems
+pub mod AddedConstants
+pub mod AddedMarks
 pub mod AddedTexts
 pub mod AskedCodes
+pub mod AssembledFolders
+pub mod AttrsWithCode
+pub mod CandidateChains
+pub mod CaughtItems
 pub mod CheckedCodes
 pub mod CheckedItems
+pub mod ClearedFields
+pub mod ConstructedItems
+pub mod ContinuedEdits
+pub mod DecidedClasses
+pub mod DecidedMethods
+pub mod DeclaredFolders
+pub mod EmittedItems
 pub mod FileClasses
 pub mod FileLaws
+pub mod FinishedClasses
+pub mod FirstEntries
 pub mod FittingCodes
 pub mod FittingConstructors
 pub mod FittingParts
+pub mod FolderPairs
 pub mod ForeignOperands
-pub mod Reporting
-pub mod SomeClasses
-pub mod WrittenInstrs
-pub mod WrittenFolders
-pub mod MeantOps
-pub mod NeededConstants
-pub mod SameConstants
-pub mod NoHandles
-pub mod AddedConstants
-pub mod StayingIndices
-pub mod FirstEntries
-pub mod WrittenOps
-pub mod WrittenPoints
-pub mod WrittenMethods
-pub mod WrittenSorts
-pub mod WrittenClasses
-pub mod MadeClasses
+pub mod Gathering
+pub mod GivenConstructors
 pub mod GrownConstants
 pub mod GrownFolders
 pub mod GrownTrees
-pub mod StackRoom
-pub mod WholeFolders
-pub mod FolderPairs
-pub mod ReadMajors
-pub mod WrittenScopes
-pub mod DeclaredFolders
-pub mod UsedFolders
-pub mod TypedRewriting
-pub mod TypedFolders
-pub mod SameHandles
-pub mod LastItems
-pub mod WrittenSettings
-pub mod EmittedItems
-pub mod AccessedItems
-pub mod LinkedParts
-pub mod PassingUses
-pub mod ConstructedItems
-pub mod CaughtItems
-pub mod OpenedFields
-pub mod MadeMembers
-pub mod WrittenUses
-pub mod WrittenSettings
-mod NamedItems
-mod SpelledWalk
-mod SoundNeeds
-mod PlacedFits
-mod SoundItems
-pub mod LastItems
-pub mod EmittedItems
-pub mod LinkedParts
-mod RewrittenFrames
-mod LinkedFrames
-pub mod AttrsWithCode
-pub mod Listed
-pub mod AddedMarks
-pub mod ClearedFields
-pub mod Gathering
-pub mod DecidedMethods
-pub mod DecidedClasses
-pub mod CandidateChains
-pub mod AssembledFolders
-pub mod FinishedClasses
-pub mod OptimisedFolders
 pub mod ItemBytes
-pub mod LastItems
-pub mod StackRoom
-pub mod LaidMethods
-pub mod LongItems
-pub mod StatedNeeds
-pub mod WideEnters
-pub mod ReadyMethods
 pub mod KeptMethods
-pub mod GivenConstructors
+pub mod LaidMethods
+pub mod LastItems
+pub mod LinkedParts
+pub mod Listed
 pub mod LocalUnits
+pub mod LongItems
+pub mod MadeClasses
+pub mod MadeMembers
+pub mod MeantOps
+pub mod NeededConstants
+pub mod NoHandles
+pub mod OpenedFields
+pub mod OptimisedFolders
+pub mod PassingUses
 pub mod PoolCopies
-pub mod ContinuedEdits
+pub mod ReadMajors
+pub mod ReadyMethods
+pub mod Reporting
 pub mod RewrittenParts
+pub mod SameConstants
+pub mod SameHandles
+pub mod SomeClasses
+pub mod StackRoom
+pub mod StatedNeeds
+pub mod StayingIndices
+pub mod TypedFolders
+pub mod TypedRewriting
+pub mod UsedFolders
+pub mod WholeFolders
+pub mod WideEnters
+pub mod WrittenClasses
+pub mod WrittenFolders
+pub mod WrittenInstrs
+pub mod WrittenMethods
+pub mod WrittenOps
 pub mod WrittenParts
+pub mod WrittenPoints
+pub mod WrittenScopes
+pub mod WrittenSettings
+pub mod WrittenSorts
+pub mod WrittenUses
