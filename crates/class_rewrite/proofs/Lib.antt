@@ -33,7 +33,7 @@ pub mod StackRoom
 pub mod WholeFolders
 pub mod FolderPairs
 pub mod ReadMajors
-pub mod SoundFolders
+pub mod SoundAdditions
 pub mod WrittenScopes
 pub mod DeclaredFolders
 pub mod UsedFolders
