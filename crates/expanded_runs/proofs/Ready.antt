@@ -17,6 +17,7 @@ mod DecodedForms
 mod LinkedUses
 mod ReadyPoints
 pub mod CarriedPoints
+pub mod VersionPoints
 mod AccessKept
 pub mod UsablePoints
 pub mod UsableCatches

@@ -3,3 +3,4 @@ pub mod ByteCodes
 pub mod CarriedConstants
 pub mod ExpandedPrograms
 pub mod UsableNames
+pub mod VersionsKept
