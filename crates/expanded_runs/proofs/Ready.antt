@@ -21,4 +21,5 @@ pub mod VersionPoints
 mod AccessKept
 pub mod UsablePoints
 pub mod UsableCatches
+pub mod CaughtNames
 pub mod Whole
