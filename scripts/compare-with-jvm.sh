@@ -1,7 +1,8 @@
 #!/usr/bin/env bash
 # compare-with-jvm.sh [NUMBER_OF_FOLDERS] [SEED]: makes random folders (1,000, of seed 1) and runs each on the JVM and by `pea run` with the same
-# script: the events have to be the same, but for the counts of allocations and of monitors. Prints one line where all agree, and else each
-# folder that differs, and where the folders are kept. PEA=FILE takes another program than bin/pea; where neither is there, crates/pea is run
+# script: the events have to be the same, but for the counts of allocations and of monitors. Then each folder is optimised, and the written one is run on
+# the JVM, which verifies its classes, and by `pea both`: the events have to be the same, with no more allocations and monitors. Prints a line for each of
+# the two where all agree, and else each folder that differs, and where the folders are kept. PEA=FILE takes another program than bin/pea; where neither is there, crates/pea is run
 # by `rt try`, without proofs. KEEP=FOLDER keeps all that was made.
 set -eu
 if [ $# -gt 2 ]; then
@@ -54,6 +55,12 @@ done
 java -Xint -cp "$work/player" library.RunFolders "$work" "$seed"
 status=0
 python3 -B compare.py "$work" "$work/lib" ${pea:+"$pea"} || status=$?
+if [ -n "$pea" ]; then
+    mkdir -p "$work"/written/{in,script,wanted}
+    python3 -B compare_written.py optimise "$work" "$work/lib" "$pea" || status=1
+    java -Xint -Xverify:all -cp "$work/player" library.RunFolders "$work/written" "$seed"
+    python3 -B compare_written.py compare "$work" "$work/lib" "$pea" || status=1
+fi
 if [ "$status" != 0 ]; then
     echo "kept in $work"
 elif [ -z "${KEEP:-}" ]; then

@@ -1,6 +1,6 @@
 -- What the instructions of an expanded flat code name, and that the host's code may use it (JVM Specification SE 8, 4.10.1.8 and 5.4.4). It is this
 -- project's profile.
-use Rattle.std.specs.Prelude.{◌≡◌, ℕ, List, slice_get, Some}
+use Rattle.std.specs.Prelude.{◌≡◌, ℕ, slice_get, Some}
 use Rattle.class_model.specs.Checks.{AllHold}
 use Rattle.class_model.specs.Header.{header_of, method_member}
 use Rattle.class_model.specs.declared.frame.Frame.{Frame}
@@ -13,7 +13,6 @@ use Rattle.flow_code.specs.declared.handlers.FlatHandler.{FlatHandler}
 use Rattle.flow_code.specs.declared.point.Point.{Point}
 use Rattle.member_link.specs.Declarations.{site_of}
 use Rattle.member_link.specs.LinkedPlaces.{ClassPasses}
-use Rattle.member_link.specs.RowScope.{RowScope}
 use Rattle.member_link.specs.Rows.Table.{row_of}
 use Rattle.member_link.specs.Scope.{Scope, row_scope}
 use Rattle.member_link.specs.Uses.{UseScope, instr_use_checks}

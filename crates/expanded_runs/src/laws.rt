@@ -11,7 +11,10 @@ ghost use Rattle.expanded_code.specs.ExpandAnswers.{IsExpanded, IsNoHost, IsWide
 ghost use Rattle.expanded_runs.specs.AlonePrograms.{AreAlone};
 ghost use Rattle.expanded_runs.specs.ByteCodes.{HaveByteCodes};
 ghost use Rattle.expanded_runs.specs.CarriedConstants.{CarriesConstants};
+ghost use Rattle.expanded_runs.specs.CaughtNames.{AreNamedCatches};
 ghost use Rattle.expanded_runs.specs.ExpandedPrograms.{AreExpanded};
+ghost use Rattle.expanded_runs.specs.UsableNames.{AreUsableCatches, IsUsableCode};
+ghost use Rattle.expanded_runs.specs.VersionsKept.{AreOfVersion};
 ghost use Rattle.flow_code.specs.FlatCode.{FlatCode, point_at};
 ghost use Rattle.flow_code.specs.TypedFrames.{FolderFrames};
 ghost use Rattle.flow_code.specs.declared.point.Point.{Point};
@@ -186,6 +189,36 @@ pub fn an_expanded_flat_code_carries_constants()
     type_rules::a_typed_body_goes_to_stated_frames();
 }
 
+/// Its instructions of other classes than the host's come from classes of the host's version.
+pub fn an_expanded_flat_code_is_of_one_version()
+    ensures { (classes : Classes) (typed : FolderFrames) (at : MethodAt) (flat : FlatCode) (s : Scope)
+        → TypesFolder classes typed
+        → IsExpanded classes typed at flat
+        → scope_at classes at ≡ Some s
+        → AreOfVersion classes s.class.major flat }
+{
+    type_rules::a_typed_folder_types_each_method();
+    type_rules::a_typed_method_types_each_instruction();
+    type_rules::a_method_stands_in_order();
+    type_rules::frames_type_a_body_by_its_places();
+    type_rules::a_typed_body_goes_to_stated_frames();
+}
+
+/// The classes that its handlers catch are named in the pool of the host's class.
+pub fn an_expanded_flat_code_catches_what_its_host_names()
+    ensures { (classes : Classes) (typed : FolderFrames) (at : MethodAt) (flat : FlatCode) (s : Scope)
+        → TypesFolder classes typed
+        → IsExpanded classes typed at flat
+        → scope_at classes at ≡ Some s
+        → AreNamedCatches s flat }
+{
+    type_rules::a_typed_folder_types_each_method();
+    type_rules::a_typed_method_types_each_instruction();
+    type_rules::a_method_stands_in_order();
+    type_rules::frames_type_a_body_by_its_places();
+    type_rules::a_typed_body_goes_to_stated_frames();
+}
+
 /// The same of the flat code of a method by itself, whose numbers fit in any case.
 pub fn a_flat_code_alone_can_be_planned()
     ensures flows { (classes : Classes) (typed : FolderFrames) (at : MethodAt) (flat : FlatCode)
@@ -207,6 +240,32 @@ pub fn a_flat_code_alone_can_be_planned()
         → IsNarrow flat }
 {
     code_bytes::a_class_file_has_read_methods();
+    type_rules::a_typed_folder_types_each_method();
+    type_rules::a_typed_method_types_each_instruction();
+    type_rules::a_method_stands_in_order();
+    type_rules::frames_type_a_body_by_its_places();
+    type_rules::a_typed_body_goes_to_stated_frames();
+}
+
+/// What an expanded flat code names may be used in the host's code (JVM Specification SE 8, 4.10.1.8 and 5.4.4). An instruction of the host's own code
+/// passes linking there, and behind its stack the host may use the protected member that it names; one of a callee passes linking in the callee's class,
+/// and what it names is accessible from the host's class (`code`). The classes that handlers catch are there and accessible (`catches`). The folder is
+/// verified: it is linked and frames type it.
+pub fn an_expanded_flat_code_names_what_the_host_may_use()
+    ensures code { (classes : Classes) (typed : FolderFrames) (at : MethodAt) (flat : FlatCode) (s : Scope)
+        → IsLinked classes
+        → TypesFolder classes typed
+        → IsExpanded classes typed at flat
+        → scope_at classes at ≡ Some s
+        → IsUsableCode classes s flat }
+    ensures catches { (classes : Classes) (typed : FolderFrames) (at : MethodAt) (flat : FlatCode) (s : Scope)
+        → IsLinked classes
+        → TypesFolder classes typed
+        → IsExpanded classes typed at flat
+        → scope_at classes at ≡ Some s
+        → AreUsableCatches s flat }
+{
+    member_link::a_linked_folder_passes_by_place();
     type_rules::a_typed_folder_types_each_method();
     type_rules::a_typed_method_types_each_instruction();
     type_rules::a_method_stands_in_order();

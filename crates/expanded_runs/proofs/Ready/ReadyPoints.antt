@@ -193,7 +193,7 @@ module _ (u : Setup) (is_setup : IsSetup u) (linked : IsLinked u.classes) (names
         (decoded_forms (scope_of p).part.code d.instrs
         (bytes.each p.setting.coded.at (scope_of p) (stands chain p standing).has.is_scope) short d.decodes) d.there in
         let operand = operand_fits names is_setup.tree linked is_setup.hierarchy p.setting.coded.at (scope_of p) where_is k placed d in
-        let there = code_there names is_setup.tree linked is_setup.hierarchy p.setting.coded.at (scope_of p) where_is in
+        let there = code_there (scope_of p) where_is in
         let uses = (names.by_place u.classes linked).instructions p.setting.coded.at.class p.setting.coded.at.method k there d.instrs placed d.decodes
         d.there in
         ready (set_instr p.setting placed.instr)

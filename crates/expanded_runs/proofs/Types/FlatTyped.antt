@@ -39,7 +39,7 @@ use Rattle.type_rules.specs.Verified.{TypesFolder}
 
 -- ---- what each point has around it
 
-abbrev HasHandlers : List FlatHandler → Point → Type 0
+abbrev pub HasHandlers : List FlatHandler → Point → Type 0
 HasHandlers handlers point = point.handlers ≡ handlers
 
 all_joined : {A : Type 0} (P : A → Type 0) (ones others : List A) → AllByRecursion P ones → AllByRecursion P others → AllByRecursion P (ones ++ others)
@@ -57,7 +57,7 @@ returns_have t at typed behind =
       narrowed [] = tt
       narrowed (n ∷ all) = (refl, narrowed all)
 
-instr_have : (t : Setting) (placed : Placed) (frame : Frame) → AllByRecursion (HasHandlers (t.handlers placed.at)) (instr_points t placed frame)
+pub instr_have : (t : Setting) (placed : Placed) (frame : Frame) → AllByRecursion (HasHandlers (t.handlers placed.at)) (instr_points t placed frame)
 instr_have t placed frame = by t.behind refl placed.instr refl where
   by : (behind : Option ℕ) → t.behind ≡ behind → (instr : Instr) → placed.instr ≡ instr
       → AllByRecursion (HasHandlers (t.handlers placed.at)) (instr_points t placed frame)
@@ -65,7 +65,7 @@ instr_have t placed frame = by t.behind refl placed.instr refl where
   by (Some behind) b (Return kind) i = rw (b, i) (returns_have t placed.at (set_frame t frame) behind)
   by (Some behind) b instr i = rw (b, i) (refl, tt)
 
-entry_have : (t : Setting) (at : ℕ) (frame : Frame) (callee : Scope) (unit : ℕ)
+pub entry_have : (t : Setting) (at : ℕ) (frame : Frame) (callee : Scope) (unit : ℕ)
     → AllByRecursion (HasHandlers (t.handlers at)) (points_of_entry t at frame callee unit)
 entry_have t at frame callee unit =
     all_joined (HasHandlers (t.handlers at)) (store_points t at frame (reverse (arguments callee unit)))

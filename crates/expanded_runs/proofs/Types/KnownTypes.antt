@@ -105,10 +105,27 @@ each_asked asks (first ∷ items) hold (suc n) item is =
     each_asked asks items (others_hold (asks first) (asked_each asks items) hold) n item is
 
 -- a Code attribute among those of a method
-code_attr : (attrs : List Attr) (part : CodePart) → code_of attrs ≡ Some part → (n : ℕ) × (name : ℕ) × (slice_get attrs n ≡ Some (Code name part))
+pub code_attr : (attrs : List Attr) (part : CodePart) → code_of attrs ≡ Some part → (n : ℕ) × (name : ℕ) × (slice_get attrs n ≡ Some (Code name part))
 code_attr [] part is = absurd (none-some part is)
 code_attr (Code name own ∷ attrs) part is = (zero, name, ap (λ (p : CodePart). Some (Code name p)) (same_Some own part is))
 code_attr (Raw name bytes ∷ attrs) part is = let c = code_attr attrs part is in (suc c.0, c.1, c.2)
+
+-- the code of a method by its place
+abbrev pub code_there : {classes : Classes} {at : MethodAt} (s : Scope) → IsScopeAt classes at s → CodeAt classes at.class at.method
+code_there {at = at} s where_is =
+    let attr = code_attr s.method.attrs s.part where_is.has_code in
+    record {
+      class = s.class;
+      method = s.method;
+      member = method_member s.class.pool s.method;
+      attr_number = attr.0;
+      name = attr.1;
+      part = s.part;
+      class_is = where_is.of_folder;
+      method_is = where_is.of_class;
+      member_is = slice_get-map (method_member s.class.pool) s.class.methods at.method ∙ ap (option_map (method_member s.class.pool)) where_is.of_class;
+      code_is = attr.2;
+    }
 
 -- an instruction of a code that is decoded
 pub record DecodedAt (part : CodePart) (number : ℕ) (placed : Placed) : Type 0 where
@@ -157,23 +174,6 @@ module _ (laws : NameLaws) {classes : Classes} (tree : IsTree classes) (linked :
 
   -- ---- the code by its place
 
-  pub attr : (n : ℕ) × (name : ℕ) × (slice_get s.method.attrs n ≡ Some (Code name s.part))
-  attr = code_attr s.method.attrs s.part where_is.has_code
-
-  abbrev pub code_there : CodeAt classes at.class at.method
-  code_there = record {
-    class = s.class;
-    method = s.method;
-    member = method_member s.class.pool s.method;
-    attr_number = attr.0;
-    name = attr.1;
-    part = s.part;
-    class_is = where_is.of_folder;
-    method_is = where_is.of_class;
-    member_is = slice_get-map (method_member s.class.pool) s.class.methods at.method ∙ ap (option_map (method_member s.class.pool)) where_is.of_class;
-    code_is = attr.2;
-  }
-
   abbrev pub site : Site
   site = site_of (header_of s.class) (method_member s.class.pool s.method)
 
@@ -191,7 +191,7 @@ module _ (laws : NameLaws) {classes : Classes} (tree : IsTree classes) (linked :
   instr_has : (k : ℕ) (placed : Placed) → slice_get (instructions s) k ≡ Some placed → PoolNamed (row_scope s) placed.instr
   instr_has k placed is =
       let d = decoded_at s k placed is in
-      let uses = (laws.by_place classes linked).instructions at.class at.method k code_there d.instrs placed d.decodes d.there in
+      let uses = (laws.by_place classes linked).instructions at.class at.method k (code_there s where_is) d.instrs placed d.decodes d.there in
       instr_named laws.descriptors s site
       (subst (λ (hs : Headers). FileFacts hs s.class.major s.class.pool) (sym where_is.headers) facts) placed.instr (operand_fits k placed d)
       (subst (λ (hs : Headers). AllHold (instr_use_checks (record { headers = hs; pool = s.class.pool; site = site }) placed.instr))
@@ -200,7 +200,7 @@ module _ (laws : NameLaws) {classes : Classes} (tree : IsTree classes) (linked :
   stated_has : (place : ℕ) (frame : Frame) → stated_at s place ≡ Some frame → AreNamed s.headers frame
   stated_has place frame is =
       let one = one_of (stated s) place frame is in
-      let checks = (laws.by_place classes linked).frames at.class at.method one.number code_there one.placed one.there in
+      let checks = (laws.by_place classes linked).frames at.class at.method one.number (code_there s where_is) one.placed one.there in
       subst (AreNamed s.headers) one.same
       (frame_named (record { headers = s.headers; pool = s.class.pool; site = site }) one.placed
       (subst (λ (hs : Headers). AllHold (frame_checks (record { headers = hs; pool = s.class.pool; site = site }) one.placed))
