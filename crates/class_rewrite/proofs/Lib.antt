@@ -40,6 +40,17 @@ pub mod GrownTrees
 pub mod ItemBytes
 pub mod KeptMethods
 pub mod LaidMethods
+pub mod StackRoom
+pub mod WholeFolders
+pub mod FolderPairs
+pub mod ReadMajors
+pub mod SoundAdditions
+pub mod WrittenScopes
+pub mod DeclaredFolders
+pub mod UsedFolders
+pub mod TypedRewriting
+pub mod TypedFolders
+pub mod SameHandles
 pub mod LastItems
 pub mod LinkedParts
 pub mod Listed

@@ -2,7 +2,7 @@ use Rattle.std.proofs.Common.{List}
 use Rattle.class_model.specs.declared.class_file.ClassFile.{ClassFile}
 use Rattle.class_rewrite.proofs.FileClasses.{all_files}
 use Rattle.class_rewrite.proofs.FileLaws.{FileLaws}
-use Rattle.class_rewrite.proofs.SoundFolders.{TextLaws, constructor_sound, making_sound}
+use Rattle.class_rewrite.proofs.SoundAdditions.{TextLaws, constructor_sound, making_sound}
 use Rattle.class_rewrite.proofs.file_laws.written_classes_are_class_files.Goals as goal
 use Rattle.class_rewrite.specs.Inner.FittingFolders.{HasFittingMethods, IsFittedFolder}
 use Rattle.class_rewrite.specs.Inner.ReadyFolders.{IsReadyFolder}
