@@ -1,13 +1,20 @@
 -- What was written means what was read.
-use Rattle.std.proofs.Common.{◌≡◌, ℕ, zero, suc, List, [], ◌∷◌, cond, Option, Some, None, is_some, IsTrue, slice_get, refl, sym, ap, ◌∙◌, subst}
+use Rattle.std.proofs.Common.{◌≡◌, ◌≤◌, ◌+◌, ℕ, zero, suc, Bool, true, false, bytes_eq, count_by, length, map, arith, List, [], ◌∷◌, cond, Option, Some, None, is_some, IsTrue, slice_get, refl, sym, ap, ◌∙◌, subst}
+use Rattle.std.proofs.lemmas.List.Sorted.{IsPermutation-map}
+use Rattle.std.proofs.lemmas.List.Sums.{sum_by-append, sum_by-cons}
+use Rattle.std.proofs.lemmas.Slice.Eq.{bytes_eq-Decides}
 use Rattle.std.specs.List.{AllByRecursion}
+use Rattle.std.specs.List.Sorted.{IsPermutation}
+use Rattle.class_model.specs.Header.{header_of}
 use Rattle.class_model.specs.ClassOf.{ClassOf}
 use Rattle.class_model.specs.Spelling.{class_bytes}
 use Rattle.class_model.specs.declared.class_file.ClassFile.{ClassFile}
-use Rattle.class_rewrite.specs.Laws.Kept.{written_is_kept}
+use Rattle.class_rewrite.specs.Laws.WrittenLists.{written_len}
 use Rattle.class_rewrite.specs.Optimised.{with_folder}
+use Rattle.class_rewrite.specs.Rewriting.Methods.{rewriting_of}
+use Rattle.class_model.specs.declared.header.Header.{Header}
 use Rattle.class_tree.specs.Headers.{Classes, IsClassFile}
-use Rattle.class_tree.specs.Trees.{IsArranged}
+use Rattle.class_tree.specs.Trees.{IsArranged, IsTree}
 use Rattle.host_tree.specs.Host.{Bytes, Folder, Files}
 use Rattle.pea_top.specs.Effects.{ArePut, DoneFiles, Leaves, LeavesDone}
 use Rattle.pea_top.specs.Status.{Ending, completed, refused, failed, out_of_memory}
@@ -29,23 +36,93 @@ item_is P (y ∷ ys) (suc n) x are is = item_is P ys n x are.1 is
 abbrev OneClass : Type 0
 OneClass = (bytes : List ℕ) (one other : ClassFile) → ClassOf bytes one → ClassOf bytes other → one ≡ other
 
-module _ (one_class : OneClass) (tree : Classes) (written : List ClassFile) (kept : written ≡ tree.folder) (spelled : AllByRecursion IsClassFile written) (input final : Folder) (are : AreFinal tree written input final) where
-  -- a class file is written as the class that it is read as
-  class_of_final : (name before after : Bytes) (value : ClassFile) → IsTrue (names_class_file name) → ClassOf before value → IsFinal tree written name before after → ClassOf after value
+-- ---- the written class of a class, by its name
+
+abbrev name_of : ClassFile → List ℕ
+name_of class = (header_of class).name
+
+abbrev moved : List ClassFile → List ClassFile → ClassFile → ClassFile
+moved [] news class = class
+moved (old ∷ olds) [] class = class
+moved (old ∷ olds) (new ∷ news) class = cond (bytes_eq (name_of class) (name_of old)) new (moved olds news class)
+
+-- how many have a name
+abbrev how_many : List ℕ → List ClassFile → ℕ
+how_many name classes = count_by (λ header. bytes_eq name header.name) (map header_of classes)
+
+count_first : (name : List ℕ) (class : ClassFile) (classes : List ClassFile) → how_many name (class ∷ classes) ≡ cond (bytes_eq name (name_of class)) 1 0 + how_many name classes
+count_first name class classes = sum_by-cons (λ (header : Header). cond (bytes_eq name header.name) 1 0) (header_of class) (map header_of classes)
+
+there_counts : (classes : List ClassFile) (n : ℕ) (class : ClassFile) → slice_get classes n ≡ Some class → 1 ≤ how_many (name_of class) classes
+there_counts [] n class is = absurd cc
+there_counts (first ∷ classes) zero class is =
+    let same : first ≡ class = cc is in
+    let own : cond (bytes_eq (name_of class) (name_of first)) 1 0 ≡ 1 = ap {B = ℕ} (λ b. cond b 1 0) ((bytes_eq-Decides (name_of class) (name_of first)).1 (ap name_of (sym same))) in
+    let parts = count_first (name_of class) first classes in
+    omega (arith, own, parts)
+there_counts (first ∷ classes) (suc n) class is =
+    let parts = count_first (name_of class) first classes in
+    let rest = there_counts classes n class is in
+    omega (arith, parts, rest)
+
+moved_at : (olds news : List ClassFile) (n : ℕ) (class last : ClassFile) → how_many (name_of class) olds ≤ 1 → slice_get olds n ≡ Some class → slice_get news n ≡ Some last
+    → moved olds news class ≡ last
+moved_at [] news n class last once is is_last = absurd cc
+moved_at (old ∷ olds) [] n class last once is is_last = absurd cc
+moved_at (old ∷ olds) (new ∷ news) zero class last once is is_last =
+    let same : old ≡ class = cc is in
+    let is_new : new ≡ last = cc is_last in
+    ap (λ b. cond b new (moved olds news class)) ((bytes_eq-Decides (name_of class) (name_of old)).1 (ap name_of (sym same))) ∙ is_new
+moved_at (old ∷ olds) (new ∷ news) (suc n) class last once is is_last = by (bytes_eq (name_of class) (name_of old)) refl where
+  parts : how_many (name_of class) (old ∷ olds) ≡ cond (bytes_eq (name_of class) (name_of old)) 1 0 + how_many (name_of class) olds
+  parts = count_first (name_of class) old olds
+
+  by : (b : Bool) → bytes_eq (name_of class) (name_of old) ≡ b → moved (old ∷ olds) (new ∷ news) class ≡ last
+  by true e =
+      let here : cond (bytes_eq (name_of class) (name_of old)) 1 0 ≡ 1 = ap {B = ℕ} (λ b. cond b 1 0) e in
+      let rest = there_counts olds n class is in
+      absurd (omega (arith, once, parts, here, rest))
+  by false e = ap (λ b. cond b new (moved olds news class)) e ∙ moved_at olds news n class last (omega (arith, once, parts)) is is_last
+
+map_is : (f : ClassFile → ClassFile) (olds news : List ClassFile) → length news ≡ length olds
+    → ((n : ℕ) (old new : ClassFile) → slice_get olds n ≡ Some old → slice_get news n ≡ Some new → f old ≡ new)
+    → map f olds ≡ news
+map_is f [] [] long each = refl
+map_is f [] (new ∷ news) long each = absurd (omega (arith, long))
+map_is f (old ∷ olds) [] long each = absurd (omega (arith, long))
+map_is f (old ∷ olds) (new ∷ news) long each =
+    let first : f old ≡ new = each zero old new refl refl in
+    let rest : map f olds ≡ news = map_is f olds news (omega (arith, long)) (λ n one other is is_also. each (suc n) one other is is_also) in
+    cc (first, rest)
+
+module _ (one_class : OneClass) (tree : Classes) (is_tree : IsTree tree) (written : List ClassFile) (long : length written ≡ length tree.folder) (spelled : AllByRecursion IsClassFile written) (input final : Folder) (are : AreFinal tree written input final) where
+  once : (class : ClassFile) → how_many (name_of class) tree.folder ≤ 1
+  once class =
+      let all = is_tree.in_order.once (name_of class) in
+      let parts = sum_by-append (λ (header : Header). cond (bytes_eq (name_of class) header.name) 1 0) (map header_of tree.folder) tree.library in
+      omega (arith, all, parts)
+
+  abbrev written_for : ClassFile → ClassFile
+  written_for class = moved tree.folder written class
+
+  all_written_for : map written_for tree.folder ≡ written
+  all_written_for = map_is written_for tree.folder written long (λ n old new is is_also. moved_at tree.folder written n old new (once old) is is_also)
+
+  -- a class file is written as the class that is written for the one that it is read as
+  class_of_final : (name before after : Bytes) (value : ClassFile) → IsTrue (names_class_file name) → ClassOf before value → IsFinal tree written name before after → ClassOf after (written_for value)
   class_of_final name before after value named of (optimising.other_file not_named same) = absurd (not_named named)
   class_of_final name before after value named of (optimising.class_file class last number _ its_of stands is_written after_is) =
       let one : class ≡ value = one_class before class value its_of of in
-      let both : Some last ≡ Some class = sym is_written ∙ ap (λ (folder : List ClassFile). slice_get folder number) kept ∙ stands in
-      let same : last ≡ value = cc (one, both) in
+      let same : written_for value ≡ last = ap written_for (sym one) ∙ moved_at tree.folder written number class last (once class) stands is_written in
       let is : ClassOf (class_bytes last) last = item_is IsClassFile written number last spelled is_written in
-      subst (λ (bytes : Bytes). ClassOf bytes value) (sym after_is) (subst (λ (class : ClassFile). ClassOf (class_bytes last) class) same is)
+      subst (λ (bytes : Bytes). ClassOf bytes (written_for value)) (sym after_is) (subst (λ (class : ClassFile). ClassOf (class_bytes last) class) (sym same) is)
 
-  reads : {names : List Bytes} {values : List ClassFile} → AreReadAs ClassOf input names values → AreReadAs ClassOf final names values
+  reads : {names : List Bytes} {values : List ClassFile} → AreReadAs ClassOf input names values → AreReadAs ClassOf final names (map written_for values)
   reads no_name = no_name
   reads (class_file name bytes names value values named there of rest) =
       let each = are.each name bytes there in
-      class_file name each.0 names value values named each.1 (class_of_final name bytes each.0 value named of each.2) (reads rest)
-  reads (other_file name names values not_named rest) = other_file name names values not_named (reads rest)
+      class_file name each.0 names (written_for value) (map written_for values) named each.1 (class_of_final name bytes each.0 value named of each.2) (reads rest)
+  reads (other_file name names values not_named rest) = other_file name names (map written_for values) not_named (reads rest)
 
   same_held : (name : Bytes) → is_some (final name) ≡ is_some (input name)
   same_held name = by (input name) refl
@@ -54,7 +131,7 @@ module _ (one_class : OneClass) (tree : Classes) (written : List ClassFile) (kep
       by None e = ap is_some (are.no_other name e) ∙ sym (ap is_some e)
       by (Some before) e = ap is_some (are.each name before e).1 ∙ sym (ap is_some e)
 
-  final_read : {values : List ClassFile} → HasClassFiles ClassOf input values → HasClassFiles ClassOf final values
+  final_read : {values : List ClassFile} → HasClassFiles ClassOf input values → HasClassFiles ClassOf final (map written_for values)
   final_read has = record {
     names = has.names;
     are_names = record { once = λ name. has.are_names.once name ∙ ap {B = ℕ} (λ b. cond b 1 0) (sym (same_held name)); in_order = has.are_names.in_order };
@@ -91,10 +168,17 @@ means_the_same one_class input output library old new puts =
     let are = puts.are in
     let written = puts.optimised.classes in
     let keeps = are.is.keeps in
-    let kept = written_is_kept tree are.verified.typed written are.is.written in
+    let is_tree = are.verified.tree in
+    let long : length written ≡ length tree.folder = written_len (rewriting_of tree are.verified.typed are.is.links are.is.constructor) written are.is.written in
     let spelled = keeps.verified.tree.folder in
-    let arranged : IsArranged are.classes are.headers (with_folder tree written) = subst (λ (folder : List ClassFile). IsArranged are.classes are.headers (with_folder tree folder)) (sym kept) are.arranged in
-    let read = final_read one_class tree written kept spelled (old input) puts.final puts.are_final are.read.classes_read in
+    let arranged : IsArranged (map (moved tree.folder written) are.classes) are.headers (with_folder tree written) = record {
+      folder_same = subst (IsPermutation (map (moved tree.folder written) are.classes)) (all_written_for one_class tree is_tree written long keeps.verified.tree.folder (old input) puts.final puts.are_final)
+          (IsPermutation-map (moved tree.folder written) are.classes tree.folder are.arranged.folder_same);
+      library_same = are.arranged.library_same;
+      folder_sorted = keeps.verified.tree.in_order.folder;
+      library_sorted = are.arranged.library_sorted;
+    } in
+    let read = final_read one_class tree is_tree written long spelled (old input) puts.final puts.are_final are.read.classes_read in
     let at_final : MeansTheSame (old input) (old library) puts.final =
     record {
       before = keeps.runs.first;
@@ -110,7 +194,7 @@ means_the_same one_class input output library old new puts =
       };
       after = keeps.runs.second;
       is_after = record {
-        files = are.classes;
+        files = map (moved tree.folder written) are.classes;
         files_read = read;
         headers = are.headers;
         headers_read = are.read.headers_read;
@@ -120,11 +204,11 @@ means_the_same one_class input output library old new puts =
         program = keeps.runs.is_second;
       };
       same_runs = keeps.runs.same_runs;
-      there = λ name some. same_held one_class tree written kept spelled (old input) puts.final puts.are_final name ∙ some;
-      other_files = final_others one_class tree written kept spelled (old input) puts.final puts.are_final;
+      there = λ name some. same_held one_class tree is_tree written long spelled (old input) puts.final puts.are_final name ∙ some;
+      other_files = final_others one_class tree is_tree written long spelled (old input) puts.final puts.are_final;
     }
     in
-    subst (λ (folder : Folder). MeansTheSame (old input) (old library) folder) (under_is_final one_class tree written kept spelled (old input) puts.final puts.are_final (new output) puts.put.put) at_final
+    subst (λ (folder : Folder). MeansTheSame (old input) (old library) folder) (under_is_final one_class tree is_tree written long spelled (old input) puts.final puts.are_final (new output) puts.put.put) at_final
 
 -- a call that was done with words that spell this command
 pub done_means : OneClass → ((words : List Word) (one other : Command) → Spells one words → Spells other words → one ≡ other) → (words : List Word) (input output library : Bytes) (old new : Files) → Spells (OnFolder input library (Optimise output)) words → LeavesDone words old new

@@ -18,7 +18,7 @@ use Rattle.host_tree.specs.declared.call.HostCall.TheVariants as calls
 use Rattle.machine_values.specs.declared.action.Action.{Action}
 use Rattle.member_link.specs.Machine.Runs.{shown_after}
 use Rattle.pea_top.proofs.Copying.{files_are_put, files_are_partly_put}
-use Rattle.pea_top.proofs.WrittenFiles.{written_final, written_same}
+use Rattle.pea_top.proofs.WrittenFiles.{folder_of, written_files, written_final}
 use Rattle.pea_top.specs.Answer.{AreRead, IsFirstOf, IsScriptThere, HasScript, CanDo, IsCommandAnswer, HasAnswer, IsAnswer, CauseOf}
 use Rattle.pea_top.specs.Both.{AreBothShown}
 use Rattle.pea_top.specs.Effects.{DoneFiles, IsNeverStuck, LeavesDone, LeavesPart, IsRunText, IsBothText, IsTaskText, IsListingText, IsDoneText, IsSummary, PrintsPart, PrintsLine, before_work, in_refusal, in_writes, in_print, Leaves}
@@ -207,10 +207,10 @@ module _ (words : List Word) (input output library : Word) (spelled : Spells (On
   optimised : AreOptimised (old input) (old library) tree is.optimised
   optimised = optimised_as ready typed types is.optimised is.is
 
-  out_are : AreFiles (old input) out.files.items
-  out_are = subst (AreFiles (old input)) (sym (written_same tree is.optimised.classes files out.files.items is.written)) ready.prepared.read.good.are
+  out_are : AreFiles (folder_of out.files.items) out.files.items
+  out_are = written_files tree is.optimised.classes (old input) files out.files.items ready.prepared.read.good.are is.written
 
-  finals : AreFinal tree is.optimised.classes (old input) (old input)
+  finals : AreFinal tree is.optimised.classes (old input) (folder_of out.files.items)
   finals = written_final tree is.optimised.classes (old input) files out.files.items ready.prepared.read.good.are is.written
 
   is_line : IsTaskText input library (Optimise output) old (length files) ready.classes out.line.items
@@ -225,14 +225,14 @@ module _ (words : List Word) (input output library : Word) (spelled : Spells (On
   are_put puts = record {
     command = OnFolder input library (Optimise output);
     spelled = spelled;
-    files = record { tree = tree; optimised = is.optimised; are = optimised; final = old input; are_final = finals; put = files_are_put (old input) output out.files.items old new out_are puts };
+    files = record { tree = tree; optimised = is.optimised; are = optimised; final = folder_of out.files.items; are_final = finals; put = files_are_put (folder_of out.files.items) output out.files.items old new out_are puts };
   }
 
   are_partly_put : PutsSome output out.files.items old new → LeavesPart words old new
   are_partly_put puts = record {
     command = OnFolder input library (Optimise output);
     spelled = spelled;
-    files = record { tree = tree; optimised = is.optimised; are = optimised; final = old input; are_final = finals; put = files_are_partly_put (old input) output out.files.items old new out_are puts };
+    files = record { tree = tree; optimised = is.optimised; are = optimised; final = folder_of out.files.items; are_final = finals; put = files_are_partly_put (folder_of out.files.items) output out.files.items old new out_are puts };
   }
 
   can : CanDo words old

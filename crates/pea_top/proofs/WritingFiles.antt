@@ -5,7 +5,9 @@ use Rattle.std.proofs.lemmas.List.Sorted.{Contains-permutation}
 use Rattle.std.proofs.lemmas.Option.{slice_get-map, slice_get_within, get_or_from_slice_get}
 use Rattle.std.specs.List.{Contains}
 use Rattle.std.specs.Option.{option_map}
+use Rattle.class_bytes.specs.Counts.{FitsCounts}
 use Rattle.class_model.specs.Header.{header_of}
+use Rattle.class_model.specs.Laws.Lists.{at_index}
 use Rattle.class_model.specs.Spelling.{class_bytes}
 use Rattle.class_model.specs.declared.class_file.ClassFile.{ClassFile}
 use Rattle.class_model.specs.declared.header.Header.{Header}
@@ -15,7 +17,7 @@ use Rattle.class_tree.specs.Order.{place_of}
 use Rattle.class_tree.specs.Trees.{IsArranged}
 use Rattle.class_tree.specs.declared.place.Place.TheVariants.{Folder}
 use Rattle.pea_top.specs.Folders.{names_class_file}
-use Rattle.pea_top.specs.Inner.Optimising.{AreWrittenFiles, IsWrittenFile, StandsWritten}
+use Rattle.pea_top.specs.Inner.Optimising.{AreWrittenFiles, HasWritten, IsWrittenFile, StandsWritten}
 use Rattle.pea_top.specs.Inner.ReadFiles.{AreClassesOf, AreFilesOf, IsReadAs, and_class, and_other, class_names}
 use Rattle.pea_top.specs.Optimising as optimising
 use Rattle.pea_top.specs.declared.folder.NamedFile.{NamedFile}
@@ -29,6 +31,11 @@ at_number : {X : Type 0} (xs : List X) (n : ℕ) (x : X) → n < length xs → g
 at_number [] n x within is = absurd (omega arith)
 at_number (y ∷ ys) zero x within is = ap Some is
 at_number (y ∷ ys) (suc n) x within is = at_number ys n x (omega (arith, within)) is
+
+some_at : {X : Type 0} (xs : List X) (n : ℕ) → n < length xs → (x : X) × (slice_get xs n ≡ Some x)
+some_at [] n within = absurd (omega arith)
+some_at (y ∷ ys) zero within = (y, refl)
+some_at (y ∷ ys) (suc n) within = some_at ys n (omega (arith, within))
 
 first_left : {X : Type 0} (xs ys : List X) (n : ℕ) (x : X) → drop n xs ≡ x ∷ ys → slice_get xs n ≡ Some x
 first_left [] ys zero x is = absurd cc
@@ -106,7 +113,7 @@ module _ {tree : Classes} {written : List ClassFile} {files left outs : List Nam
 
   -- a file that is no class file is written as it is
   pub other_written : ¬ IsTrue (names_class_file file.name) → AreWritten tree written files left (outs ++ file ∷ []) names next
-  other_written not_named = moved file (record { name = refl; final = optimising.other_file not_named refl; same = refl }) next (next_other not_named so_far.pairs)
+  other_written not_named = moved file (record { name = refl; final = optimising.other_file not_named refl }) next (next_other not_named so_far.pairs)
 
   module _ (named : IsTrue (names_class_file file.name)) where
     here : NextClass file left (drop next so_far.classes)
@@ -123,25 +130,26 @@ module _ {tree : Classes} {written : List ClassFile} {files left outs : List Nam
     name_within = slice_get_within names next (header_of here.class).name name_here
 
     -- and it stands in the written folder under that name
-    pub stands_written : IsHierarchy (headers_of tree) → written ≡ tree.folder → (name : Name) → name ≡ get_or names next name → StandsWritten tree written name file
-    stands_written hierarchy kept name is =
+    pub stands_written : IsHierarchy (headers_of tree) → HasWritten tree written → (name : Name) → name ≡ get_or names next name → StandsWritten tree written name file
+    stands_written hierarchy has name is =
         let class = here.class in
         let found = Contains-permutation so_far.classes tree.folder class so_far.arranged.folder_same (item_contained so_far.classes next class class_here) in
         let number = found.0 in
         let stands : slice_get tree.folder number ≡ Some class = at_number tree.folder number class found.1 found.2 in
         let header = slice_get-map header_of tree.folder number ∙ ap (option_map header_of) stands in
         let its_name : name ≡ (header_of class).name = is ∙ get_or_from_slice_get names next (header_of class).name name name_here in
+        let low : number < length written = let within = slice_get_within tree.folder number class stands in let long = has.len in omega (arith, within, long) in
+        let last = some_at written number low in
         let placed = hierarchy.of_place (Folder number) (header_of class) header in
         record {
           class = class;
-          final = class;
+          final = last.0;
           number = number;
           is_place = ap (place_of (headers_of tree)) its_name ∙ placed.is_place;
           read = here.is;
           stands = stands;
-          is_written = ap (λ (folder : List ClassFile). slice_get folder number) kept ∙ stands;
-          fits = here.is.fits;
-          same = refl;
+          is_written = last.1;
+          fits = at_index FitsCounts written number last.0 has.fit last.1;
         }
 
     pub class_written : (out : NamedFile) → IsWrittenFile tree written file out → AreWritten tree written files left (outs ++ out ∷ []) names (next + 1)
@@ -156,7 +164,6 @@ pub written_of : (tree : Classes) (written : List ClassFile) (name : Name) (file
 written_of tree written name file out stands named bytes = record {
   name = named;
   final = optimising.class_file stands.class stands.final stands.number stands.read.named stands.read.is stands.stands stands.is_written bytes;
-  same = bytes ∙ ap class_bytes stands.same ∙ sym stands.read.spelled;
 }
 
 -- the class that was read off these items at the number of a place

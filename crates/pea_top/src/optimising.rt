@@ -1,7 +1,7 @@
 //! What is written of an optimised folder, and what is printed of it.
-ghost use Rattle.std.specs.Prelude.{◌≡◌, IfOk};
+ghost use Rattle.std.specs.Prelude.{IfOk};
 ghost use Rattle.member_link.specs.Linked.{IsLinked};
-ghost use Rattle.pea_top.specs.Inner.Optimising.{AreWrittenFiles, IsOutput, IsReported, IsWrittenFile, StandsWritten};
+ghost use Rattle.pea_top.specs.Inner.Optimising.{AreWrittenFiles, HasWritten, IsOutput, IsReported, IsWrittenFile, StandsWritten};
 ghost use Rattle.pea_top.specs.Inner.ReadFiles.{AreFilesOf};
 ghost use Rattle.type_rules.specs.Verified.{TypesFolder};
 
@@ -13,6 +13,7 @@ use class_rewrite::{Optimised, optimise_folder, rewritten};
 use class_tree::{ClassFileList, Place, Tree, a_tree_is_a_hierarchy};
 use std::alloc::Global;
 use type_rules::TypedFolder;
+use written_files::a_class_file_fits_its_items;
 
 /// The files that are written, and the line that sums them up.
 #[derive(Drop)]
@@ -34,6 +35,7 @@ pub(crate) fn output_of(
     requires files { AreFilesOf files.items tree.now names.now }
     ensures { IfOk result (IsOutput tree.now typed.now files.items) }
 {
+    a_class_file_fits_its_items();
     let Optimised { classes, report } = optimise_folder(alloc, tree, typed)?;
     let changed = rewritten(&report);
     let kept = report.len() - changed;
@@ -65,7 +67,7 @@ fn written_files(
     names: &[Text],
 ) -> Result<Vec<NamedFile>, NoMemory>
     requires files { AreFilesOf files.items tree.now names.now }
-    requires kept { written.now ≡ tree.now.folder }
+    requires written { HasWritten tree.now written.now }
     ensures { IfOk result (λ outs. AreWrittenFiles tree.now written.now files.items outs.items) }
 {
     a_tree_is_a_hierarchy(tree);

@@ -1,5 +1,6 @@
 -- What is written of an optimised folder, file by file.
 use Rattle.std.specs.Prelude.{◌≡◌, ◌-◌, ℕ, List, [], ◌∷◌, length, slice_get, Some}
+use Rattle.std.specs.List.{AllByRecursion}
 use Rattle.class_bytes.specs.Counts.{FitsCounts}
 use Rattle.class_model.specs.declared.class_file.ClassFile.{ClassFile}
 use Rattle.class_rewrite.specs.Optimised.{IsOptimised}
@@ -16,12 +17,16 @@ use Rattle.pea_top.specs.Optimising.{IsFinal}
 use Rattle.pea_top.specs.declared.folder.NamedFile.{NamedFile}
 use Rattle.pea_top.specs.declared.optimising.Output.{Output}
 
--- A file and what is written of it, under the same name. While no method is rewritten it has the same bytes.
+-- a file and what is written of it, under the same name
 pub record IsWrittenFile (tree : Classes) (written : List ClassFile) (file out : NamedFile)
     : Type 0 where
   pub name : out.name ≡ file.name
   pub final : IsFinal tree written file.name file.bytes out.bytes
-  pub same : out.bytes ≡ file.bytes
+
+-- a written class for each class of the folder, whose lists fit the items that count them
+pub record HasWritten (tree : Classes) (written : List ClassFile) : Type 0 where
+  pub len : length written ≡ length tree.folder
+  pub fit : AllByRecursion FitsCounts written
 
 -- The class of this name is the one that the class file is read as, and stands in the written folder under the same number.
 pub record StandsWritten (tree : Classes) (written : List ClassFile) (name : Name)
@@ -35,7 +40,6 @@ pub record StandsWritten (tree : Classes) (written : List ClassFile) (name : Nam
   pub stands : slice_get tree.folder number ≡ Some class
   pub is_written : slice_get written number ≡ Some final
   pub fits : FitsCounts final
-  pub same : final ≡ class
 
 -- files and what is written of them, in order
 abbrev pub AreWrittenFiles : Classes → List ClassFile → List NamedFile → List NamedFile → Type 0

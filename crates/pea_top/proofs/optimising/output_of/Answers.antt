@@ -1,5 +1,15 @@
-use Rattle.class_rewrite.specs.Laws.Kept.{written_is_kept}
+use Rattle.class_bytes.specs.Counts.{FitsCounts}
+use Rattle.class_model.specs.Laws.Lists.{AllByRecursion-weaker}
+use Rattle.class_rewrite.specs.Laws.WrittenLists.{written_len}
+use Rattle.class_rewrite.specs.Rewriting.Methods.{rewriting_of}
+use Rattle.class_tree.specs.Headers.{IsClassFile}
 use Rattle.pea_top.proofs.optimising.output_of.Goals as goal
 
-pub written_files-requires-clause-kept : goal.written_files-requires-clause-kept
-written_files-requires-clause-kept c = written_is_kept c.args.tree.now c.args.typed.now c.in_ok-classes.field-0.classes c.in_ok-classes.ensures.written
+pub written_files-requires-clause-written : goal.written_files-requires-clause-written
+written_files-requires-clause-written c =
+    let is = c.in_ok-classes.ensures in
+    let classes = c.in_ok-classes.field-0.classes in
+    record {
+      len = written_len (rewriting_of c.args.tree.now c.args.typed.now is.links is.constructor) classes is.written;
+      fit = AllByRecursion-weaker IsClassFile FitsCounts (λ file of. (c.a_class_file_fits_its_items.ensures file of).counts) classes is.keeps.verified.tree.folder;
+    }

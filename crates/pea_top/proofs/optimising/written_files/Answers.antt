@@ -17,7 +17,7 @@ bounds-names-next c =
 pub written_file-requires : goal.written_file-requires
 written_file-requires c =
     let so_far = rw c.in-Some.ensures.steps.0 at c.loop-file.invariant in
-    stands_written so_far (sym c.is_class_file.ensures ∙ c.if-is_class_file.true) c.a_tree_is_a_hierarchy.ensures c.requires.kept c.index-names-next.result c.index-names-next.is
+    stands_written so_far (sym c.is_class_file.ensures ∙ c.if-is_class_file.true) c.a_tree_is_a_hierarchy.ensures c.requires.written c.index-names-next.result c.index-names-next.is
 
 pub overflow_add-next : goal.overflow_add-next
 overflow_add-next c =
