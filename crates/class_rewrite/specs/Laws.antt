@@ -4,3 +4,4 @@ pub mod OneFolder
 pub mod GrownPools
 pub mod MadeConstructors
 pub mod WrittenGrown
+pub mod WrittenLists
