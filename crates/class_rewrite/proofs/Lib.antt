@@ -40,17 +40,6 @@ pub mod GrownTrees
 pub mod ItemBytes
 pub mod KeptMethods
 pub mod LaidMethods
-pub mod StackRoom
-pub mod WholeFolders
-pub mod FolderPairs
-pub mod ReadMajors
-pub mod SoundAdditions
-pub mod WrittenScopes
-pub mod DeclaredFolders
-pub mod UsedFolders
-pub mod TypedRewriting
-pub mod TypedFolders
-pub mod SameHandles
 pub mod LastItems
 pub mod LinkedParts
 pub mod Listed
@@ -72,6 +61,7 @@ pub mod RewrittenParts
 pub mod SameConstants
 pub mod SameHandles
 pub mod SomeClasses
+pub mod SoundAdditions
 pub mod StackRoom
 pub mod StatedNeeds
 pub mod StayingIndices
