@@ -40,3 +40,17 @@ pub mod LinkedParts
 pub mod SoundFolders
 mod RewrittenFrames
 mod LinkedFrames
+pub mod ItemBytes
+pub mod LaidMethods
+pub mod LongItems
+pub mod StatedNeeds
+pub mod WideEnters
+pub mod ReadyMethods
+pub mod KeptMethods
+pub mod GivenConstructors
+pub mod LocalUnits
+pub mod PoolCopies
+pub mod ContinuedEdits
+pub mod RewrittenParts
+pub mod WrittenParts
+mod SoundFramed

@@ -1,5 +1,10 @@
+pub mod LaidMethods
+pub mod Meanings
+pub mod Outcomes
 pub mod Reporting
 pub mod ReadyFolders
 pub mod SpelledFrames
 pub mod SoundStates
 pub mod SoundFrames
+pub mod VerifiedFolders
+pub mod WrittenCodes

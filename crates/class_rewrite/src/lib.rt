@@ -1,13 +1,24 @@
 //! The rewriting of a folder: what becomes of each method and why, and the folder that is written.
 #![tactic(auto)]
 
+mod entered;
 mod folder;
 mod frame_facts;
+mod grown_pool;
+mod home;
 mod laws;
+mod local_units;
+mod made_sites;
+mod method_laws;
+mod outcome;
 mod ready_laws;
 mod reasons;
 mod report;
+mod rewriter;
+mod used_fields;
 mod verified_laws;
+mod written_method;
+mod written_part;
 
 pub use folder::{Optimised, optimise_folder};
 pub use frame_facts::{
