@@ -1,11 +1,11 @@
 -- The frames of what is written of a method are sound.
-use Rattle.std.proofs.Common.{◌≡◌, ◌≢◌, ◌≤◌, ◌∙◌, ℕ, List, Option, Some, refl, sym, subst}
+use Rattle.std.proofs.Common.{◌≡◌, ◌≢◌, ◌∙◌, ℕ, List, Option, Some, refl, sym, subst}
 use Rattle.std.proofs.lemmas.Option.{same_Some}
 use Rattle.class_model.specs.Laws.Lists.{at_index}
 use Rattle.class_model.specs.declared.class_file.MethodAt.{MethodAt}
 use Rattle.class_model.specs.declared.frame.Frame.{Frame}
 use Rattle.class_model.specs.declared.instr.Instr.{Instr}
-use Rattle.class_rewrite.specs.Inner.Meanings.{AreSoundFrames, Framed, IsFramedFor, IsMeant, IsReady, Meaning, body_framed, scope}
+use Rattle.class_rewrite.specs.Inner.Meanings.{AreSoundFrames, Framed, IsFramedFor, IsMeant, IsReady, Meaning, scope}
 use Rattle.class_rewrite.specs.Inner.SoundStates.{AreFramedItems, AreSoundStates}
 use Rattle.class_tree.specs.Headers.{Classes}
 use Rattle.class_tree.specs.Trees.{IsTree}
@@ -23,7 +23,6 @@ use Rattle.making_code.specs.Laws.GrownPools.{begins_itself}
 use Rattle.member_link.specs.Linked.{IsLinked}
 use Rattle.member_link.specs.Scope.{Scope}
 use Rattle.plan_flow.specs.PlanScope.{pool_of}
-use Rattle.plan_flow.specs.Written.FramedCode.{greatest_of}
 use Rattle.same_runs.specs.ReadyCode.{IsReadyCode, IsReadyInstr, IsReadyItem}
 use Rattle.stackmap_emit.specs.FramedItems.{finished_by}
 use Rattle.type_rules.specs.Verified.{TypesFolder}
@@ -102,5 +101,5 @@ module _ (laws : FramedLaws) (of : Drafted) (m : Meaning) (f : Framed) (is : IsF
         framed = is.framed;
       })
 
-  pub sound_framed : greatest_of (body_framed of f).points f.frames ≤ 65535 → AreSoundFrames of f
-  sound_framed deep = record { texts = known.texts; deep = deep; written = λ laid is_laid short. known.written is.meant.flat.4 laid is_laid }
+  pub sound_framed : AreSoundFrames of f
+  sound_framed = record { texts = known.texts; written = λ laid is_laid short. known.written is.meant.flat.4 laid is_laid }

@@ -164,10 +164,9 @@ pub record IsFramedFor (of : Writing) (m : Meaning) (f : Framed) : Type 0 where
   pub framed : IsFramed of.flat f.form (finished_by (scope of m) f.routes) (plain_items f.items)
       (body_framed of f) f.frames
 
--- What the frames are then: the names that items push are texts, stacks are not too deep, and the frames can be written.
+-- What the frames are then: the names that items push are texts, and the frames can be written.
 pub record AreSoundFrames (of : Writing) (f : Framed) : Type 0 where
   pub texts : AreTexts f.host f.pool f.items f.frames
-  pub deep : greatest_of (body_framed of f).points f.frames ≤ 65535
   pub written : (laid : Laid)
       → IsLaidIn f.form f.items laid
       → end_from (spelled_in f.form) 0 f.items ≤ 65535
