@@ -61,3 +61,6 @@ returns-then-max_stack-clause-kept c = λ reason m before is meant edit is_code.
     (c.local_units-locals.ensures ∙ ap written_units c.units.ensures) c.in_ok-laid.laid c.in_ok-laid.ensures.laid c.in_ok-laid.ensures.within
     c.in_ok-frames.frames.placed c.in_ok-frames.frames.max_stack c.in_ok-frames.ensures m before meant edit is_code
     c.if-max_stack.true)
+
+pub returns-clause-few : goal.returns-clause-few
+returns-clause-few c = c.in_ok-laid.ensures.laid.is.decodes.few
