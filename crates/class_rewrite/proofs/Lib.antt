@@ -54,3 +54,5 @@ pub mod ContinuedEdits
 pub mod RewrittenParts
 pub mod WrittenParts
 mod SoundFramed
+pub mod RewrittenMethods
+pub mod PlannedMethods
