@@ -93,7 +93,7 @@ module _ (of : Writing) (m : Meaning) (meant : IsMeant of m) (ready : IsReady of
 
     by_kind : (reason : Reason) → IsKeptFor s m.constructor ready.routes before reason → IsReasonOf of m before reason
     by_kind _ (past_pool is) = record { has = inl (past is); kept = λ same. absurd cc }
-    by_kind _ (too_many more grows many) = record { has = long more grows many; kept = λ same. absurd cc }
+    by_kind _ (too_many more grows many) = record { has = inl (long more grows many); kept = λ same. absurd cc }
 
     pub kept_reason : (reason : Reason) → IsKeptAs of.classes of.flat of.plan before reason → IsReasonOf of m before reason
     kept_reason reason kept =

@@ -1,10 +1,3 @@
-mod LinkedFrames
-mod NamedItems
-mod PlacedFits
-mod RewrittenFrames
-mod SoundItems
-mod SoundNeeds
-mod SpelledWalk
 pub mod AccessedItems
 pub mod AddedConstants
 pub mod AddedMarks
@@ -41,6 +34,7 @@ pub mod ItemBytes
 pub mod KeptMethods
 pub mod LaidMethods
 pub mod LastItems
+pub mod LinkedFrames
 pub mod LinkedParts
 pub mod Listed
 pub mod LocalUnits
@@ -48,20 +42,29 @@ pub mod LongItems
 pub mod MadeClasses
 pub mod MadeMembers
 pub mod MeantOps
+pub mod NamedItems
 pub mod NeededConstants
 pub mod NoHandles
 pub mod OpenedFields
 pub mod OptimisedFolders
 pub mod PassingUses
+pub mod PlacedFits
+pub mod PlannedMethods
 pub mod PoolCopies
 pub mod ReadMajors
 pub mod ReadyMethods
 pub mod Reporting
+pub mod RewrittenFrames
+pub mod RewrittenMethods
 pub mod RewrittenParts
 pub mod SameConstants
 pub mod SameHandles
 pub mod SomeClasses
 pub mod SoundAdditions
+pub mod SoundFramed
+pub mod SoundItems
+pub mod SoundNeeds
+pub mod SpelledWalk
 pub mod StackRoom
 pub mod StatedNeeds
 pub mod StayingIndices

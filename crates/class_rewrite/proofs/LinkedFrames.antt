@@ -24,12 +24,15 @@ use Rattle.class_tree.specs.Headers.{Headers, IsThere, Name, headers_of}
 use Rattle.class_tree.specs.Laws.Alike.{alike_shapes, there_alike}
 use Rattle.code_layout.specs.Emitting.{IsEmitted}
 use Rattle.code_layout.specs.Layout.{start_in, starts_from}
+use Rattle.code_layout.specs.PlainItems.{plain_items}
 use Rattle.code_layout.specs.declared.emitted.EmitItem.{EmitItem}
 use Rattle.expanded_runs.specs.NamedFrames.{FrameHas, IsFramedName, TypesHave}
+use Rattle.member_link.specs.Bodies.{Body}
 use Rattle.member_link.specs.BodyTyping.{HasFrames}
 use Rattle.member_link.specs.References.{IsNamedThere, element_class}
 use Rattle.member_link.specs.Scope.{Scope}
 use Rattle.member_link.specs.Uses.{UseScope, frame_checks, type_checks}
+use Rattle.plan_flow.specs.Written.FramedCode.{body_of_items}
 use Rattle.stackmap_emit.specs.PlacedFrames.{frame_at, placed_frames, spelled_in, stated_from, type_at}
 use Rattle.stackmap_emit.specs.TypedMethods.{AreWhole, HasLaidCode, IsGrownMethod, LaidCode, laid_body, stated_by_items}
 use Rattle.type_rules.specs.Grown.{AreGrownHeaders}
@@ -127,6 +130,21 @@ module _ (laws : LinkingLaws) (r : Rewriting) (files : List ClassFile) (w : IsFo
       (grown_method r files w verified ready at.class host.class now.class pair at.method host.method here.of_method v here.is laws.typing emitted)
       (laid_code r files w verified ready at.class host.class now.class pair at.method host.method here.of_method v here.is laws.typing emitted)
       (typed_items r files w verified ready at.class host.class now.class pair at.method host.method here.of_method v here.is laws.typing emitted) whole
+
+  stated_is : v.stated ≡ stated_from state 0 v.items
+  stated_is =
+      here.is.is.framed.stated
+      ∙ ap (λ (b : Body). stated_from b.stated 0 v.items)
+      (here.is.is.framed.body
+      ∙ ap (λ (one : Scope). body_of_items one v.one.flat v.code_pool 0 (plain_items v.items) state)
+      (same_Some here.is.is.host host (sym here.is.is.is_host ∙ here.is_host)))
+
+  -- It states its frames at their offsets.
+  pub frames_stated : stated now ≡ placed_frames (start_in v.laid.starts) 0 v.stated
+  frames_stated =
+      ap (λ (one : Scope). stated one) (sym written_is) ∙ states
+      ∙ ap (λ (starts : List ℕ). placed_frames (start_in starts) 0 (stated_from state 0 v.items)) (sym here.is.is.framed.laid.starts)
+      ∙ ap (placed_frames (start_in v.laid.starts) 0) (sym stated_is)
 
   linked : AllHold (asked_each (frame_checks (uses_in written)) (stated written))
   linked =

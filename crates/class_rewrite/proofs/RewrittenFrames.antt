@@ -1,5 +1,6 @@
 -- The frames of a method that is rewritten are sound.
 use Rattle.std.proofs.Common.{◌≡◌, ◌∙◌, ℕ, List, Option, Some, sym, ap, subst}
+use Rattle.std.specs.List.{AllByRecursion}
 use Rattle.std.proofs.lemmas.Option.{same_Some}
 use Rattle.class_model.specs.declared.class_file.ClassFile.{ClassFile}
 use Rattle.class_model.specs.declared.class_file.MethodAt.{MethodAt}
@@ -7,7 +8,7 @@ use Rattle.class_model.specs.declared.frame.Frame.{Frame}
 use Rattle.class_rewrite.proofs.WrittenSettings.{code_ready, ready_host, rewritten, setting, writing}
 use Rattle.class_rewrite.specs.Inner.ReadyFolders.{IsReadyFolder}
 use Rattle.class_rewrite.specs.Inner.SoundFrames.{HasSoundFrames}
-use Rattle.class_rewrite.specs.Inner.SoundStates.{AreFramedItems, AreSoundStates}
+use Rattle.class_rewrite.specs.Inner.SoundStates.{AreFramedItems, AreSoundStates, IsShortNeed}
 use Rattle.class_rewrite.specs.Rewriting.Folders.{IsFolderWritten, IsRewrittenAt}
 use Rattle.class_rewrite.specs.Rewriting.Methods.{Rewriting, Rewritten}
 use Rattle.class_rewrite.specs.Rewriting.Verifying.{IsOfVerified}
@@ -86,6 +87,7 @@ module _ (laws : FrameLaws) (r : Rewriting) (files : List ClassFile) (w : IsFold
     whole = λ number frame within is. known.whole number frame is;
     names = known.names;
     needs = subst (λ (frames : List (Option Frame)). AreSound (table_needs frames)) (sym stated_is) known.needs;
+    short = subst (λ (frames : List (Option Frame)). AllByRecursion IsShortNeed (table_needs frames)) (sym stated_is) known.short;
     written =
         subst (λ (frames : List (Option Frame)). CanBeWritten (placed_frames (start_in v.laid.starts) 0 frames)) (sym stated_is)
         (known.written (rewritten r files w verified ready at v is_at host is_host).narrow v.laid is_at.is.framed.laid);

@@ -1,5 +1,5 @@
 -- The Code that is written of a method, or the reason why there is none, by its emitted code, its layout and its frames.
-use Rattle.std.proofs.Common.{◌≡◌, ◌≢◌, ◌≤◌, ◌<◌, ◌++◌, ℕ, min, nat_le, Bool, true, false, List, [], length, Option, Some, None, refl, sym, ap, subst, ◌∙◌, inl, inr, arith, if◌then◌else◌}
+use Rattle.std.proofs.Common.{◌≡◌, ◌≢◌, ◌≤◌, ◌<◌, ◌++◌, ℕ, min, nat_le, Bool, true, false, List, [], length, Option, Some, None, refl, sym, ap, subst, ◌∙◌, inl, inr, arith, if◌then◌else◌, ◌⊎◌, zero, suc}
 use Rattle.std.proofs.lemmas.Option.{same_Some}
 use Rattle.class_model.specs.Pool.{Constants}
 use Rattle.class_model.specs.declared.class_file.CodePart.{CodePart}
@@ -11,7 +11,7 @@ use Rattle.class_rewrite.proofs.KeptMethods.{planned}
 use Rattle.class_rewrite.proofs.StatedNeeds.{placed_needs_are}
 use Rattle.class_rewrite.specs.Inner.LaidMethods.{AreLaidMethods, AreReady, AreSound, IsLaidMethod, framed_of}
 use Rattle.class_rewrite.specs.Inner.Meanings.{AreSoundFrames, IsCode, IsEditOf, IsFullFor, IsMeant, IsPart, IsReady, IsReasonOf, Meaning, StatesFrames, body_framed, frames_pool_of, rewriting, scope}
-use Rattle.class_rewrite.specs.Rewriting.Methods.{FramesArePast, IsCoded, IsFramedIn, IsLongCode, IsRewritten, Rewritten, Rewriting}
+use Rattle.class_rewrite.specs.Rewriting.Methods.{FramesArePast, IsDeepCode, IsCoded, IsFramedIn, IsLongCode, IsRewritten, Rewritten, Rewriting}
 use Rattle.code_drafts.specs.Emits.{Writing}
 use Rattle.code_emit.specs.declared.emitting.WrittenCode.{WrittenCode}
 use Rattle.code_layout.specs.ChosenForm.{IsLaidOut, IsLong, IsWithin, KeepsLong, chosen_items, chosen_len, chosen_spelled, is_short}
@@ -54,8 +54,26 @@ keeps_long : (items : List EmitItem) (reason : Reason) → KeepsLong items (Kept
 keeps_long items reasons.Long long = (refl, long)
 keeps_long items other never = absurd never
 
-least_is : (n m : ℕ) → m ≡ min n 65535 → n ≤ 65535 → m ≡ n
+least_is : (n m : ℕ) → m ≡ min n 65535 → n < 65535 → m ≡ n
 least_is n m is few = omega (arith, is, few)
+
+is_low : (n m : ℕ) → m ≡ min n 65535 → m ≢ 65535 → n < 65535
+is_low n m is other = by (decide n 65535) where
+  by : (n < 65535) ⊎ (65535 ≤ n) → n < 65535
+  by (inl low) = low
+  by (inr high) = absurd (other (omega (arith, is, high)))
+
+  decide : (a b : ℕ) → (a < b) ⊎ (b ≤ a)
+  decide zero zero = inr (omega arith)
+  decide zero (suc b) = inl (omega arith)
+  decide (suc a) zero = inr (omega arith)
+  decide (suc a) (suc b) = more (decide a b) where
+    more : (a < b) ⊎ (b ≤ a) → (suc a < suc b) ⊎ (suc b ≤ suc a)
+    more (inl low) = inl (omega (arith, low))
+    more (inr high) = inr (omega (arith, high))
+
+is_high : (n m : ℕ) → m ≡ min n 65535 → m ≡ 65535 → ¬ (n < 65535)
+is_high n m is same low = omega (arith, is, same, low)
 
 module _ (laws : AreLaidMethods) (ready_of : AreReady) (of : Writing) (m : Meaning) (before middle : Edit) (code : WrittenCode)
     (meant : IsMeant of m) (edit : IsEditOf of.classes m.at before) (is_code : IsCode of before middle code) where
@@ -115,7 +133,7 @@ module _ (laws : AreLaidMethods) (ready_of : AreReady) (of : Writing) (m : Meani
       let is = keeps_long code.emitted reason keeps in
       subst (IsReasonOf of m before) (sym is.0)
       (record {
-        has = record { w = w no_laid (grown middle) no_part; coded = coded no_laid (grown middle) no_part; long = laid_method.long is.1 };
+        has = inl (record { w = w no_laid (grown middle) no_part; coded = coded no_laid (grown middle) no_part; long = laid_method.long is.1 });
         kept = λ same. absurd cc;
       })
 
@@ -155,27 +173,44 @@ module _ (laws : AreLaidMethods) (ready_of : AreReady) (of : Writing) (m : Meani
         ∙ ap (λ (limit : ℕ). if nat_le 50 ready.host.class.major then grow limit (grown middle) (table_needs (all_stated placed)) else Some (grown middle))
         (sym laid_method.limit)
 
+    deepest : max_stack ≡ min (greatest_of body.points laid_method.frames) 65535
+    deepest = by_frames.deepest laid_method.state laid_method.frames laid_method.framed.framed sound.texts
+
+    -- a stack that is too deep
+    pub deep_reason : max_stack ≡ 65535 → IsReasonOf of m before reasons.Long
+    deep_reason most =
+        let deep : IsDeepCode r m.at (grown before) = record {
+          w = w laid (grown middle) no_part;
+          coded = coded laid (grown middle) no_part;
+          host = ready.host;
+          is_host = ready.is_host;
+          framed = framed_in (grown middle) no_part;
+          deep = is_high (greatest_of body.points laid_method.frames) max_stack deepest most;
+        } in
+        record { has = inr deep; kept = λ same. absurd cc }
+
     -- no room for the constants of its frames
-    pub full_reason : (reason : Reason) → IsFullFor ready.host.class.major middle (table_needs (all_stated placed)) reason → IsReasonOf of m before reason
-    full_reason reason full =
+    pub full_reason : max_stack ≢ 65535 → (reason : Reason) → IsFullFor ready.host.class.major middle (table_needs (all_stated placed)) reason → IsReasonOf of m before reason
+    full_reason low reason full =
         let past : FramesArePast r m.at (grown before) = record {
           w = w laid (grown middle) no_part;
           coded = coded laid (grown middle) no_part;
           host = ready.host;
           is_host = ready.is_host;
           framed = framed_in (grown middle) no_part;
+          shallow = is_low (greatest_of body.points laid_method.frames) max_stack deepest low;
           past = pool_is ∙ full.past;
         } in
         subst (IsReasonOf of m before) (sym full.is) (record { has = inr past; kept = λ same. absurd cc })
 
     -- the whole
-    pub part_is : (after : Edit) (entry : Frame) (locals : ℕ) (attrs : List InnerAttr)
+    pub part_is : max_stack ≢ 65535 → (after : Edit) (entry : Frame) (locals : ℕ) (attrs : List InnerAttr)
         → entry ≡ entry_with ready.host of.flat
         → locals ≡ written_units of.flat
         → StatesFrames ready.host.class.major middle after entry placed attrs
         → IsPart of m before middle after code
         (record { max_stack = max_stack; max_locals = locals; code = laid.code; handlers = laid.handlers; attrs = attrs })
-    part_is after entry locals attrs entry_is locals_are states =
+    part_is low after entry locals attrs entry_is locals_are states =
         let part : CodePart = record { max_stack = max_stack; max_locals = locals; code = laid.code; handlers = laid.handlers; attrs = attrs } in
         let here : IsFramesAttribute (grown after) (entry_with ready.host of.flat)
         (if nat_le 50 ready.host.class.major then placed_frames (start_in laid.starts) 0 stated else []) attrs =
@@ -190,16 +225,27 @@ module _ (laws : AreLaidMethods) (ready_of : AreReady) (of : Writing) (m : Meani
             host = ready.host;
             is_host = ready.is_host;
             framed = framed_in (grown after) part;
+            shallow = is_low (greatest_of body.points laid_method.frames) max_stack deepest low;
             grows = pool_is ∙ states.grows;
             max_stack =
-                least_is (greatest_of body.points laid_method.frames) max_stack
-                (by_frames.deepest laid_method.state laid_method.frames laid_method.framed.framed sound.texts) sound.deep;
+                least_is (greatest_of body.points laid_method.frames) max_stack deepest
+                (is_low (greatest_of body.points laid_method.frames) max_stack deepest low);
             max_locals = locals_are;
             code = refl;
             handlers = refl;
             attrs = here;
           };
-          form = refl;
+          routes = ready.routes;
+          one = refl;
+          of_items = record {
+            routed = ready.routed;
+            host = ready.host;
+            is_host = ready.is_host;
+            before = grown before;
+            begins = laid_method.framed.begins;
+            grows = laid_method.grows;
+            items_are = laid_method.emitted.short_items;
+          };
           items = refl;
           code_pool = refl;
           pool = refl;

@@ -9,7 +9,7 @@ use Rattle.class_model.specs.declared.frame.VType.TheVariants as types
 use Rattle.class_model.specs.declared.instr.Placed.{Placed}
 use Rattle.class_rewrite.proofs.NamedItems.{types_spelled}
 use Rattle.class_rewrite.proofs.PlacedFits.{IsFitFrame, can_be_written}
-use Rattle.class_rewrite.proofs.SoundNeeds.{needs_sound}
+use Rattle.class_rewrite.proofs.SoundNeeds.{needs_short, needs_sound}
 use Rattle.class_rewrite.proofs.SpelledWalk.{with_room}
 use Rattle.class_rewrite.specs.Inner.SoundStates.{AreFramedItems, AreSoundStates}
 use Rattle.class_rewrite.specs.Inner.SpelledFrames.{AreSpelledFrames}
@@ -210,5 +210,6 @@ module _ (laws : SoundLaws) (w : Writing) (items : List EmitItem) (state : â„• â
     whole = whole;
     names = named;
     needs = needs_sound state all_spelled items;
+    short = needs_short state all_spelled items;
     written = written;
   }

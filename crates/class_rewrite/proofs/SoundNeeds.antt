@@ -1,11 +1,12 @@
 -- The constants of stated frames are sound where these name what a Class constant may.
 use Rattle.std.proofs.Common.{◌≡◌, ◌++◌, ℕ, suc, List, [], ◌∷◌, Option, Some, None, refl}
-use Rattle.std.specs.List.{flat_map}
+use Rattle.std.specs.List.{AllByRecursion, flat_map}
 use Rattle.class_model.specs.Code.{stack_map_table}
 use Rattle.class_model.specs.Laws.Texts.{plain_text}
 use Rattle.class_model.specs.declared.frame.Frame.{Frame}
 use Rattle.class_model.specs.declared.frame.VType.{VType}
 use Rattle.class_model.specs.declared.frame.VType.TheVariants as types
+use Rattle.class_rewrite.specs.Inner.SoundStates.{IsShortNeed}
 use Rattle.code_layout.specs.declared.emitted.EmitItem.{EmitItem}
 use Rattle.expanded_runs.specs.NamedFrames.{FrameHas, IsSpelledName, TypesHave}
 use Rattle.making_code.specs.Constants.{Need}
@@ -27,6 +28,19 @@ types_sound (types.Null ∷ all) spelled others sound = types_sound all spelled.
 types_sound (types.UninitThis ∷ all) spelled others sound = types_sound all spelled.1 others sound
 types_sound (types.Uninit at ∷ all) spelled others sound = types_sound all spelled.1 others sound
 
+types_short : (all : List VType) → TypesHave IsSpelledName all → (others : List Need) → AllByRecursion IsShortNeed others
+    → AllByRecursion IsShortNeed (flat_map type_needs all ++ others)
+types_short [] spelled others short = short
+types_short (types.Object name ∷ all) spelled others short = (spelled.0.text.len, (tt, types_short all spelled.1 others short))
+types_short (types.Top ∷ all) spelled others short = types_short all spelled.1 others short
+types_short (types.Int ∷ all) spelled others short = types_short all spelled.1 others short
+types_short (types.Float ∷ all) spelled others short = types_short all spelled.1 others short
+types_short (types.Long ∷ all) spelled others short = types_short all spelled.1 others short
+types_short (types.Double ∷ all) spelled others short = types_short all spelled.1 others short
+types_short (types.Null ∷ all) spelled others short = types_short all spelled.1 others short
+types_short (types.UninitThis ∷ all) spelled others short = types_short all spelled.1 others short
+types_short (types.Uninit at ∷ all) spelled others short = types_short all spelled.1 others short
+
 both_have : (ones others : List VType) → TypesHave IsSpelledName ones → TypesHave IsSpelledName others → TypesHave IsSpelledName (ones ++ others)
 both_have [] others first second = second
 both_have (type ∷ ones) others first second = (first.0, both_have ones others first.1 second)
@@ -42,6 +56,25 @@ module _ (state : ℕ → Option Frame) (spelled : (number : ℕ) (frame : Frame
         types_sound (frame.locals ++ frame.stack)
         (both_have frame.locals frame.stack (spelled number frame is).locals (spelled number frame is).stack)
         (flat_map frame_needs (stated_from state (suc number) items)) rest
+
+  frames_short : (number : ℕ) (items : List EmitItem) → AllByRecursion IsShortNeed (flat_map frame_needs (stated_from state number items))
+  frames_short number [] = tt
+  frames_short number (item ∷ items) = by (state number) refl (frames_short (suc number) items) where
+    by : (stated : Option Frame) → state number ≡ stated
+        → AllByRecursion IsShortNeed (flat_map frame_needs (stated_from state (suc number) items))
+        → AllByRecursion IsShortNeed (flat_map frame_needs (stated ∷ stated_from state (suc number) items))
+    by None is rest = rest
+    by (Some frame) is rest =
+        types_short (frame.locals ++ frame.stack)
+        (both_have frame.locals frame.stack (spelled number frame is).locals (spelled number frame is).stack)
+        (flat_map frame_needs (stated_from state (suc number) items)) rest
+
+  named_short : (frames : List Frame) (needs : List Need) → AllByRecursion IsShortNeed needs → AllByRecursion IsShortNeed (needs_named needs frames)
+  named_short [] needs short = tt
+  named_short (frame ∷ frames) needs short = ((plain_text stack_map_table refl).len, short)
+
+  pub needs_short : (items : List EmitItem) → AllByRecursion IsShortNeed (table_needs (stated_from state 0 items))
+  needs_short items = named_short (stated_frames (stated_from state 0 items)) (flat_map frame_needs (stated_from state 0 items)) (frames_short 0 items)
 
   named : (frames : List Frame) (needs : List Need) → AreSound needs → AreSound (needs_named needs frames)
   named [] needs sound = sound_none

@@ -1,5 +1,5 @@
 -- The Code that is written of a method, whatever is meant by what it is written from.
-use Rattle.std.proofs.Common.{◌≡◌, ◌∙◌, ℕ, List, Some, refl, sym, ap, subst}
+use Rattle.std.proofs.Common.{◌≡◌, ◌≢◌, ◌∙◌, ℕ, List, Some, refl, sym, ap, subst}
 use Rattle.std.proofs.lemmas.Option.{same_Some}
 use Rattle.class_model.specs.Methods.{entry_of, home_of}
 use Rattle.class_model.specs.Pool.{Constants}
@@ -8,7 +8,7 @@ use Rattle.class_model.specs.declared.class_file.InnerAttr.{InnerAttr}
 use Rattle.class_model.specs.declared.class_file.MethodAt.{MethodAt}
 use Rattle.class_model.specs.declared.frame.Frame.{Frame}
 use Rattle.class_model.specs.declared.frame.PlacedFrame.{PlacedFrame}
-use Rattle.class_rewrite.proofs.RewrittenParts.{can_be_written, full_reason, part_is}
+use Rattle.class_rewrite.proofs.RewrittenParts.{can_be_written, deep_reason, full_reason, part_is}
 use Rattle.class_rewrite.specs.Inner.LaidMethods.{AreLaidMethods, AreReady, AreSound}
 use Rattle.class_rewrite.specs.Inner.Meanings.{IsCode, IsEditOf, IsFullFor, IsKnownCode, IsMeant, IsPart, IsReady, IsReasonOf, Meaning, StatesFrames, scope}
 use Rattle.class_tree.specs.Headers.{Name}
@@ -18,6 +18,7 @@ use Rattle.code_layout.specs.ChosenForm.{IsLaidOut, IsWithin, chosen_items}
 use Rattle.code_layout.specs.declared.laid.Laid.{Laid}
 use Rattle.flow_code.specs.WrittenUnits.{written_units}
 use Rattle.flow_code.specs.declared.reason.Reason.{Reason}
+use Rattle.flow_code.specs.declared.reason.Reason.TheVariants as reasons
 use Rattle.member_link.specs.Scope.{Scope, scope_at}
 use Rattle.plan_flow.specs.PlanScope.{PlanScope}
 use Rattle.plan_flow.specs.Written.Routes.{Routes}
@@ -72,16 +73,20 @@ module _ (laws : AreLaidMethods) (ready_of : AreReady) (sound_of : AreSound) (of
     can : CanBeWritten placed
     can = can_be_written laws ready_of of m before middle code meant edit is_code sound_of laid out within placed max_stack placed_by
 
-    pub written_full : (reason : Reason) → IsFullFor home.class.major middle (table_needs (all_stated placed)) reason → IsReasonOf of m before reason
-    written_full reason full =
-        full_reason laws ready_of of m before middle code meant edit is_code sound_of laid out within placed max_stack placed_by reason
+    pub written_deep : max_stack ≡ 65535 → IsReasonOf of m before reasons.Long
+    written_deep most =
+        deep_reason laws ready_of of m before middle code meant edit is_code sound_of laid out within placed max_stack placed_by most
+
+    pub written_full : max_stack ≢ 65535 → (reason : Reason) → IsFullFor home.class.major middle (table_needs (all_stated placed)) reason → IsReasonOf of m before reason
+    written_full low reason full =
+        full_reason laws ready_of of m before middle code meant edit is_code sound_of laid out within placed max_stack placed_by low reason
         (subst (λ (major : ℕ). IsFullFor major middle (table_needs (all_stated placed)) reason) same_major full)
 
-    pub written_is : (after : Edit) (attrs : List InnerAttr) → StatesFrames home.class.major middle after entry placed attrs
+    pub written_is : max_stack ≢ 65535 → (after : Edit) (attrs : List InnerAttr) → StatesFrames home.class.major middle after entry placed attrs
         → IsPart of m before middle after code
         (record { max_stack = max_stack; max_locals = locals; code = laid.code; handlers = laid.handlers; attrs = attrs })
-    written_is after attrs states =
-        part_is laws ready_of of m before middle code meant edit is_code sound_of laid out within placed max_stack placed_by after entry locals attrs
+    written_is low after attrs states =
+        part_is laws ready_of of m before middle code meant edit is_code sound_of laid out within placed max_stack placed_by low after entry locals attrs
         (entry_is ∙ ap (λ (host : Scope). entry_with host of.flat) (sym same_host)) locals_are
         (subst (λ (major : ℕ). StatesFrames major middle after entry placed attrs) same_major states)
 

@@ -11,11 +11,13 @@ ghost use Rattle.class_rewrite.specs.Rewriting.Folders.{IsFolderWritten, IsRewri
 ghost use Rattle.class_rewrite.specs.Rewriting.Methods.{Rewriting, Rewritten};
 ghost use Rattle.class_rewrite.specs.Rewriting.Verifying.{IsOfVerified, IsWrittenIn};
 ghost use Rattle.code_layout.specs.Emitting.{IsEmitted};
+ghost use Rattle.code_layout.specs.Layout.{start_in};
 ghost use Rattle.code_layout.specs.declared.emitted.EmitItem.{EmitItem};
 ghost use Rattle.expanded_runs.specs.NamedFrames.{HasFramedNames};
 ghost use Rattle.member_link.specs.Scope.{Scope, scope_at};
 ghost use Rattle.member_link.specs.Uses.{frame_checks};
 ghost use Rattle.plan_flow.specs.Written.FramedCode.{IsFramed};
+ghost use Rattle.stackmap_emit.specs.PlacedFrames.{placed_frames};
 ghost use Rattle.type_rules.specs.Stated.{stated};
 ghost use Rattle.written_files.specs.LinkedConstructors.{uses_in};
 ghost use Rattle.written_types.specs.Setting.{Setting};
@@ -63,6 +65,23 @@ pub fn rewritten_methods_have_sound_frames()
     a_written_folder_is_ready();
     frames_of_written_items_are_sound();
     expanded_runs::expanded_flat_codes_have_framed_names();
+}
+
+/// A rewritten method states its frames, at the offsets of its items.
+pub fn rewritten_methods_state_their_frames()
+    ensures { (r : Rewriting) (files : List ClassFile) (w : IsFolderWritten r files) (at : MethodAt)
+        (v : Rewritten) (host now : Scope)
+        → IsOfVerified r
+        → IsWrittenIn r files w at v host now
+        → IsEmitted v.items
+        → stated now ≡ placed_frames (start_in v.laid.starts) 0 v.stated }
+{
+    a_written_folder_is_ready();
+    rewritten_methods_have_sound_frames();
+    type_rules::grown_classes_are_found_alike();
+    written_types::frames_type_written_code();
+    stackmap_emit::a_laid_method_states_its_frames();
+    stackmap_emit::what_types_items_types_the_laid_method();
 }
 
 /// The classes that a rewritten method's stated frames name are there in the written folder (JVM Specification SE 8, 4.7.4 and 5.4.3.1).

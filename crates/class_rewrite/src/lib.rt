@@ -22,6 +22,7 @@ mod marks;
 mod method_laws;
 mod outcome;
 mod ready_laws;
+mod reasons;
 mod report;
 mod rewriter;
 mod used_fields;
@@ -36,6 +37,7 @@ pub use folder::{Optimised, optimise_folder};
 pub use frame_facts::{
     frames_of_rewritten_methods_are_linked, frames_of_written_code_have_spelled_names,
     frames_of_written_items_are_sound, rewritten_methods_have_sound_frames,
+    rewritten_methods_state_their_frames,
 };
 pub use laws::{
     a_method_has_one_reason, a_written_folder_runs_as_its_folder, a_written_folder_verifies,

@@ -1,9 +1,13 @@
 //! Laws of what is written of one method: functions that do nothing, whose contracts say what always holds.
 ghost use Rattle.class_rewrite.specs.Inner.LaidMethods.{AreFit, AreLaidMethods, ArePlannable, AreReady, AreReasons, AreSound, HaveDescriptors};
 
+use crate::frame_facts::frames_of_written_items_are_sound;
 use class_tree::classes_of_a_tree_are_a_hierarchy;
 use code_drafts::items_of_a_plan_go_wide;
-use expanded_runs::{an_expanded_flat_code_carries_constants, an_expanded_flat_code_is_ready};
+use expanded_runs::{
+    an_expanded_flat_code_carries_constants, an_expanded_flat_code_is_ready,
+    expanded_flat_codes_have_framed_names,
+};
 use plan_flow::effect_grows;
 use stackmap_emit::items_that_are_made_wide_are_those_of_the_wide_form;
 use typed_programs::a_verified_folder_is_a_typed_program;
@@ -58,6 +62,8 @@ pub(crate) fn written_frames_are_sound()
     ensures { AreSound }
 {
     what_is_meant_can_be_written();
+    frames_of_written_items_are_sound();
+    expanded_flat_codes_have_framed_names();
 }
 
 /// There are descriptors of the field constructors of a folder.

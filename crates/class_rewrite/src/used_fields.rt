@@ -1,7 +1,7 @@
 //! The fields that written code reads or stores into, as far as flags of theirs are cleared for that.
 ghost use Rattle.std.specs.Prelude.{◌≡◌, IfOk};
-ghost use Rattle.class_rewrite.specs.Inner.Meanings.{IsMeant, Meaning};
-ghost use Rattle.class_rewrite.specs.Inner.WrittenCodes.{AreItemsOf, AreUsed};
+ghost use Rattle.class_rewrite.specs.Inner.Meanings.{AreItemsOf, IsMeant, Meaning};
+ghost use Rattle.class_rewrite.specs.Inner.WrittenCodes.{AreUsed};
 ghost use Rattle.plan_flow.specs.Written.Routes.{Routes};
 
 use crate::outcome::{FieldAt, FieldAtList};

@@ -3,7 +3,7 @@ ghost use Rattle.std.specs.Prelude.{◌≡◌, ◌≤◌, IfOk, OnErr, length};
 ghost use Rattle.std.specs.Result.{IsErrOf};
 ghost use Rattle.class_rewrite.specs.Inner.Meanings.{IsCode, IsEditOf, IsMeant, IsPart, IsReasonOf, MayBeWritten, Meaning, rewriting};
 ghost use Rattle.class_rewrite.specs.Inner.Outcomes.{IsRewrittenTo};
-ghost use Rattle.class_rewrite.specs.Inner.WrittenCodes.{IsMethodOf, IsWrittenAt, IsWrittenCode};
+ghost use Rattle.class_rewrite.specs.Inner.WrittenCodes.{IsMethodOf, IsOfPart, IsWrittenAt, IsWrittenCode};
 ghost use Rattle.plan_flow.specs.Narrow.{IsNarrow};
 ghost use Rattle.flow_code.specs.declared.reason.Reason.{Reason};
 ghost use Rattle.pool_edit.specs.Edits.{Continues, Edit};
@@ -139,6 +139,7 @@ fn written_at(
     ensures more { Continues pool.old pool.new }
 {
     an_edit_goes_back_to_what_it_was();
+    what_is_meant_can_be_written();
     what_is_written_fits();
     let grown = grown_pool(alloc, &home.class().pool, pool)?;
     let part = written_part(alloc, setting, home, code, &grown, pool);
@@ -159,8 +160,7 @@ fn with_part(
     requires narrow { IsNarrow setting.now.flat }
     requires items { length code.now.emitted ≤ 65535 }
     requires bytes { IfOk part (λ written. length written.code ≤ 65535) }
-    ensures ok { IfOk result (λ method. IfOk part (λ written. IsMethodOf setting.now code.now
-        grown.now written method)) }
+    ensures ok { IfOk result (IsOfPart setting.now code.now grown.now part) }
     ensures err { (reason : Reason)
         → IsErrOf result (KeptFault.Kept reason)
         → IsErrOf part (KeptFault.Kept reason) }

@@ -24,7 +24,7 @@ use class_model::{
 use code_drafts::Setting;
 use code_emit::WrittenCode;
 use code_layout::{Laid, layout};
-use flow_code::KeptFault;
+use flow_code::{KeptFault, Reason};
 use pool_edit::{PoolEdit, an_edit_goes_back_to_what_it_was};
 use stackmap_emit::{WrittenCode as FramedCode, WrittenFrames, frames_attribute, place_frames};
 use std::alloc::Global;
@@ -35,7 +35,7 @@ const FIRST_FRAMES: u16 = 50;
 /// The content of the Code attribute, by the written code. The constants of its frames are added to the pool.
 ///
 /// # Errors
-/// `Kept(PoolFull)`, exactly where they do not fit; `Kept(Long)`, exactly where its code or its exception table is too long; `NoMemory`,
+/// `Kept(PoolFull)`, exactly where they do not fit; `Kept(Long)`, exactly where its code, its exception table or its stack is too long; `NoMemory`,
 /// where memory runs out. Constants may have been added then.
 pub(crate) fn written_part(
     alloc: Global,
@@ -69,8 +69,12 @@ pub(crate) fn written_part(
     let locals = local_units(setting.units());
     let entry = home.entry(alloc, locals)?;
     let frames = frames_of(alloc, setting, home, code, grown, &entry, &laid)?;
-    let attrs = attributes_of(alloc, home.class().major, &entry, &frames.placed, pool)?;
     let max_stack = frames.max_stack;
+    // a stack that is as deep as a method may say, or deeper
+    if max_stack == u16::MAX {
+        return Err(KeptFault::Kept(Reason::Long));
+    }
+    let attrs = attributes_of(alloc, home.class().major, &entry, &frames.placed, pool)?;
     // let go by a call, so that its drop is proved once
     drop(frames);
     let Laid {

@@ -1,6 +1,8 @@
 -- What is known of the frames of a method that is rewritten (JVM Specification SE 8, 4.4.1 and 4.7.4). It is this project's profile.
 use Rattle.std.specs.Prelude.{◌≡◌, ℕ, Option, Some}
+use Rattle.std.specs.List.{AllByRecursion}
 use Rattle.class_model.specs.declared.frame.Frame.{Frame}
+use Rattle.class_rewrite.specs.Inner.SoundStates.{IsShortNeed}
 use Rattle.class_rewrite.specs.Rewriting.Methods.{Rewriting, Rewritten}
 use Rattle.class_rewrite.specs.Rewriting.Verifying.{laid_of}
 use Rattle.class_tree.specs.Headers.{headers_of}
@@ -24,4 +26,5 @@ pub record HasSoundFrames (r : Rewriting) (v : Rewritten) (host : Scope) (state 
       → state number ≡ Some frame
       → FrameHas (IsFramedName (headers_of r.classes)) frame
   pub needs : AreSound (table_needs v.stated)
+  pub short : AllByRecursion IsShortNeed (table_needs v.stated)
   pub written : CanBeWritten (placed_frames (start_in v.laid.starts) 0 v.stated)

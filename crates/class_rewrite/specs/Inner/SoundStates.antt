@@ -1,7 +1,9 @@
 -- What is known of the frames of items that are written from a flat code (JVM Specification SE 8, 4.4.1 and 4.7.4): what they name and push, and that
 -- they can be stated. It is this project's profile.
-use Rattle.std.specs.Prelude.{◌≡◌, ℕ, List, Option, Some}
+use Rattle.std.specs.Prelude.{◌≡◌, ◌≤◌, ℕ, List, length, Option, Some}
+use Rattle.std.specs.List.{AllByRecursion}
 use Rattle.class_model.specs.declared.frame.Frame.{Frame}
+use Rattle.class_model.specs.declared.pool.Const.TheVariants.{Utf8}
 use Rattle.class_tree.specs.Headers.{headers_of}
 use Rattle.code_layout.specs.Layout.{start_in}
 use Rattle.code_layout.specs.PlainItems.{plain_items}
@@ -10,6 +12,7 @@ use Rattle.code_layout.specs.declared.laid.Laid.{Laid}
 use Rattle.expanded_code.specs.ExpandAnswers.{IsWide}
 use Rattle.expanded_runs.specs.NamedFrames.{FrameHas, HasFramedNames, IsFramedName}
 use Rattle.flow_code.specs.WrittenUnits.{written_units}
+use Rattle.making_code.specs.Constants.{Need, needs_class, needs_itself}
 use Rattle.plan_flow.specs.Written.FramedCode.{IsFramed}
 use Rattle.stackmap_emit.specs.FrameConstants.{table_needs}
 use Rattle.stackmap_emit.specs.FramedItems.{AreTexts, items_body}
@@ -19,6 +22,12 @@ use Rattle.stackmap_emit.specs.TypedMethods.{IsWhole}
 use Rattle.written_files.specs.GrownPools.{AreSound}
 use Rattle.written_types.specs.Setting.{Setting}
 use Rattle.written_types.specs.Writing.{Writing, items_in}
+
+-- the constants of frames are texts that fit a constant, and classes
+abbrev pub IsShortNeed : Need → Type 0
+IsShortNeed (needs_itself (Utf8 text)) = length text ≤ 65535
+IsShortNeed (needs_class name) = Unit {0}
+IsShortNeed other = ⊥
 
 -- The items are those of a flat code whose frames and constants name what a Class constant may, and they have these frames.
 pub record AreFramedItems (w : Writing) (items : List EmitItem) (state : ℕ → Option Frame)
@@ -43,6 +52,7 @@ pub record AreSoundStates (w : Writing) (items : List EmitItem) (state : ℕ →
       → state number ≡ Some frame
       → FrameHas (IsFramedName (headers_of w.s.classes)) frame
   pub needs : AreSound (table_needs (stated_from state 0 items))
+  pub short : AllByRecursion IsShortNeed (table_needs (stated_from state 0 items))
   pub written : ¬ IsWide w.s.flat
       → (laid : Laid)
       → IsLaidIn w.form items laid

@@ -4,7 +4,7 @@ use Rattle.class_model.specs.Pool.{Constants}
 use Rattle.class_model.specs.declared.class_file.CodePart.{CodePart}
 use Rattle.class_model.specs.declared.class_file.MethodAt.{MethodAt}
 use Rattle.class_model.specs.declared.memory.NoMemory.{NoMemory}
-use Rattle.class_rewrite.specs.Inner.Meanings.{IsCode, IsEditOf, IsMeant, Meaning, rewriting, scope}
+use Rattle.class_rewrite.specs.Inner.Meanings.{AreItemsOf, IsCode, IsEditOf, IsMeant, Meaning, rewriting, scope}
 use Rattle.class_rewrite.specs.Inner.Outcomes.{AreFieldsOf, AreNamesOf, ClearsFinalHere, MakesHere, OpensPrivateHere}
 use Rattle.class_rewrite.specs.Inner.VerifiedFolders.{IsVerifiedFolder}
 use Rattle.class_rewrite.specs.declared.outcome.FieldAt.{FieldAt}
@@ -14,26 +14,21 @@ use Rattle.class_rewrite.specs.declared.outcome.RewrittenMethod.{RewrittenMethod
 use Rattle.class_tree.specs.Headers.{Classes, Name, headers_of}
 use Rattle.code_drafts.specs.Emits.{Writing}
 use Rattle.code_emit.specs.declared.emitting.WrittenCode.{WrittenCode}
-use Rattle.code_layout.specs.PlainItems.{plain_items}
-use Rattle.code_layout.specs.declared.emitted.EmitItem.{EmitItem}
 use Rattle.expanded_code.specs.ExpandAnswers.{AnswersExpanded}
 use Rattle.flow_code.specs.FlatCode.{FlatCode}
 use Rattle.flow_code.specs.TypedFrames.{FolderFrames}
 use Rattle.flow_code.specs.declared.reason.KeptFault.{KeptFault}
 use Rattle.flow_code.specs.declared.reason.KeptFault.TheVariants as faults
 use Rattle.making_code.specs.CountedItems.{is_enter, site_news}
-use Rattle.making_code.specs.Laws.GrownPools.{Begins}
 use Rattle.member_link.specs.Machine.Links.{AreLinksOf}
 use Rattle.member_link.specs.Machine.Programs.{Links}
 use Rattle.member_link.specs.Scope.{Scope, scope_at}
 use Rattle.plan_flow.specs.PlanScope.{scope_of}
 use Rattle.plan_flow.specs.Plans.{IsLeast, Plan}
 use Rattle.plan_flow.specs.Written.Routes.{IsRouted, Routes}
-use Rattle.plan_flow.specs.Written.WrittenCode.{Form, short, written_items}
-use Rattle.plan_flow.specs.Written.WrittenConstants.{code_pool, indexed_items}
+use Rattle.plan_flow.specs.Written.WrittenCode.{Form}
 use Rattle.plan_flow.specs.Written.WrittenPrograms.{WrittenMethod, items_of}
 use Rattle.pool_edit.specs.Edits.{Continues, Edit}
-use Rattle.stackmap_emit.specs.FramedItems.{finished_by}
 
 -- the flat code of a method of a verified folder
 pub record IsFlatOf (classes : Classes) (typed : FolderFrames) (at : MethodAt) (flat : FlatCode)
@@ -80,20 +75,6 @@ pub record IsMade (of : Writing) (m : Meaning) (count : ℕ) (names : List Name)
       → IsRouted (scope of m) of.plan routes
       → AreNamesOf (MakesHere (rewriting of m) (one_of of routes form)) names
 
--- Items of written code in the short form, by the constants of a pool that has grown by theirs.
-pub record AreItemsOf (of : Writing) (m : Meaning) (routes : Routes) (pool : Constants)
-    (items : List EmitItem)
-    : Type 0 where
-  pub routed : IsRouted (scope of m) of.plan routes
-  pub host : Scope
-  pub is_host : scope_at of.classes m.at ≡ Some host
-  pub before : Constants
-  pub begins : Begins host.class.pool before
-  pub grows : code_pool (scope of m) m.constructor
-      (written_items short (finished_by (scope of m) routes)) before ≡ Some pool
-  pub items_are : plain_items items
-      ≡ indexed_items (scope of m) m.constructor pool short (finished_by (scope of m) routes)
-
 -- the fields whose flags are cleared for written code
 pub record AreUsed (of : Writing) (m : Meaning) (routes : Routes)
     (finals privates : List FieldAt)
@@ -116,6 +97,12 @@ pub record IsMethodOf (of : Writing) (code : WrittenCode) (pool : Constants) (pa
       → IsMeant of m
       → AreItemsOf of m routes pool code.emitted
       → AreUsed of m routes method.finals method.privates
+
+-- the same, if there is such a Code
+abbrev pub IsOfPart : Writing → WrittenCode → Constants → Result CodePart KeptFault
+    → RewrittenMethod → Type 0
+IsOfPart of code pool (Ok part) method = IsMethodOf of code pool part method
+IsOfPart of code pool (Err fault) method = ⊥
 
 -- an outcome by what was written
 abbrev pub IsOutcomeOf : Result RewrittenMethod KeptFault → Result Outcome NoMemory → Type 0

@@ -1,12 +1,12 @@
 -- A method has one reason, in a pool as the methods before it leave it, and what is written of it leaves one pool.
-use Rattle.std.proofs.Common.{◌≡◌, ◌⊎◌, ℕ, nat_le, Bool, List, [], ◌∷◌, map, Option, Some, refl, sym, ap, subst, ◌∙◌, inl, inr, if◌then◌else◌}
+use Rattle.std.proofs.Common.{◌≡◌, ◌⊎◌, ◌<◌, ℕ, nat_le, Bool, List, [], ◌∷◌, map, Option, Some, refl, sym, ap, subst, ◌∙◌, inl, inr, if◌then◌else◌}
 use Rattle.std.proofs.lemmas.Option.{none-some, same_Some}
 use Rattle.class_model.specs.Pool.{Constants}
 use Rattle.class_model.specs.declared.class_file.MethodAt.{MethodAt}
 use Rattle.class_model.specs.declared.instr.Instr.{Instr}
 use Rattle.class_model.specs.declared.frame.Frame.{Frame}
 use Rattle.class_rewrite.specs.Laws.OneReason.{HasEarlyReason, one_reason}
-use Rattle.class_rewrite.specs.Rewriting.Methods.{CodeIsPast, FramesArePast, GainsNothing, HasReasonIn, IsCoded, IsFramedIn, IsLongCode, IsPlanned, IsRewritten, IsTooLong, Rewriting, Rewritten, short_items}
+use Rattle.class_rewrite.specs.Rewriting.Methods.{CodeIsPast, FramesArePast, GainsNothing, HasReasonIn, IsCoded, IsDeepCode, IsFramedIn, IsLongCode, IsPlanned, IsRewritten, IsShallow, IsTooLong, Rewriting, Rewritten, short_items}
 use Rattle.code_layout.specs.Layout.{end_from, short_spelled}
 use Rattle.code_layout.specs.PlainItems.{plain_item, plain_items}
 use Rattle.code_layout.specs.declared.emitted.Catch.{Catch}
@@ -23,14 +23,14 @@ use Rattle.plan_flow.specs.Gain.{Gains}
 use Rattle.plan_flow.specs.Laws.OneRouting.{routing_is_one}
 use Rattle.plan_flow.specs.PlanScope.{PlanScope, scope_of}
 use Rattle.plan_flow.specs.Plans.{IsLeast, Plan}
-use Rattle.plan_flow.specs.Written.FramedCode.{IsFramed, body_of_items}
+use Rattle.plan_flow.specs.Written.FramedCode.{IsFramed, body_of_items, greatest_of}
 use Rattle.plan_flow.specs.Written.Routes.{IsRouted, Routes}
 use Rattle.plan_flow.specs.Written.WrittenCode.{Form, short, wide}
 use Rattle.plan_flow.specs.Written.WrittenConstants.{code_pool, indexed_items}
 use Rattle.plan_flow.specs.Written.WrittenPrograms.{WrittenMethod, finished_of, plan_scope}
 use Rattle.plan_flow.specs.declared.edge.Edge.{Edge}
 use Rattle.stackmap_emit.specs.FrameConstants.{frames_pool}
-use Rattle.stackmap_emit.specs.Laws.OneFraming.{stated_alike, statements_are_one}
+use Rattle.stackmap_emit.specs.Laws.OneFraming.{frames_are_one, stated_alike, statements_are_one}
 use Rattle.stackmap_emit.specs.PlacedFrames.{stated_from}
 use Rattle.virtual_state.specs.States.{State}
 
@@ -210,7 +210,8 @@ module _ (r : Rewriting) (known : HaveOne r) where
   before_plan at pool reasons.NoSite has = has
   before_plan at pool reasons.Wide has = has
   before_plan at pool reasons.NoGain has = (has.one.flat, has.planned.flat)
-  before_plan at pool reasons.Long has = (has.w.one.flat, has.coded.planned.flat)
+  before_plan at pool reasons.Long (inl has) = (has.w.one.flat, has.coded.planned.flat)
+  before_plan at pool reasons.Long (inr has) = (has.w.one.flat, has.coded.planned.flat)
   before_plan at pool reasons.PoolFull (inl has) = (has.one.flat, has.planned.flat)
   before_plan at pool reasons.PoolFull (inr has) = (has.w.one.flat, has.coded.planned.flat)
   before_plan at pool reasons.Rewritten has = (has.0.one.flat, has.1.coded.planned.flat)
@@ -306,9 +307,14 @@ module _ (r : Rewriting) (known : HaveOne r) where
   framed_so one host pool items state frames =
       framed_in one items (body_of_items host one.flat pool 0 (plain_items items) state) frames
 
+  abbrev deepest_so : WrittenMethod → Scope → Constants → List EmitItem → (ℕ → Option Frame) → List Frame → ℕ
+  deepest_so one host pool items state frames =
+      greatest_of (body_of_items host one.flat pool 0 (plain_items items) state).points frames
+
   record SameFramed (w v : Rewritten) (host also : Scope) : Type 0 where
     hosts : host ≡ also
     stated : w.stated ≡ v.stated
+    greatest : greatest_of w.body.points w.frames ≡ greatest_of v.body.points v.frames
 
   same_framed : (at : MethodAt) (w v : Rewritten) (host also : Scope) → SameCoded w v
       → scope_at r.classes at ≡ Some host
@@ -336,6 +342,15 @@ module _ (r : Rewriting) (known : HaveOne r) where
             ∙ stated_alike p.state q.state 0 v.items states
             ∙ ap (λ (x : Body). stated_from x.stated 0 v.items) (sym q.body)
             ∙ sym q.stated;
+        greatest = ap (λ (x : Body). greatest_of x.points w.frames) p.body
+            ∙ ap (λ (x : List EmitItem). deepest_so w.one host w.code_pool x p.state w.frames) coded.items
+            ∙ ap (λ (x : WrittenMethod). deepest_so x host w.code_pool v.items p.state w.frames) coded.one
+            ∙ ap (λ (x : Constants). deepest_so v.one host x v.items p.state w.frames) coded.pool
+            ∙ ap (λ (x : Scope). deepest_so v.one x v.code_pool v.items p.state w.frames) hosts
+            ∙ ap (λ (x : List Frame). deepest_so v.one also v.code_pool v.items p.state x)
+            (frames_are_one also v.one.flat v.one.form (finished_of r.classes r.links v.one) v.code_pool 0 (plain_items v.items)
+            p.state q.state w.frames v.frames there there_also)
+            ∙ ap (λ (x : Body). greatest_of x.points v.frames) (sym q.body);
       }
 
   -- the pool with the constants of frames
@@ -376,6 +391,16 @@ module _ (r : Rewriting) (known : HaveOne r) where
       fits (subst (λ (x : List EmitItem). IsTooLong w.one.form x) coded.items
       (subst (λ (x : WrittenMethod). IsTooLong x.form long.w.items) coded.one long.long))
 
+  not_deep : (at : MethodAt) (pool : Constants) (w : Rewritten) (host : Scope) → IsDeepCode r at pool → IsCoded r at pool w
+      → scope_at r.classes at ≡ Some host
+      → IsFramedIn r host w
+      → IsShallow w
+      → ⊥
+  not_deep at pool w host deep p is_host framed shallow =
+      let coded = same_coded at pool deep.w w deep.coded p in
+      let same = same_framed at deep.w w deep.host host coded deep.is_host is_host deep.framed framed in
+      deep.deep (subst (λ (depth : ℕ). depth < 65535) (sym same.greatest) shallow)
+
   not_past_frames : (at : MethodAt) (pool : Constants) (w : Rewritten) → FramesArePast r at pool → IsRewritten r at pool w → ⊥
   not_past_frames at pool w past p =
       let coded = same_coded at pool past.w w past.coded p.coded in
@@ -388,28 +413,48 @@ module _ (r : Rewriting) (known : HaveOne r) where
       → HasReasonIn r at pool other
       → one ≡ other
   of_planned at pool reasons.NoGain reasons.NoGain planned_nogain planned_nogain x y = refl
-  of_planned at pool reasons.NoGain reasons.Long planned_nogain planned_long x y = absurd (no_gain at y.w.one y.w.plan x (y.coded.planned) (y.coded.gains))
+  of_planned at pool reasons.NoGain reasons.Long planned_nogain planned_long x (inl y) =
+      absurd (no_gain at y.w.one y.w.plan x (y.coded.planned) (y.coded.gains))
+  of_planned at pool reasons.NoGain reasons.Long planned_nogain planned_long x (inr y) =
+      absurd (no_gain at y.w.one y.w.plan x (y.coded.planned) (y.coded.gains))
   of_planned at pool reasons.NoGain reasons.PoolFull planned_nogain planned_poolfull x (inl y) = absurd (no_gain at y.one y.plan x (y.planned) (y.gains))
   of_planned at pool reasons.NoGain reasons.PoolFull planned_nogain planned_poolfull x (inr y) =
       absurd (no_gain at y.w.one y.w.plan x (y.coded.planned) (y.coded.gains))
   of_planned at pool reasons.NoGain reasons.Rewritten planned_nogain planned_rewritten x y =
       absurd (no_gain at y.0.one y.0.plan x (y.1.coded.planned) (y.1.coded.gains))
-  of_planned at pool reasons.Long reasons.NoGain planned_long planned_nogain x y = absurd (no_gain at x.w.one x.w.plan y (x.coded.planned) (x.coded.gains))
+  of_planned at pool reasons.Long reasons.NoGain planned_long planned_nogain (inl x) y =
+      absurd (no_gain at x.w.one x.w.plan y (x.coded.planned) (x.coded.gains))
+  of_planned at pool reasons.Long reasons.NoGain planned_long planned_nogain (inr x) y =
+      absurd (no_gain at x.w.one x.w.plan y (x.coded.planned) (x.coded.gains))
   of_planned at pool reasons.Long reasons.Long planned_long planned_long x y = refl
-  of_planned at pool reasons.Long reasons.PoolFull planned_long planned_poolfull x (inl y) = absurd (not_past at pool x.w y (x.coded))
-  of_planned at pool reasons.Long reasons.PoolFull planned_long planned_poolfull x (inr y) = absurd (not_long at pool y.w x (y.coded) (y.framed.fits))
-  of_planned at pool reasons.Long reasons.Rewritten planned_long planned_rewritten x y = absurd (not_long at pool y.0 x (y.1.coded) (y.1.framed.fits))
+  of_planned at pool reasons.Long reasons.PoolFull planned_long planned_poolfull (inl x) (inl y) = absurd (not_past at pool x.w y (x.coded))
+  of_planned at pool reasons.Long reasons.PoolFull planned_long planned_poolfull (inr x) (inl y) = absurd (not_past at pool x.w y (x.coded))
+  of_planned at pool reasons.Long reasons.PoolFull planned_long planned_poolfull (inl x) (inr y) =
+      absurd (not_long at pool y.w x (y.coded) (y.framed.fits))
+  of_planned at pool reasons.Long reasons.PoolFull planned_long planned_poolfull (inr x) (inr y) =
+      absurd (not_deep at pool y.w y.host x y.coded y.is_host y.framed y.shallow)
+  of_planned at pool reasons.Long reasons.Rewritten planned_long planned_rewritten (inl x) y =
+      absurd (not_long at pool y.0 x (y.1.coded) (y.1.framed.fits))
+  of_planned at pool reasons.Long reasons.Rewritten planned_long planned_rewritten (inr x) y =
+      absurd (not_deep at pool y.0 y.1.host x y.1.coded y.1.is_host y.1.framed y.1.shallow)
   of_planned at pool reasons.PoolFull reasons.NoGain planned_poolfull planned_nogain (inl x) y = absurd (no_gain at x.one x.plan y (x.planned) (x.gains))
   of_planned at pool reasons.PoolFull reasons.NoGain planned_poolfull planned_nogain (inr x) y =
       absurd (no_gain at x.w.one x.w.plan y (x.coded.planned) (x.coded.gains))
-  of_planned at pool reasons.PoolFull reasons.Long planned_poolfull planned_long (inl x) y = absurd (not_past at pool y.w x (y.coded))
-  of_planned at pool reasons.PoolFull reasons.Long planned_poolfull planned_long (inr x) y = absurd (not_long at pool x.w y (x.coded) (x.framed.fits))
+  of_planned at pool reasons.PoolFull reasons.Long planned_poolfull planned_long (inl x) (inl y) = absurd (not_past at pool y.w x (y.coded))
+  of_planned at pool reasons.PoolFull reasons.Long planned_poolfull planned_long (inl x) (inr y) = absurd (not_past at pool y.w x (y.coded))
+  of_planned at pool reasons.PoolFull reasons.Long planned_poolfull planned_long (inr x) (inl y) =
+      absurd (not_long at pool x.w y (x.coded) (x.framed.fits))
+  of_planned at pool reasons.PoolFull reasons.Long planned_poolfull planned_long (inr x) (inr y) =
+      absurd (not_deep at pool x.w x.host y x.coded x.is_host x.framed x.shallow)
   of_planned at pool reasons.PoolFull reasons.PoolFull planned_poolfull planned_poolfull x y = refl
   of_planned at pool reasons.PoolFull reasons.Rewritten planned_poolfull planned_rewritten (inl x) y = absurd (not_past at pool y.0 x (y.1.coded))
   of_planned at pool reasons.PoolFull reasons.Rewritten planned_poolfull planned_rewritten (inr x) y = absurd (not_past_frames at pool y.0 x y.1)
   of_planned at pool reasons.Rewritten reasons.NoGain planned_rewritten planned_nogain x y =
       absurd (no_gain at x.0.one x.0.plan y (x.1.coded.planned) (x.1.coded.gains))
-  of_planned at pool reasons.Rewritten reasons.Long planned_rewritten planned_long x y = absurd (not_long at pool x.0 y (x.1.coded) (x.1.framed.fits))
+  of_planned at pool reasons.Rewritten reasons.Long planned_rewritten planned_long x (inl y) =
+      absurd (not_long at pool x.0 y (x.1.coded) (x.1.framed.fits))
+  of_planned at pool reasons.Rewritten reasons.Long planned_rewritten planned_long x (inr y) =
+      absurd (not_deep at pool x.0 x.1.host y x.1.coded x.1.is_host x.1.framed x.1.shallow)
   of_planned at pool reasons.Rewritten reasons.PoolFull planned_rewritten planned_poolfull x (inl y) = absurd (not_past at pool x.0 y (x.1.coded))
   of_planned at pool reasons.Rewritten reasons.PoolFull planned_rewritten planned_poolfull x (inr y) = absurd (not_past_frames at pool x.0 y x.1)
   of_planned at pool reasons.Rewritten reasons.Rewritten planned_rewritten planned_rewritten x y = refl

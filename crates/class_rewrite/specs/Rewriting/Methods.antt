@@ -112,11 +112,16 @@ pub record IsFramedIn (r : Rewriting) (host : Scope) (w : Rewritten) : Type 0 wh
       (plain_items w.items) w.body w.frames
   pub stated : w.stated ≡ stated_from w.body.stated 0 w.items
 
+-- the stack is not as deep as a method may say, and so it is told how deep it is
+abbrev pub IsShallow : Rewritten → Type 0
+IsShallow w = greatest_of w.body.points w.frames < 65535
+
 pub record IsRewritten (r : Rewriting) (at : MethodAt) (pool : Constants) (w : Rewritten) : Type 0 where
   pub coded : IsCoded r at pool w
   pub host : Scope
   pub is_host : scope_at r.classes at ≡ Some host
   pub framed : IsFramedIn r host w
+  pub shallow : IsShallow w
   pub grows : frames_pool host.class.major w.stated w.code_pool ≡ Some w.pool
   pub max_stack : w.part.max_stack ≡ greatest_of w.body.points w.frames
   pub max_locals : w.part.max_locals ≡ written_units w.one.flat
@@ -150,6 +155,15 @@ pub record IsLongCode (r : Rewriting) (at : MethodAt) (pool : Constants) : Type 
   pub coded : IsCoded r at pool w
   pub long : IsTooLong w.one.form w.items
 
+-- its stack is as deep as a method may say, or deeper
+pub record IsDeepCode (r : Rewriting) (at : MethodAt) (pool : Constants) : Type 0 where
+  pub w : Rewritten
+  pub coded : IsCoded r at pool w
+  pub host : Scope
+  pub is_host : scope_at r.classes at ≡ Some host
+  pub framed : IsFramedIn r host w
+  pub deep : ¬ IsShallow w
+
 -- there is no room for the constants of its frames
 pub record FramesArePast (r : Rewriting) (at : MethodAt) (pool : Constants) : Type 0 where
   pub w : Rewritten
@@ -157,12 +171,13 @@ pub record FramesArePast (r : Rewriting) (at : MethodAt) (pool : Constants) : Ty
   pub host : Scope
   pub is_host : scope_at r.classes at ≡ Some host
   pub framed : IsFramedIn r host w
+  pub shallow : IsShallow w
   pub past : frames_pool host.class.major w.stated w.code_pool ≡ None
 
 -- The first reason that holds of a method, in the order of the reasons, in a pool.
 abbrev pub HasReasonIn : Rewriting → MethodAt → Constants → Reason → Type 0
 HasReasonIn r at pool reasons.NoGain = GainsNothing r at
 HasReasonIn r at pool reasons.PoolFull = CodeIsPast r at pool ⊎ FramesArePast r at pool
-HasReasonIn r at pool reasons.Long = IsLongCode r at pool
+HasReasonIn r at pool reasons.Long = IsLongCode r at pool ⊎ IsDeepCode r at pool
 HasReasonIn r at pool reasons.Rewritten = (w : Rewritten) × IsRewritten r at pool w
 HasReasonIn r at pool reason = IsNotExpanded r.classes r.typed at reason
