@@ -1,5 +1,7 @@
 pub mod AddedTexts
 pub mod AskedCodes
+pub mod CaughtItems
+pub mod CaughtTexts
 pub mod CheckedCodes
 pub mod CheckedItems
 pub mod FileClasses

@@ -13,6 +13,9 @@ use class_model::{
     a_descriptor_of_a_text, constants_compare_by_value, parameters_of_bytes_are_spelled,
 };
 use code_bytes::instructions_are_consecutive;
+use expanded_runs::{
+    an_expanded_flat_code_catches_what_its_host_names, an_expanded_flat_code_is_of_one_version,
+};
 use type_rules::a_grown_class_keeps_its_instructions;
 use written_files::{
     a_class_file_fits_its_items, a_field_constructor_passes_its_checks,
@@ -22,8 +25,7 @@ use written_files::{
 };
 
 /// Each class that is written of a folder that verifies is a class file (JVM Specification SE 8, 4.1 to 4.9), where the methods that are
-/// rewritten fit (`HasFittingMethods`): the classes that they catch and that their frames name are texts that constants may have, and their codes and
-/// frames fit.
+/// rewritten fit (`HasFittingMethods`): the classes that their frames name are texts that constants may have, and their codes and frames fit.
 pub fn written_classes_are_class_files()
     ensures { (r : Rewriting) (files : List ClassFile) (w : IsFolderWritten r files)
         → IsOfVerified r
@@ -31,6 +33,8 @@ pub fn written_classes_are_class_files()
         → AllByRecursion IsClassFile files }
 {
     a_written_folder_is_ready();
+    an_expanded_flat_code_catches_what_its_host_names();
+    an_expanded_flat_code_is_of_one_version();
     a_class_file_fits_its_items();
     a_written_class_is_a_class_file();
     fitting_constants_are_added();
