@@ -42,8 +42,15 @@ pub mod UsedFolders
 pub mod TypedRewriting
 pub mod TypedFolders
 pub mod SameHandles
-pub mod LastItems
 pub mod WrittenSettings
+mod NamedItems
+mod SpelledWalk
+mod SoundNeeds
+mod PlacedFits
+mod SoundItems
+pub mod LastItems
 pub mod EmittedItems
 pub mod LinkedParts
 pub mod SoundFolders
+mod RewrittenFrames
+mod LinkedFrames

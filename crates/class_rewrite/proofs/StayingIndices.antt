@@ -137,7 +137,7 @@ module _ (same : Compares) (limit : ℕ) (grown pool : Constants) (begins : Begi
 -- ---- items
 
 -- the opposite of a conditional jump names no constant
-opposite_names_none : (instr other : Instr) → opposite_instr instr ≡ Some other → named_index other ≡ None
+pub opposite_names_none : (instr other : Instr) → opposite_instr instr ≡ Some other → named_index other ≡ None
 opposite_names_none (If opcode to) other is = sym (ap named_index (same_Some _ other is))
 opposite_names_none (If2 opcode to) other is = sym (ap named_index (same_Some _ other is))
 opposite_names_none (IfSame opcode to) other is = sym (ap named_index (same_Some _ other is))

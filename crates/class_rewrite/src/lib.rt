@@ -3,6 +3,7 @@
 
 mod file_laws;
 mod folder;
+mod frame_facts;
 mod laws;
 mod ready_laws;
 mod reasons;
@@ -11,6 +12,10 @@ mod verified_laws;
 
 pub use file_laws::written_classes_are_class_files;
 pub use folder::{Optimised, optimise_folder};
+pub use frame_facts::{
+    frames_of_rewritten_methods_are_linked, frames_of_written_code_have_spelled_names,
+    frames_of_written_items_are_sound, rewritten_methods_have_sound_frames,
+};
 pub use laws::{
     a_method_has_one_reason, a_written_folder_runs_as_its_folder, a_written_folder_runs_the_same,
     an_expanded_flat_code_of_a_verified_folder_is_typed,

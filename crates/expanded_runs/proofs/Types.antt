@@ -72,3 +72,9 @@ mod ShortTexts
 pub mod KnownTypes
 pub mod Whole
 pub mod NoFlats
+mod FoundNames
+mod StatedClasses
+mod SpelledInstrs
+mod SpelledFrames
+pub mod FlatNames
+pub mod FlatClasses

@@ -5,3 +5,5 @@ pub mod CaughtNames
 pub mod ExpandedPrograms
 pub mod UsableNames
 pub mod VersionsKept
+pub mod NamedFrames
+pub mod Laws

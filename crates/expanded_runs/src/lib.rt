@@ -4,6 +4,7 @@
 
 mod byte_codes;
 mod laws;
+mod named;
 
 pub use byte_codes::codes_of_a_tree_are_bytes;
 pub use laws::{
@@ -13,3 +14,4 @@ pub use laws::{
     an_expanded_flat_code_names_what_the_host_may_use, expanded_flat_codes_have_a_replacement,
     expanded_flat_codes_run_equally, flat_codes_alone_run_equally,
 };
+pub use named::expanded_flat_codes_have_framed_names;

@@ -14,7 +14,7 @@ mod walk;
 mod wide_laws;
 
 pub use attribute::frames_attribute;
-pub use laws::what_types_items_types_the_laid_method;
+pub use laws::{a_laid_method_states_its_frames, what_types_items_types_the_laid_method};
 pub use place::{WrittenCode, place_frames};
 pub use walk::WrittenFrames;
 pub use wide_laws::items_that_are_made_wide_are_those_of_the_wide_form;

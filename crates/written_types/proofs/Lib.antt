@@ -129,3 +129,7 @@ mod WrittenEdges
 mod LedItems
 mod OpenThrows
 mod AllEdges
+mod StatedAt
+mod WholeFrames
+mod FromLaws
+mod NamedStates

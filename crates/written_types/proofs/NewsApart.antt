@@ -10,12 +10,12 @@ use Rattle.class_tree.specs.Headers.{Name}
 use Rattle.flow_code.specs.FlatCode.{point_at}
 use Rattle.flow_code.specs.declared.point.FlatInstr.TheVariants.{Of}
 use Rattle.flow_code.specs.declared.point.Point.{Point}
+use Rattle.making_code.specs.IndexedItems.{IndexedItem}
 use Rattle.making_code.specs.Items.{WItem, carried}
 use Rattle.member_link.specs.Machine.Replaced.{map_numbered}
 use Rattle.plan_flow.specs.Laws.WrittenBlocks.{first_item, split_at}
 use Rattle.plan_flow.specs.Written.Blocks.{Block, of_point}
 use Rattle.plan_flow.specs.Written.Finish.{Finished, end_items}
-use Rattle.plan_flow.specs.Written.FramedCode.{new_class_in}
 use Rattle.plan_flow.specs.Written.Routes.{Route, Routes}
 use Rattle.plan_flow.specs.Written.WrittenCode.{Form, block_items, short, written_items}
 use Rattle.plan_flow.specs.Written.WrittenConstants.{indexed_item}
@@ -29,6 +29,7 @@ use Rattle.written_types.proofs.NewItems.{NewBlock, OwnBlock, below, compare, ne
 use Rattle.written_types.proofs.Standing.{all_at}
 use Rattle.written_types.proofs.WrittenPool.{PoolLaws}
 use Rattle.written_types.specs.FitsTypes.{is_reached}
+use Rattle.written_types.specs.StatedFrames.{IsNewItem}
 use Rattle.written_types.specs.Writing.{Writing, items_in, scope_in}
 
 -- ---- where an item stands
@@ -140,40 +141,63 @@ module _ (w : Writing) (given : Given w) (laws : PoolLaws) where
         let some = some_items (block_items w.form second.block.own.one) _ _ second.block.items in
         absurd (omega (arith, starts, behind, some))
 
+  -- the item at which one stands
+  record NewThere (at : ℕ) (own : IsOwnNew w.s (is_reached routes) at) : Type 0 where
+    item : IndexedItem
+    there : slice_get (items_in w) (new_item w at) ≡ Some item
+    index : Indexed w own.new.class (New own.new.index)
+    is_new : item.instr ≡ New index.new
+
+  new_placed : (at : ℕ) (own : IsOwnNew w.s (is_reached routes) at) → NewThere at own
+  new_placed at own = record {
+    item = indexed_item w.s w.constructor w.pool w.form w.blocks (0 + length stands.left)
+        (new_of at own.new.point of.route own.new.class own.new.index);
+    there = ap (slice_get (items_in w)) of.block.own.starts ∙ item_there;
+    index = index;
+    is_new = rw index.is refl;
+  } where
+    of : OwnOf at own
+    of = own_of at own
+
+    index : Indexed w own.new.class (New own.new.index)
+    index =
+        indexed_at at own.new.point of.route own.new.class (New own.new.index) of.block.own (new_of at own.new.point of.route own.new.class own.new.index)
+        own.new.there own.new.is_new of.block.short_items refl
+
+    stands : ItemIn w w.form (new_of at own.new.point of.route own.new.class own.new.index) (first_item w.form w.blocks of.block.own.number)
+    stands =
+        first_of_block w w.form of.block.own.number of.block.own.one (new_of at own.new.point of.route own.new.class own.new.index) of.block.more
+        of.block.own.is of.block.items
+
+    item_there : slice_get (items_in w) (first_item w.form w.blocks of.block.own.number)
+        ≡ Some (indexed_item w.s w.constructor w.pool w.form w.blocks (0 + length stands.left)
+        (new_of at own.new.point of.route own.new.class own.new.index))
+    item_there =
+        ap (λ (items : List WItem). slice_get (map_numbered (indexed_item w.s w.constructor w.pool w.form w.blocks) zero items)
+        (first_item w.form w.blocks of.block.own.number)) stands.is
+        ∙ ap (slice_get (map_numbered (indexed_item w.s w.constructor w.pool w.form w.blocks) zero
+        (stands.left ++ (new_of at own.new.point of.route own.new.class own.new.index ∷ stands.right)))) stands.number_is
+        ∙ numbered_behind (indexed_item w.s w.constructor w.pool w.form w.blocks) zero stands.left stands.right
+        (new_of at own.new.point of.route own.new.class own.new.index)
+
+  -- it is a new
+  pub new_there : (at : ℕ) → IsOwnNew w.s (is_reached routes) at → IsNewItem (items_in w) (new_item w at)
+  new_there at own =
+      let placed = new_placed at own in
+      record { item = placed.item; there = placed.there; index = placed.index.new; is_new = placed.is_new }
+
   classes : (at : ℕ) (name : Name) → IsOwnNew w.s (is_reached routes) at → class_of_flat_new w.s.classes w.s.flat at ≡ Some name
       → (scope_in w).new_class (new_item w at) ≡ Some name
   classes at name own is =
-      ap (new_class_in w.pool (items_in w)) of.block.own.starts
-      ∙ rw item_there (rw index.is (index.meant.class name named)) where
-        of : OwnOf at own
-        of = own_of at own
-
-        index : Indexed w own.new.class (New own.new.index)
-        index =
-            indexed_at at own.new.point of.route own.new.class (New own.new.index) of.block.own (new_of at own.new.point of.route own.new.class own.new.index)
-            own.new.there own.new.is_new of.block.short_items refl
-
+      let placed = new_placed at own in
+      let item_there = placed.there in
+      let item_new = placed.is_new in
+      rw (item_there, item_new) (placed.index.meant.class name named) where
         named : class_at (flat_pool w.s.classes own.new.class) own.new.index ≡ Some name
         named =
             let there = own.new.there in
             let is_new = own.new.is_new in
             rw (there, is_new) at is
-
-        stands : ItemIn w w.form (new_of at own.new.point of.route own.new.class own.new.index) (first_item w.form w.blocks of.block.own.number)
-        stands =
-            first_of_block w w.form of.block.own.number of.block.own.one (new_of at own.new.point of.route own.new.class own.new.index) of.block.more
-            of.block.own.is of.block.items
-
-        item_there : slice_get (items_in w) (first_item w.form w.blocks of.block.own.number)
-            ≡ Some (indexed_item w.s w.constructor w.pool w.form w.blocks (0 + length stands.left)
-            (new_of at own.new.point of.route own.new.class own.new.index))
-        item_there =
-            ap (λ (items : List WItem). slice_get (map_numbered (indexed_item w.s w.constructor w.pool w.form w.blocks) zero items)
-            (first_item w.form w.blocks of.block.own.number)) stands.is
-            ∙ ap (slice_get (map_numbered (indexed_item w.s w.constructor w.pool w.form w.blocks) zero
-            (stands.left ++ (new_of at own.new.point of.route own.new.class own.new.index ∷ stands.right)))) stands.number_is
-            ∙ numbered_behind (indexed_item w.s w.constructor w.pool w.form w.blocks) zero stands.left stands.right
-            (new_of at own.new.point of.route own.new.class own.new.index)
 
   pub news_stand : NewsStand w (is_reached routes)
   news_stand = record { apart = apart; classes = classes }

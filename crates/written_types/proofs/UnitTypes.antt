@@ -51,7 +51,7 @@ both_paired [] others pairs also = also
 both_paired (one ∷ []) others pairs also = (λ wide. absurd (pairs.0 wide), also)
 both_paired (one ∷ next ∷ ones) others pairs also = (pairs.0, both_paired (next ∷ ones) others pairs.1 also)
 
-tops_paired : (count : ℕ) → HavePairs (replicate count types.Top)
+pub tops_paired : (count : ℕ) → HavePairs (replicate count types.Top)
 tops_paired zero = tt
 tops_paired (suc count) = (λ wide. absurd (false≢true wide), tops_paired count)
 

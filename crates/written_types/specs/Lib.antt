@@ -1,4 +1,5 @@
 pub mod FitsTypes
 pub mod Inner
 pub mod Setting
+pub mod StatedFrames
 pub mod Writing

@@ -66,7 +66,7 @@ constant_holds major pool all index c is = by (slice_get pool index) refl where
 
 -- ---- a part that is there
 
-and_then_some : {A B : Type 0} (f : A → Option B) (o : Option A) (b : B) → option_and_then f o ≡ Some b → (a : A) × (o ≡ Some a) × (f a ≡ Some b)
+pub and_then_some : {A B : Type 0} (f : A → Option B) (o : Option A) (b : B) → option_and_then f o ≡ Some b → (a : A) × (o ≡ Some a) × (f a ≡ Some b)
 and_then_some f None b is = absurd (none-some b is)
 and_then_some f (Some a) b is = (a, refl, is)
 
@@ -74,7 +74,7 @@ pub record ReferenceParts (pool : Constants) (class member : ℕ) (r : Reference
   pub class_is : class_at pool class ≡ Some r.class
   pub desc_is : descriptor_at pool member ≡ Some r.desc
 
-reference_parts : (pool : Constants) (class member : ℕ) (r : Reference) → reference_at pool class member ≡ Some r
+pub reference_parts : (pool : Constants) (class member : ℕ) (r : Reference) → reference_at pool class member ≡ Some r
     → ReferenceParts pool class member r
 reference_parts pool class member r is = by (class_at pool class) refl (name_at pool member) refl (descriptor_at pool member) refl where
   by : (c : Option Name) → class_at pool class ≡ c → (n : Option (List ℕ)) → name_at pool member ≡ n
@@ -115,7 +115,7 @@ module _ (laws : DescriptorLaws) (s : Scope) (site : Site) (facts : FileFacts s.
   us = record { headers = s.headers; pool = s.class.pool; site = site }
 
   -- texts
-  utf8_text : (index : ℕ) (text : List ℕ) → utf8_at pool index ≡ Some text → IsText text
+  pub utf8_text : (index : ℕ) (text : List ℕ) → utf8_at pool index ≡ Some text → IsText text
   utf8_text index text is =
       let found = and_then_some text_of (constant_at pool index) text is in
       by found.0 (found.1) (found.2) where
@@ -125,7 +125,7 @@ module _ (laws : DescriptorLaws) (s : Scope) (site : Site) (facts : FileFacts s.
             (record { spelling = (facts.each index (consts.Utf8 own) there).1.0; len = facts.short index own there })
         by other there same = absurd (none-some text same)
 
-  descriptor_text : (member : ℕ) (text : List ℕ) → descriptor_at pool member ≡ Some text → IsText text
+  pub descriptor_text : (member : ℕ) (text : List ℕ) → descriptor_at pool member ≡ Some text → IsText text
   descriptor_text member text is =
       let found = and_then_some (λ (n : ℕ × ℕ). utf8_at pool n.1) (option_and_then name_and_type_of (constant_at pool member)) text is in
       utf8_text found.0.1 text (found.2)
@@ -192,7 +192,7 @@ module _ (laws : DescriptorLaws) (s : Scope) (site : Site) (facts : FileFacts s.
     by other e (inl is) uses names = absurd is
     by other e (inr is) uses names = absurd is
 
-  called_constant : (opcode index count : ℕ) → IsCalled pool s.class.major opcode index count
+  pub called_constant : (opcode index count : ℕ) → IsCalled pool s.class.major opcode index count
       → IsMethodConstant (constant_at pool index) ⊎ IsInterfaceConstant (constant_at pool index)
   called_constant opcode index count (inl is) = inl is.1
   called_constant opcode index count (inr (inl is)) = inr is.1

@@ -14,7 +14,7 @@ use Rattle.class_model.specs.Laws.ClassFiles.{parts_hold}
 use Rattle.class_model.specs.Laws.Codes.{code_has}
 use Rattle.class_model.specs.Laws.Lists.{at_index}
 use Rattle.class_model.specs.MethodCode.{code_of}
-use Rattle.class_model.specs.Methods.{IsDescriptorOf, home_of}
+use Rattle.class_model.specs.Methods.{IsDescriptorOf, entry_of, home_of}
 use Rattle.class_model.specs.PoolChecks.{class_at, entries_checks, text_or_empty, utf8_at}
 use Rattle.class_model.specs.Spelling.{class_bytes}
 use Rattle.class_model.specs.declared.class_file.Attr.{Attr}
@@ -40,12 +40,14 @@ use Rattle.expanded_runs.proofs.Types.FrameFacts.{FrameFacts}
 use Rattle.expanded_runs.proofs.Types.InstrNames.{FileFacts, constant_holds, instr_named}
 use Rattle.expanded_runs.proofs.Types.KnownBases.{array_interfaces, classes_there, handles_there, strings_there, types_there}
 use Rattle.expanded_runs.proofs.Types.NamedDescriptors.{DescriptorLaws, parameters_named}
-use Rattle.expanded_runs.proofs.Types.NamedTypes.{AreNamed, named_get, named_known, named_there}
+use Rattle.expanded_runs.proofs.Types.NamedTypes.{AreNamed, named_known, named_there}
 use Rattle.expanded_runs.proofs.Types.OwnPoints.{IsTyped, TypingLaws, typed_method}
-use Rattle.expanded_runs.proofs.Types.RowNames.{PoolNamed, row_keeps_named}
+use Rattle.expanded_runs.proofs.Types.RowNames.{PoolNamed, there_kept}
 use Rattle.expanded_runs.proofs.Types.ShortTexts.{class_texts_short}
-use Rattle.expanded_runs.proofs.Types.StatedNames.{entry_named, frame_named, one_of}
+use Rattle.expanded_runs.proofs.Types.StatedNames.{all_values_named, entry_frame_has, frame_named, one_of}
 use Rattle.expanded_runs.proofs.Types.ThroughClass.{ArrayInterfaces, IsKnown}
+use Rattle.expanded_runs.specs.Laws.KeptNames.{load_fits, named_get, row_keeps}
+use Rattle.expanded_runs.specs.NamedFrames.{FrameHas, IsKeptName, PoolHas}
 use Rattle.flow_code.specs.TypedFrames.{FolderFrames}
 use Rattle.member_link.specs.Bodies.{falls_through, flows_on}
 use Rattle.member_link.specs.BodyTyping.{RowHolds}
@@ -63,27 +65,24 @@ use Rattle.type_rules.specs.Verified.{TypesFolder}
 
 -- ---- of a method by itself
 
-module _ (s : Scope) (frames : List Frame) (typed : IsTyped s frames) (one_each : length frames ≡ length (instructions s))
-    (no_array : (name : Name) → IsArray name → class_named s.headers name ≡ None) (own_there : IsNamedThere s.headers (row_scope s).own.name)
-    (entry_has : AreNamed s.headers (entry s))
-    (stated_has : (place : ℕ) (frame : Frame) → stated_at s place ≡ Some frame → AreNamed s.headers frame)
-    (instr_has : (k : ℕ) (placed : Placed) → slice_get (instructions s) k ≡ Some placed → PoolNamed (row_scope s) placed.instr) where
-  abbrev Has : Frame → Type 0
-  Has frame = AreNamed s.headers frame
-
-  behind_has : (placed : Placed) (frame flows : Frame) → PoolNamed (row_scope s) placed.instr → Has frame
+module _ (Has : Name → Type 0) (closed : IsKeptName Has) (s : Scope) (frames : List Frame) (typed : IsTyped s frames)
+    (one_each : length frames ≡ length (instructions s)) (own_has : Has (row_scope s).own.name) (entry_has : FrameHas Has (entry s))
+    (stated_has : (place : ℕ) (frame : Frame) → stated_at s place ≡ Some frame → FrameHas Has frame)
+    (instr_has : (k : ℕ) (placed : Placed) → slice_get (instructions s) k ≡ Some placed → PoolHas Has (row_scope s) placed.instr) where
+  behind_has : (placed : Placed) (frame flows : Frame) → PoolHas Has (row_scope s) placed.instr → FrameHas Has frame
       → RowHolds (row_scope s) frame (row_of (row_scope s) frame placed.at placed.instr)
       → flows_on (point_of s placed) frame ≡ Some flows
-      → Has flows
+      → FrameHas Has flows
   behind_has placed frame flows constants has row is =
-      let keeps = row_keeps_named (row_scope s) frame no_array own_there has placed.at placed.instr constants row.operands in
+      let fit = load_fits (row_scope s) frame placed.at placed.instr row.operands in
+      let keeps = row_keeps Has closed (row_scope s) (row_scope s) frame own_has has placed.at placed.instr constants fit in
       let same = framed_is (falls_through placed.instr) (row_of (row_scope s) frame placed.at placed.instr).goes_on _ flows is in
-      subst Has same (record { locals = keeps.0; stack = keeps.1 })
+      subst (FrameHas Has) same (record { locals = keeps.0; stack = keeps.1 })
 
-  -- Each frame.
-  pub typed_named : (k : ℕ) (frame : Frame) → slice_get frames k ≡ Some frame → AreNamed s.headers frame
-  typed_named =
-      each_frame s frames typed one_each Has entry_has stated_has
+  -- What is known of the names of the frames that it begins with and states, and of its constants, is known of those of each frame.
+  pub typed_keep : (k : ℕ) (frame : Frame) → slice_get frames k ≡ Some frame → FrameHas Has frame
+  typed_keep =
+      each_frame s frames typed one_each (FrameHas Has) entry_has stated_has
       (λ k placed there frame flows has row is. behind_has placed frame flows (instr_has k placed there) has row is)
 
 -- ---- of a folder
@@ -96,7 +95,7 @@ pub record NameLaws : Type 0 where
   pub operands : (bytes : List ℕ) (class : ClassFile) → ClassOf bytes class → HasReadOperands class
 
 -- what each of these is asked
-each_asked : {F X : Type 0} (asks : X → List (Check F)) (items : List X) → AllHold (asked_each asks items)
+pub each_asked : {F X : Type 0} (asks : X → List (Check F)) (items : List X) → AllHold (asked_each asks items)
     → (n : ℕ) (item : X) → slice_get items n ≡ Some item → AllHold (asks item)
 each_asked asks [] hold n item is = absurd cc
 each_asked asks (first ∷ items) hold zero item is =
@@ -139,11 +138,28 @@ decoded_at s number placed is = by (decoded s.part.code) refl where
   by (Ok instrs) e = record { instrs = instrs; decodes = e; there = rw e at is }
   by (Err fault) e = let no : None ≡ Some placed = rw e at is in absurd (none-some placed no)
 
+-- what is known of a class file of the folder
+pub file_facts : {classes : Classes} → IsTree classes → IsHierarchy (headers_of classes) → (number : ℕ) (file : ClassFile)
+    → slice_get classes.folder number ≡ Some file
+    → FileFacts (headers_of classes) file.major file.pool
+file_facts {classes} tree hierarchy number file there = record {
+  each = constant_holds file.major file.pool
+      (subst (λ (f : ClassFile). AllHold (entries_checks f.major f.pool 10 f.pool)) (sym read.is) (parts_hold read.cut read.holds).pool);
+  short = class_texts_short file read;
+  no_array = hierarchy.no_array;
+  strings = strings_there classes some tree.holds;
+  classes = classes_there classes some tree.holds;
+  handles = λ index kind reference is. handles_there classes some tree.holds number file there index (consts.MethodHandle kind reference) is refl;
+  types = λ index desc is. types_there classes some tree.holds number file there index (consts.MethodType desc) is refl;
+} where
+  some : 0 < length classes.folder
+  some = let within = slice_get_within classes.folder number file there in omega (arith, within)
+
+  read : ClassOf (class_bytes file) file
+  read = at_index IsClassFile classes.folder number file tree.folder there
+
 module _ (laws : NameLaws) {classes : Classes} (tree : IsTree classes) (linked : IsLinked classes) (hierarchy : IsHierarchy (headers_of classes))
     (at : MethodAt) (s : Scope) (where_is : IsScopeAt classes at s) where
-  some : 0 < length classes.folder
-  some = let within = slice_get_within classes.folder at.class s.class where_is.of_folder in omega (arith, within)
-
   read : ClassOf (class_bytes s.class) s.class
   read = at_index IsClassFile classes.folder at.class s.class tree.folder where_is.of_folder
 
@@ -159,18 +175,8 @@ module _ (laws : NameLaws) {classes : Classes} (tree : IsTree classes) (linked :
       let there : IsThere (headers_of classes) (header_of s.class).name = rw own_found refl in
       named_there (headers_of classes) hierarchy.no_array (header_of s.class).name there
 
-  facts : FileFacts (headers_of classes) s.class.major s.class.pool
-  facts = record {
-    each = constant_holds s.class.major s.class.pool
-        (subst (λ (f : ClassFile). AllHold (entries_checks f.major f.pool 10 f.pool)) (sym read.is) (parts_hold read.cut read.holds).pool);
-    short = class_texts_short s.class read;
-    no_array = hierarchy.no_array;
-    strings = strings_there classes some tree.holds;
-    classes = classes_there classes some tree.holds;
-    handles = λ index kind reference is.
-        handles_there classes some tree.holds at.class s.class where_is.of_folder index (consts.MethodHandle kind reference) is refl;
-    types = λ index desc is. types_there classes some tree.holds at.class s.class where_is.of_folder index (consts.MethodType desc) is refl;
-  }
+  pub facts : FileFacts (headers_of classes) s.class.major s.class.pool
+  facts = file_facts tree hierarchy at.class s.class where_is.of_folder
 
   -- ---- the code by its place
 
@@ -236,19 +242,26 @@ module _ (laws : NameLaws) {classes : Classes} (tree : IsTree classes) (linked :
         (parameters_named laws.descriptors (headers_of classes) text of.descriptor of.spelled
         (subst (DescriptorNames (IsThere (headers_of classes))) same own_names))
 
-  entry_has : AreNamed (headers_of classes) (entry s)
-  entry_has =
-      entry_named (headers_of classes) s.method.flags (text_or_empty (utf8_at s.class.pool s.method.name)) (home_of s.class).name
-      (parameters_of (own_descriptor s)) s.part.max_locals (by (class_at s.class.pool s.class.this_class) refl) own_parameters where
+  pub entry_names : (locals : ℕ)
+      → AreNamed (headers_of classes) (entry_of (home_of s.class) s.method (record s.part { max_locals = locals }))
+  entry_names locals =
+      entry_frame_has (IsNamedThere (headers_of classes)) s.method.flags (text_or_empty (utf8_at s.class.pool s.method.name)) (home_of s.class).name
+      (parameters_of (own_descriptor s)) locals (by (class_at s.class.pool s.class.this_class) refl)
+      (all_values_named (headers_of classes) (parameters_of (own_descriptor s)) own_parameters) where
         by : (name : Option Name) → class_at s.class.pool s.class.this_class ≡ name → IfSome name (IsNamedThere (headers_of classes))
         by None is = tt
         by (Some name) is = subst (IsNamedThere (headers_of classes)) (ap text_or_empty is) own_is_there
 
+  entry_has : AreNamed (headers_of classes) (entry s)
+  entry_has = entry_names s.part.max_locals
+
   pub method_named : (frames : List Frame) → IsTyped s frames → (k : ℕ) (frame : Frame) → slice_get frames k ≡ Some frame
       → AreNamed s.headers frame
   method_named frames typed =
-      typed_named s frames typed (typed.has.one_each ∙ length-map (instructions s) (point_of s))
-      (subst (λ (hs : Headers). (name : Name) → IsArray name → class_named hs name ≡ None) (sym where_is.headers) hierarchy.no_array)
+      typed_keep (IsNamedThere s.headers)
+      (there_kept s.headers
+      (subst (λ (hs : Headers). (name : Name) → IsArray name → class_named hs name ≡ None) (sym where_is.headers) hierarchy.no_array)) s frames typed
+      (typed.has.one_each ∙ length-map (instructions s) (point_of s))
       (subst (λ (hs : Headers). IsNamedThere hs (header_of s.class).name) (sym where_is.headers) own_is_there)
       (subst (λ (hs : Headers). AreNamed hs (entry s)) (sym where_is.headers) entry_has) stated_has instr_has
 
@@ -263,7 +276,7 @@ pub frames_known : NameLaws → TypingLaws → {classes : Classes} {typed : Fold
 frames_known laws typing {classes} tree linked hierarchy folder at s frames has k frame is n type there =
     let named = method_named laws tree linked hierarchy at s (scope_is_at classes at s has.is_scope) frames
     (typed_method typing folder has) k frame is in
-    named_known s.headers type (named_get s.headers frame.stack n type named.stack there)
+    named_known s.headers type (named_get (IsNamedThere s.headers) frame.stack n type named.stack there)
 
 -- What is known of the typed frames of a verified folder.
 pub frame_facts : NameLaws → TypingLaws → {classes : Classes} {typed : FolderFrames} → IsTree classes → IsLinked classes

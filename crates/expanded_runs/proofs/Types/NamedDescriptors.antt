@@ -26,7 +26,7 @@ pub record DescriptorLaws : Type 0 where
   pub of_text : (text : List ℕ) (d : Descriptor) → IsText text → BytesSpell text d → SpellsDescriptor text d
 
 -- the name in the text of a type that is a text
-type_of_text : (type : FieldType) → IsTypeName type → IsText (field_type_text type) → IsFieldType type
+pub type_of_text : (type : FieldType) → IsTypeName type → IsText (field_type_text type) → IsFieldType type
 type_of_text Byte is text = tt
 type_of_text Char is text = tt
 type_of_text Short is text = tt

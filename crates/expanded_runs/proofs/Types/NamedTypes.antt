@@ -1,35 +1,32 @@
 -- Types that name classes that are there, and arrays whose elements' classes are: closed under the components of arrays, and under arrays of a class.
-use Rattle.std.proofs.Common.{◌≡◌, ◌==◌, ◌-◌, ◌⊎◌, ℕ, zero, suc, Bool, true, false, List, [], ◌∷◌, ◌++◌, length, map, take, drop, slice_get, slice_set, Option, Some, None, IfSome, if◌then◌else◌, refl, sym, ap, subst, ◌∙◌, inl, inr, arith}
-use Rattle.std.specs.List.{AllByRecursion}
+use Rattle.std.proofs.Common.{◌≡◌, ◌==◌, ◌-◌, ◌⊎◌, ℕ, suc, Bool, true, false, List, [], ◌∷◌, ◌++◌, length, take, drop, Option, Some, None, IfSome, if◌then◌else◌, refl, sym, ap, subst, ◌∙◌, inl, inr, arith}
 use Rattle.std.proofs.lemmas.List.{length_push, take_at}
 use Rattle.std.proofs.lemmas.List.Sums.{take_while-cons}
-use Rattle.std.proofs.lemmas.Option.{none-some, same_Some}
+use Rattle.std.proofs.lemmas.Option.{none-some}
 use Rattle.class_model.specs.ArrayTypes.{component_of}
 use Rattle.class_model.specs.Characters.{class_letter, left_bracket, semicolon}
 use Rattle.class_model.specs.Descriptors.{brackets, named_text}
 use Rattle.class_model.specs.declared.frame.Frame.{Frame}
 use Rattle.class_model.specs.declared.frame.VType.{VType}
-use Rattle.class_model.specs.declared.frame.VType.TheVariants as types
 use Rattle.class_tree.specs.Headers.{Headers, IsThere, Name, class_named}
 use Rattle.class_tree.specs.Laws.Headers.{class_there}
 use Rattle.class_tree.specs.Subtype.{IsArray, IsReferenceComponent, array, class}
 use Rattle.expanded_runs.proofs.Types.ThroughClass.{IsKnown}
+use Rattle.expanded_runs.specs.NamedFrames.{FrameHas, TypeHas, TypesHave}
 use Rattle.member_link.specs.References.{IsNamedThere, element_class}
 
 -- ---- types of frames
 
 -- an object's type names a class that is there, or an array whose element's class is, if it has one
 abbrev pub IsNamedType : Headers → VType → Type 0
-IsNamedType headers (types.Object name) = IsNamedThere headers name
-IsNamedType headers other = Unit {0}
+IsNamedType headers type = TypeHas (IsNamedThere headers) type
 
 abbrev pub AreNamedTypes : Headers → List VType → Type 0
-AreNamedTypes headers entries = AllByRecursion (IsNamedType headers) entries
+AreNamedTypes headers entries = TypesHave (IsNamedThere headers) entries
 
 -- those of a frame
-pub record AreNamed (headers : Headers) (frame : Frame) : Type 0 where
-  pub locals : AreNamedTypes headers frame.locals
-  pub stack : AreNamedTypes headers frame.stack
+abbrev pub AreNamed : Headers → Frame → Type 0
+AreNamed headers frame = FrameHas (IsNamedThere headers) frame
 
 -- ---- names of arrays
 
@@ -60,7 +57,7 @@ element_deeper : (rest : List ℕ) → element_class (left_bracket ∷ left_brac
 element_deeper rest =
     element_more (left_bracket ∷ rest) ∙ (ap (λ n. element_in (drop n (left_bracket ∷ rest))) (bracket_more rest) ∙ sym (element_more rest))
 
-class_front : (name : Name) → take (length (name ++ semicolon ∷ []) - 1) (name ++ semicolon ∷ []) ≡ name
+pub class_front : (name : Name) → take (length (name ++ semicolon ∷ []) - 1) (name ++ semicolon ∷ []) ≡ name
 class_front name =
     take_at name (semicolon ∷ []) (length (name ++ semicolon ∷ []) - 1) (let e = length_push name semicolon in omega (arith, e))
 
@@ -123,39 +120,3 @@ pub named_known : (headers : Headers) (type : VType) → IsNamedType headers typ
 named_known headers type named = record {
   named = λ name is. array_or_there headers name (subst (IsNamedType headers) is named);
 }
-
--- ---- lists of types
-
-module _ (headers : Headers) where
-  pub named_append : (entries others : List VType) → AreNamedTypes headers entries → AreNamedTypes headers others
-      → AreNamedTypes headers (entries ++ others)
-  named_append [] others one two = two
-  named_append (type ∷ entries) others one two = (one.0, named_append entries others one.1 two)
-
-  pub named_take : (count : ℕ) (entries : List VType) → AreNamedTypes headers entries → AreNamedTypes headers (take count entries)
-  named_take zero entries named = tt
-  named_take (suc count) [] named = tt
-  named_take (suc count) (type ∷ entries) named = (named.0, named_take count entries named.1)
-
-  pub named_drop : (count : ℕ) (entries : List VType) → AreNamedTypes headers entries → AreNamedTypes headers (drop count entries)
-  named_drop zero entries named = named
-  named_drop (suc count) [] named = tt
-  named_drop (suc count) (type ∷ entries) named = named_drop count entries named.1
-
-  pub named_set : (entries : List VType) (at : ℕ) (type : VType) → AreNamedTypes headers entries → IsNamedType headers type
-      → AreNamedTypes headers (slice_set entries at type)
-  named_set [] at type named is = tt
-  named_set (first ∷ entries) zero type named is = (is, named.1)
-  named_set (first ∷ entries) (suc at) type named is = (named.0, named_set entries at type named.1 is)
-
-  pub named_get : (entries : List VType) (at : ℕ) (type : VType) → AreNamedTypes headers entries → slice_get entries at ≡ Some type
-      → IsNamedType headers type
-  named_get [] at type named is = absurd cc
-  named_get (first ∷ entries) zero type named is = subst (IsNamedType headers) (same_Some first type is) named.0
-  named_get (first ∷ entries) (suc at) type named is = named_get entries at type named.1 is
-
-  pub named_map : (change : VType → VType) → ((type : VType) → IsNamedType headers type → IsNamedType headers (change type))
-      → (entries : List VType) → AreNamedTypes headers entries
-      → AreNamedTypes headers (map change entries)
-  named_map change keeps [] named = tt
-  named_map change keeps (type ∷ entries) named = (keeps type named.0, named_map change keeps entries named.1)

@@ -16,9 +16,11 @@ use Rattle.class_model.specs.declared.frame.Frame.{Frame}
 use Rattle.class_model.specs.declared.frame.PlacedFrame.{PlacedFrame}
 use Rattle.class_model.specs.declared.frame.VType.{VType}
 use Rattle.class_model.specs.declared.frame.VType.TheVariants as types
-use Rattle.class_tree.specs.Headers.{Headers, IsThere}
-use Rattle.expanded_runs.proofs.Types.NamedTypes.{AreNamed, AreNamedTypes, IsNamedType, named_append}
-use Rattle.member_link.specs.References.{IsNamedThere, TypeNames}
+use Rattle.class_tree.specs.Headers.{Headers, IsThere, Name}
+use Rattle.expanded_runs.proofs.Types.NamedTypes.{AreNamed, AreNamedTypes, IsNamedType}
+use Rattle.expanded_runs.specs.Laws.KeptNames.{named_append}
+use Rattle.expanded_runs.specs.NamedFrames.{FrameHas, TypeHas, TypesHave}
+use Rattle.member_link.specs.References.{TypeNames}
 use Rattle.member_link.specs.Uses.{UseScope, frame_checks, type_checks}
 
 -- ---- stated frames
@@ -81,17 +83,22 @@ value_named headers Long there = tt
 value_named headers Float there = tt
 value_named headers Double there = tt
 
-module _ (headers : Headers) where
-  values_named : (params : List FieldType) → AllByRecursion (TypeNames (IsThere headers)) params
-      → AreNamedTypes headers (map verification_type params)
-  values_named [] there = tt
-  values_named (param ∷ params) there = (value_named headers param there.0, values_named params there.1)
+pub all_values_named : (headers : Headers) (params : List FieldType) → AllByRecursion (TypeNames (IsThere headers)) params
+    → AllByRecursion (λ type. IsNamedType headers (verification_type type)) params
+all_values_named headers [] there = tt
+all_values_named headers (param ∷ params) there = (value_named headers param there.0, all_values_named headers params there.1)
 
-  tops_named : (count : ℕ) → AreNamedTypes headers (replicate count types.Top)
+module _ (Has : Name → Type 0) where
+  values_named : (params : List FieldType) → AllByRecursion (λ type. TypeHas Has (verification_type type)) params
+      → TypesHave Has (map verification_type params)
+  values_named [] there = tt
+  values_named (param ∷ params) there = (there.0, values_named params there.1)
+
+  tops_named : (count : ℕ) → TypesHave Has (replicate count types.Top)
   tops_named zero = tt
   tops_named (suc count) = (tt, tops_named count)
 
-  units_named : (entries : List VType) → AreNamedTypes headers entries → AreNamedTypes headers (units_of_entries entries)
+  units_named : (entries : List VType) → TypesHave Has entries → TypesHave Has (units_of_entries entries)
   units_named [] all = tt
   units_named (types.Long ∷ entries) all = (tt, (tt, units_named entries all.1))
   units_named (types.Double ∷ entries) all = (tt, (tt, units_named entries all.1))
@@ -103,31 +110,31 @@ module _ (headers : Headers) where
   units_named (types.Object name ∷ entries) all = (all.0, units_named entries all.1)
   units_named (types.Uninit at ∷ entries) all = (tt, units_named entries all.1)
 
-  filled_named : (max_locals : ℕ) (entries : List VType) → AreNamedTypes headers entries → AreNamedTypes headers (filled max_locals entries)
+  filled_named : (max_locals : ℕ) (entries : List VType) → TypesHave Has entries → TypesHave Has (filled max_locals entries)
   filled_named max_locals entries all =
-      named_append headers (units_of_entries entries) (replicate (max_locals - length (units_of_entries entries)) types.Top)
+      named_append Has (units_of_entries entries) (replicate (max_locals - length (units_of_entries entries)) types.Top)
       (units_named entries all) (tops_named (max_locals - length (units_of_entries entries)))
 
-  pub entry_named : (flags : ℕ) (name : List ℕ) (class : Option (List ℕ)) (params : List FieldType) (max_locals : ℕ)
-      → IfSome class (IsNamedThere headers)
-      → AllByRecursion (TypeNames (IsThere headers)) params
-      → AreNamed headers (entry_frame flags name class params max_locals)
-  entry_named flags name class params max_locals own there = record { locals = by (has flags STATIC) refl; stack = tt } where
-    rest : AreNamedTypes headers (map verification_type params)
+  pub entry_frame_has : (flags : ℕ) (name : List ℕ) (class : Option (List ℕ)) (params : List FieldType) (max_locals : ℕ)
+      → IfSome class Has
+      → AllByRecursion (λ type. TypeHas Has (verification_type type)) params
+      → FrameHas Has (entry_frame flags name class params max_locals)
+  entry_frame_has flags name class params max_locals own there = record { locals = by (has flags STATIC) refl; stack = tt } where
+    rest : TypesHave Has (map verification_type params)
     rest = values_named params there
 
-    of_class : (class_is : Option (List ℕ)) → class ≡ class_is → IfSome class_is (IsNamedThere headers)
+    of_class : (class_is : Option (List ℕ)) → class ≡ class_is → IfSome class_is Has
         → has flags STATIC ≡ false → is_text init (Some name) ≡ false
-        → AreNamedTypes headers (entry_frame flags name class params max_locals).locals
+        → TypesHave Has (entry_frame flags name class params max_locals).locals
     of_class (Some named) is own static other =
         rw (static, other, is) (filled_named max_locals (types.Object named ∷ map verification_type params) (own, rest))
     of_class None is own static other = rw (static, other, is) (filled_named max_locals (types.Top ∷ map verification_type params) (tt, rest))
 
     of_name : (is_init : Bool) → is_text init (Some name) ≡ is_init → has flags STATIC ≡ false
-        → AreNamedTypes headers (entry_frame flags name class params max_locals).locals
+        → TypesHave Has (entry_frame flags name class params max_locals).locals
     of_name true is static = rw (static, is) (filled_named max_locals (types.UninitThis ∷ map verification_type params) (tt, rest))
     of_name false is static = of_class class refl own static is
 
-    by : (static : Bool) → has flags STATIC ≡ static → AreNamedTypes headers (entry_frame flags name class params max_locals).locals
+    by : (static : Bool) → has flags STATIC ≡ static → TypesHave Has (entry_frame flags name class params max_locals).locals
     by true is = rw is (filled_named max_locals (map verification_type params) rest)
     by false is = of_name (is_text init (Some name)) refl is

@@ -146,7 +146,7 @@ none_placed place k (Some frame ∷ frames) none = absurd cc
 -- ---- the method
 
 module _ (laws : Laws) (w : LaidCode) (s : Scope) (grown : IsGrownMethod w.host s) (code : HasLaidCode w s)
-    (types : HasFrames (laid_body w s.part.max_stack) w.frames) (access : PassAccess w s) (whole : AreWhole w) where
+    (types : HasFrames (laid_body w s.part.max_stack) w.frames) (whole : AreWhole w) where
   abbrev spelled : Spelled
   spelled = spelled_in w.form
 
@@ -349,60 +349,62 @@ module _ (laws : Laws) (w : LaidCode) (s : Scope) (grown : IsGrownMethod w.host 
       ∙ given in
       rw (is_named) (ap read_or_none here)
 
-  stated_is : stated s ≡ frames_there
+  -- They are the placed frames of the items.
+  pub stated_is : stated s ≡ placed_frames (start_in (starts_from (spelled_in w.form) 0 w.items)) 0 (stated_by_items w)
   stated_is =
       let starts : placed_frames (start_in w.laid.starts) 0 (stated_by_items w) ≡ frames_there =
       ap (λ (list : List ℕ). placed_frames (start_in list) 0 (stated_by_items w)) code.laid.starts in
       read_there (laid_body w 0).entry (placed_frames (start_in w.laid.starts) 0 (stated_by_items w)) s.part.attrs code.attrs starts (sym entries_same)
       ∙ starts
 
-  known : Known w s
-  known = record {
-    in_class = in_class;
-    emitted = code.emitted;
-    access = access;
-    stated = λ n within.
-        ap (λ (list : List PlacedFrame). frame_for list (number n)) stated_is
-        ∙ stated_at_item spelled w.items take w.state (written_units w.flat) n within (λ frame is. whole n frame within is);
-    assign = λ from to is. (laws.frames w.host.headers s.headers from to grown.headers).0 is;
-    throws = λ caught is. (laws.throwables w.host.headers s.headers caught grown.headers).0 is;
-  }
+  module _ (access : PassAccess w s) where
+    known : Known w s
+    known = record {
+      in_class = in_class;
+      emitted = code.emitted;
+      access = access;
+      stated = λ n within.
+          ap (λ (list : List PlacedFrame). frame_for list (number n)) stated_is
+          ∙ stated_at_item spelled w.items take w.state (written_units w.flat) n within (λ frame is. whole n frame within is);
+      assign = λ from to is. (laws.frames w.host.headers s.headers from to grown.headers).0 is;
+      throws = λ caught is. (laws.throwables w.host.headers s.headers caught grown.headers).0 is;
+    }
 
-  -- ---- the whole
+    -- ---- the whole
 
-  body_typed : TypesBody body w.frames
-  body_typed = laws.types body w.frames (in_order w.pool body.scope 0 (indexed w)) types
+    body_typed : TypesBody body w.frames
+    body_typed = laws.types body w.frames (in_order w.pool body.scope 0 (indexed w)) types
 
-  ranges_are : s.part.handlers ≡ ranges_from spelled place 0 w.items
-  ranges_are = code.handlers ∙ code.laid.handlers
+    ranges_are : s.part.handlers ≡ ranges_from spelled place 0 w.items
+    ranges_are = code.handlers ∙ code.laid.handlers
 
-  none_more : (gap : ℕ) → gap ≡ 0 + gap
-  none_more gap = omega arith
+    none_more : (gap : ℕ) → gap ≡ 0 + gap
+    none_more gap = omega arith
 
-  all_from : From w s known 0 0 w.items w.frames
-  all_from = record {
-    items = λ gap. ap (slice_get w.items) (none_more gap);
-    frames = λ gap. ap (slice_get w.frames) (none_more gap);
-    offsets = λ gap. ap number (sym (none_more gap));
-    handlers = λ behind least. ap (catches_at s behind) ranges_are;
-  }
+    all_from : From w s known 0 0 w.items w.frames
+    all_from = record {
+      items = λ gap. ap (slice_get w.items) (none_more gap);
+      frames = λ gap. ap (slice_get w.frames) (none_more gap);
+      offsets = λ gap. ap number (sym (none_more gap));
+      handlers = λ behind least. ap (catches_at s behind) ranges_are;
+    }
 
-  entry_there : fa body.entry ≡ (body_of s).entry
-  entry_there =
-      entry_same number (home_of w.host.class) w.host.method (record w.host.part { max_locals = written_units w.flat })
-      ∙ sym entries_same
+    entry_there : fa body.entry ≡ (body_of s).entry
+    entry_there =
+        entry_same number (home_of w.host.class) w.host.method (record w.host.part { max_locals = written_units w.flat })
+        ∙ sym entries_same
 
-  instrs_typed : AreTyped (body_of s) (Some (body_of s).entry) (body_of s).points (map fa w.frames)
-  instrs_typed =
-      subst (λ (first : Frame). AreTyped (body_of s) (Some first) (body_of s).points (map fa w.frames)) entry_there
-      (subst (λ (instrs : List Placed). AreTyped (body_of s) (Some (fa body.entry)) (map (point_of s) instrs) (map fa w.frames)) (sym placed)
-      (typed_from w s known 0 0 w.items w.frames (Some body.entry) all_from take body_typed.catch_types body_typed.instrs))
+    instrs_typed : AreTyped (body_of s) (Some (body_of s).entry) (body_of s).points (map fa w.frames)
+    instrs_typed =
+        subst (λ (first : Frame). AreTyped (body_of s) (Some first) (body_of s).points (map fa w.frames)) entry_there
+        (subst (λ (instrs : List Placed). AreTyped (body_of s) (Some (fa body.entry)) (map (point_of s) instrs) (map fa w.frames)) (sym placed)
+        (typed_from w s known 0 0 w.items w.frames (Some body.entry) all_from take body_typed.catch_types body_typed.instrs))
 
-  pub typed_by_offset : Typed s (frames_by_offset w)
-  typed_by_offset =
-      subst (λ (offsets : ℕ → ℕ). Typed s (map (frame_at offsets) w.frames)) (sym offsets_are) (record {
-        catch_types =
-            subst (λ (table : List Handler). AllByRecursion (CaughtIsThrowable s.headers) (map (caught_in s) table)) (sym ranges_are)
-            (table_throws w s known 0 0 w.items body_typed.catch_types);
-        instrs = instrs_typed;
-      })
+    pub typed_by_offset : Typed s (frames_by_offset w)
+    typed_by_offset =
+        subst (λ (offsets : ℕ → ℕ). Typed s (map (frame_at offsets) w.frames)) (sym offsets_are) (record {
+          catch_types =
+              subst (λ (table : List Handler). AllByRecursion (CaughtIsThrowable s.headers) (map (caught_in s) table)) (sym ranges_are)
+              (table_throws w s known 0 0 w.items body_typed.catch_types);
+          instrs = instrs_typed;
+        })

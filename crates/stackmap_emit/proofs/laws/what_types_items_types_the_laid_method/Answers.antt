@@ -15,4 +15,4 @@ returns c =
       consecutive = c.a_method_stands_in_order.ensures.consecutive;
       types = c.frames_type_a_body_by_its_places.ensures.types;
     } in
-    λ w s grown code types access whole. typed_by_offset laws w s grown code types access whole
+    λ w s grown code types access whole. typed_by_offset laws w s grown code types whole access
