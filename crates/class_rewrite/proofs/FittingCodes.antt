@@ -254,7 +254,7 @@ module _ (laws : FileLaws) (r : Rewriting) (files : List ClassFile) (w : IsFolde
       one_there attr (frames_placed v) there (read_as attr there some states)
 
   attrs : AreReadAttrs setting entry v.part.attrs
-  attrs = attrs_read (nat_le 50 is_at.is.host.class.major) v.body.entry v.part.attrs is_at.is.attrs sound.items.states is_at.is.grows
+  attrs = attrs_read (nat_le 50 is_at.is.host.class.major) v.body.entry v.part.attrs is_at.is.attrs sound.states is_at.is.grows
 
   -- ---- the whole
 

@@ -36,6 +36,7 @@ pub mod WholeFolders
 pub mod FolderPairs
 pub mod ReadMajors
 pub mod SoundAdditions
+pub mod StatedTexts
 pub mod WrittenScopes
 pub mod DeclaredFolders
 pub mod UsedFolders

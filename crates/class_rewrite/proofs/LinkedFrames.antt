@@ -128,6 +128,11 @@ module _ (laws : LinkingLaws) (r : Rewriting) (files : List ClassFile) (w : IsFo
       (laid_code r files w verified ready at.class host.class now.class pair at.method host.method here.of_method v here.is laws.typing emitted)
       (typed_items r files w verified ready at.class host.class now.class pair at.method host.method here.of_method v here.is laws.typing emitted) whole
 
+  pub states_now : stated now ≡ placed_frames (start_in (starts_from (spelled_in v.one.form) 0 v.items)) 0 (stated_from state 0 v.items)
+  states_now =
+      subst (λ (one : Scope). stated one ≡ placed_frames (start_in (starts_from (spelled_in v.one.form) 0 v.items)) 0 (stated_from state 0 v.items))
+      written_is states
+
   linked : AllHold (asked_each (frame_checks (uses_in written)) (stated written))
   linked =
       subst (λ (frames : List _). AllHold (asked_each (frame_checks (uses_in written)) frames)) (sym states)

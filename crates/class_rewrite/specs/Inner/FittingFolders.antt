@@ -68,19 +68,19 @@ UnitFits locals instr = Unit {0}
 abbrev pub frames_placed : Rewritten → List PlacedFrame
 frames_placed v = placed_frames (start_in v.laid.starts) 0 v.stated
 
--- Its items are emitted code, whose local units are those of written code. Its stack is at most 65,535 units deep, it states its frames in the class
--- that is written, and its Code has fewer than 2 ^ 32 bytes.
-pub record HasFittingItems (v : Rewritten) (now : Scope) : Type 0 where
+-- Its items are emitted code, whose local units are those of written code. Its stack is at most 65,535 units deep, and its Code has fewer than 2 ^ 32
+-- bytes.
+pub record HasFittingItems (v : Rewritten) : Type 0 where
   pub emitted : IsEmitted v.items
   pub units : AllByRecursion (λ item. UnitFits (written_units v.one.flat) item.instr) v.items
   pub deep : greatest_of v.body.points v.frames ≤ 65535
-  pub states : stated now ≡ frames_placed v
   pub short : length (code_part_bytes v.part) < 2 ^ 32
 
--- And its instructions of other classes come from classes of the host's version.
+-- And its instructions of other classes come from classes of the host's version, and it states its frames in the class that is written.
 pub record HasFittingCode (r : Rewriting) (v : Rewritten) (host now : Scope) : Type 0 where
-  pub items : HasFittingItems v now
+  pub items : HasFittingItems v
   pub version : AreOfVersion r.classes host.class.major v.one.flat
+  pub states : stated now ≡ frames_placed v
 
 -- ---- the folder
 
@@ -95,12 +95,9 @@ pub record HasFittingConstructor (r : Rewriting) (file : ClassFile) : Type 0 whe
   pub few : length file.methods ≤ 65534
 
 -- what is asked of the methods that are rewritten
-pub record HasFittingMethods (r : Rewriting) (files : List ClassFile) (w : IsFolderWritten r files)
-    : Type 0 where
-  pub tables : (at : MethodAt) (v : Rewritten) → IsRewrittenAt r at v → HasSoundTables v
-  pub items : (at : MethodAt) (v : Rewritten) (host now : Scope)
-      → IsWrittenIn r files w at v host now
-      → HasFittingItems v now
+abbrev pub HasFittingMethods : Rewriting → Type 0
+HasFittingMethods r =
+    (at : MethodAt) (v : Rewritten) → IsRewrittenAt r at v → HasFittingItems v
 
 -- and what is known of all that is added
 pub record IsFittedFolder (r : Rewriting) (files : List ClassFile) (w : IsFolderWritten r files)

@@ -4,8 +4,10 @@ use Rattle.class_model.specs.declared.class_file.MethodAt.{MethodAt}
 use Rattle.class_rewrite.proofs.CaughtTexts.{catches_sound}
 use Rattle.class_rewrite.proofs.FileClasses.{all_files}
 use Rattle.class_rewrite.proofs.FileLaws.{FileLaws}
+use Rattle.class_rewrite.proofs.LinkedFrames.{LinkingLaws, states_now}
 use Rattle.class_rewrite.proofs.SoundAdditions.{TextLaws, constructor_sound, making_sound}
 use Rattle.class_rewrite.proofs.file_laws.written_classes_are_class_files.Goals as goal
+use Rattle.class_rewrite.proofs.StatedTexts.{states_placed, tables_sound}
 use Rattle.class_rewrite.proofs.WrittenFolders.{rewritten_host}
 use Rattle.class_rewrite.specs.Inner.FittingFolders.{HasFittingMethods, HasSoundNeeds, IsFittedFolder}
 use Rattle.class_rewrite.specs.Inner.ReadyFolders.{IsReadyFolder, IsReadyHost}
@@ -40,7 +42,7 @@ texts c = record {
 }
 
 module _ (c : goal.After-constants_compare_by_value) (r : Rewriting) (files : List ClassFile) (w : IsFolderWritten r files) (of : IsOfVerified r)
-    (ready : IsReadyFolder r files w) (fitting : HasFittingMethods r files w) where
+    (ready : IsReadyFolder r files w) (fitting : HasFittingMethods r) where
   expanded : (at : MethodAt) (v : Rewritten) → IsRewrittenAt r at v → IsExpanded r.classes r.typed at v.one.flat
   expanded at v is = (rewritten_host r files w at v.one (w.rewritten.all at v is)).expanded
 
@@ -52,16 +54,28 @@ module _ (c : goal.After-constants_compare_by_value) (r : Rewriting) (files : Li
         catches =
             catches_sound c.a_class_file_fits_its_items.ensures r of.tree.folder at v.one host.scope host.is_scope
             (c.an_expanded_flat_code_catches_what_its_host_names.ensures r.classes r.typed at v.one.flat host.scope of.types (expanded at v is) host.is_scope);
-        tables = fitting.tables at v is;
+        tables =
+            tables_sound r at v is host.scope (c.rewritten_methods_have_sound_frames.ensures r files w at v host.scope is of host.is_scope);
       }
+
+  linking : LinkingLaws
+  linking = record {
+    typing = record { laid = c.what_types_items_types_the_laid_method.ensures; frames = c.frames_type_written_code.ensures.types };
+    alike = c.grown_classes_are_found_alike.ensures.alike;
+    states = c.a_laid_method_states_its_frames.ensures;
+  }
 
   pub fitted : IsFittedFolder r files w
   fitted = record {
     needs = needs;
     codes = λ at v host now is. record {
-      items = fitting.items at v host now is;
+      items = fitting at v is.is;
       version =
           c.an_expanded_flat_code_is_of_one_version.ensures r.classes r.typed at v.one.flat host of.types (expanded at v is.is) is.is_host;
+      states =
+          states_placed r at v is.is now
+          (states_now linking r files w of ready at v host now is
+          (c.rewritten_methods_have_sound_frames.ensures r files w at v host is.is of is.is_host) (fitting at v is.is).emitted);
     };
     constructors = constructor_sound (texts c) r files w of.tree ready;
   }
