@@ -207,7 +207,7 @@ module _ (laws : FileLaws) (r : Rewriting) (files : List ClassFile) (w : IsFolde
       items_checked s r.constructor v.one.form blocks file also v.part.max_locals more_units own_file
       (λ few instr fits. laws.operands file also few instr is_file grown fits)
       zero v.items _ in_class sorts meant
-      (subst (λ (many : ℕ). AllByRecursion (λ item. UnitFits many item.instr) v.items) (sym is_at.is.max_locals) sound.units)
+      (subst (λ (many : ℕ). AllByRecursion (λ item. UnitFits many item.instr) v.items) (sym is_at.is.max_locals) sound.items.units)
 
   -- ---- its frames
 
@@ -260,7 +260,7 @@ module _ (laws : FileLaws) (r : Rewriting) (files : List ClassFile) (w : IsFolde
 
   laid_part : IsLaidPart (home_of also) method v.part (spelled_in v.one.form) v.items v.laid
   laid_part = record {
-    emitted = sound.emitted;
+    emitted = sound.items.emitted;
     is_laid = is_at.is.framed.laid;
     code = is_at.is.code;
     handlers = is_at.is.handlers;
@@ -276,11 +276,11 @@ module _ (laws : FileLaws) (r : Rewriting) (files : List ClassFile) (w : IsFolde
     end = at_most 65535 _ (λ more. is_at.is.framed.fits (inl more));
     table = at_most 65535 _ (λ more. is_at.is.framed.fits (inr more));
     handlers = is_at.is.handlers ∙ is_at.is.framed.laid.handlers;
-    stack = subst (λ (n : ℕ). n ≤ 65535) (sym is_at.is.max_stack) sound.deep;
+    stack = subst (λ (n : ℕ). n ≤ 65535) (sym is_at.is.max_stack) sound.items.deep;
     locals = few_units;
     checked = checked;
     attrs = attrs;
-    short = sound.short;
+    short = sound.items.short;
   }
 
   pub code_for : IsCodeFor (home_of also) method v.part

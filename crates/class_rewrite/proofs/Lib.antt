@@ -7,6 +7,8 @@ pub mod AssembledFolders
 pub mod AttrsWithCode
 pub mod CandidateChains
 pub mod CaughtItems
+pub mod CaughtItems
+pub mod CaughtTexts
 pub mod CheckedCodes
 pub mod CheckedItems
 pub mod ClearedFields
@@ -33,6 +35,24 @@ pub mod GrownTrees
 pub mod ItemBytes
 pub mod KeptMethods
 pub mod LaidMethods
+pub mod StackRoom
+pub mod WholeFolders
+pub mod FolderPairs
+pub mod ReadMajors
+pub mod SoundAdditions
+pub mod StatedTexts
+pub mod WrittenScopes
+pub mod DeclaredFolders
+pub mod UsedFolders
+pub mod TypedRewriting
+pub mod TypedFolders
+pub mod SameHandles
+pub mod WrittenSettings
+mod NamedItems
+mod SpelledWalk
+mod SoundNeeds
+mod PlacedFits
+mod SoundItems
 pub mod LastItems
 pub mod LinkedFrames
 pub mod LinkedParts

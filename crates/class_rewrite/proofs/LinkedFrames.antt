@@ -146,6 +146,11 @@ module _ (laws : LinkingLaws) (r : Rewriting) (files : List ClassFile) (w : IsFo
       ∙ ap (λ (starts : List ℕ). placed_frames (start_in starts) 0 (stated_from state 0 v.items)) (sym here.is.is.framed.laid.starts)
       ∙ ap (placed_frames (start_in v.laid.starts) 0) (sym stated_is)
 
+  pub states_now : stated now ≡ placed_frames (start_in (starts_from (spelled_in v.one.form) 0 v.items)) 0 (stated_from state 0 v.items)
+  states_now =
+      subst (λ (one : Scope). stated one ≡ placed_frames (start_in (starts_from (spelled_in v.one.form) 0 v.items)) 0 (stated_from state 0 v.items))
+      written_is states
+
   linked : AllHold (asked_each (frame_checks (uses_in written)) (stated written))
   linked =
       subst (λ (frames : List _). AllHold (asked_each (frame_checks (uses_in written)) frames)) (sym states)

@@ -1,5 +1,5 @@
 -- What is asked of a written folder so that each of its classes is a class file (JVM Specification SE 8, 4.1 to 4.9). It is this project's profile.
-use Rattle.std.specs.Prelude.{◌≡◌, ◌≢◌, ◌^◌, ◌<◌, ◌≤◌, ℕ, List, length, slice_get, Some, IsFalse}
+use Rattle.std.specs.Prelude.{◌≡◌, ◌^◌, ◌<◌, ◌≤◌, ℕ, List, length, slice_get, Some, IsFalse}
 use Rattle.std.specs.List.{AllByRecursion}
 use Rattle.class_model.specs.Code.{FitsLocal}
 use Rattle.class_model.specs.Descriptors.{SpellsDescriptor}
@@ -18,9 +18,8 @@ use Rattle.class_rewrite.specs.Rewriting.Verifying.{IsWrittenIn}
 use Rattle.class_tree.specs.Headers.{Name, headers_of}
 use Rattle.code_layout.specs.Emitting.{IsEmitted}
 use Rattle.code_layout.specs.Layout.{start_in}
+use Rattle.expanded_runs.specs.VersionsKept.{AreOfVersion}
 use Rattle.flow_code.specs.WrittenUnits.{written_units}
-use Rattle.flow_code.specs.declared.point.FlatInstr.TheVariants.{Of}
-use Rattle.flow_code.specs.declared.point.Point.{Point}
 use Rattle.making_code.specs.Items.{WCatch, WInstr, WItem, constructs, makes}
 use Rattle.member_link.specs.Scope.{Scope}
 use Rattle.plan_flow.specs.Written.FramedCode.{greatest_of}
@@ -44,18 +43,18 @@ HasSoundMaking constructor instr = Unit {0}
 abbrev pub CatchesSound : WCatch → Type 0
 CatchesSound catch = IsSoundCatch catch.class × IsShortCatch catch.class
 
--- The classes that a method that is rewritten catches, and those that its frames have, are texts that constants may have.
-pub record HasSoundNames (r : Rewriting) (v : Rewritten) : Type 0 where
-  pub catches : AllByRecursion (λ (one : WItem). AllByRecursion CatchesSound one.catches)
-      (short_items r v.one)
+-- The classes that the frames of a method that is rewritten have are texts that constants may have.
+pub record HasSoundTables (v : Rewritten) : Type 0 where
   pub frames : AreSound (table_needs v.stated)
   pub short_frames : AreFitting (table_needs v.stated)
 
--- So are those that it makes.
+-- So are those that it makes, and those that it catches.
 pub record HasSoundNeeds (r : Rewriting) (v : Rewritten) : Type 0 where
   pub making : AllByRecursion (λ (one : WItem). HasSoundMaking r.constructor one.instr)
       (short_items r v.one)
-  pub names : HasSoundNames r v
+  pub catches : AllByRecursion (λ (one : WItem). AllByRecursion CatchesSound one.catches)
+      (short_items r v.one)
+  pub tables : HasSoundTables v
 
 -- ---- codes
 
@@ -69,20 +68,19 @@ UnitFits locals instr = Unit {0}
 abbrev pub frames_placed : Rewritten → List PlacedFrame
 frames_placed v = placed_frames (start_in v.laid.starts) 0 v.stated
 
--- Its items are emitted code, whose instructions of other classes come from classes of the host's version and whose local units are those of written
--- code. Its stack is at most 65,535 units deep, it states its frames in the class that is written, and its Code has fewer than 2 ^ 32 bytes.
-pub record HasFittingCode (r : Rewriting) (v : Rewritten) (host now : Scope) : Type 0 where
+-- Its items are emitted code, whose local units are those of written code. Its stack is at most 65,535 units deep, and its Code has fewer than 2 ^ 32
+-- bytes.
+pub record HasFittingItems (v : Rewritten) : Type 0 where
   pub emitted : IsEmitted v.items
-  pub version : (at : ℕ) (point : Point) (class : ℕ) (instr : Instr) (file : ClassFile)
-      → slice_get v.one.flat.points at ≡ Some point
-      → point.instr ≡ Of class instr
-      → slice_get r.classes.folder class ≡ Some file
-      → class ≢ v.one.flat.host.class
-      → file.major ≡ host.class.major
   pub units : AllByRecursion (λ item. UnitFits (written_units v.one.flat) item.instr) v.items
   pub deep : greatest_of v.body.points v.frames ≤ 65535
-  pub states : stated now ≡ frames_placed v
   pub short : length (code_part_bytes v.part) < 2 ^ 32
+
+-- And its instructions of other classes come from classes of the host's version, and it states its frames in the class that is written.
+pub record HasFittingCode (r : Rewriting) (v : Rewritten) (host now : Scope) : Type 0 where
+  pub items : HasFittingItems v
+  pub version : AreOfVersion r.classes host.class.major v.one.flat
+  pub states : stated now ≡ frames_placed v
 
 -- ---- the folder
 
@@ -97,12 +95,9 @@ pub record HasFittingConstructor (r : Rewriting) (file : ClassFile) : Type 0 whe
   pub few : length file.methods ≤ 65534
 
 -- what is asked of the methods that are rewritten
-pub record HasFittingMethods (r : Rewriting) (files : List ClassFile) (w : IsFolderWritten r files)
-    : Type 0 where
-  pub names : (at : MethodAt) (v : Rewritten) → IsRewrittenAt r at v → HasSoundNames r v
-  pub codes : (at : MethodAt) (v : Rewritten) (host now : Scope)
-      → IsWrittenIn r files w at v host now
-      → HasFittingCode r v host now
+abbrev pub HasFittingMethods : Rewriting → Type 0
+HasFittingMethods r =
+    (at : MethodAt) (v : Rewritten) → IsRewrittenAt r at v → HasFittingItems v
 
 -- and what is known of all that is added
 pub record IsFittedFolder (r : Rewriting) (files : List ClassFile) (w : IsFolderWritten r files)
