@@ -32,3 +32,4 @@ pub mod RewrittenParts
 pub mod WrittenParts
 pub mod RewrittenMethods
 pub mod PlannedMethods
+pub mod AnsweredMethods
