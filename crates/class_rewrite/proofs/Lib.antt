@@ -104,3 +104,4 @@ pub mod WrittenScopes
 pub mod WrittenSettings
 pub mod WrittenSorts
 pub mod WrittenUses
+pub mod AnsweredMethods

@@ -46,7 +46,7 @@ module _ (classes : Classes) (flat : FlatCode) (plan : Plan) (least : IsLeastFor
   -- nothing is gained
   pub gains_nothing : told ≡ false → (edit : Edit) (typed : FolderFrames) (at : MethodAt) → IsFlatOf classes typed at flat
       → IsOutcome classes typed at edit edit (outcomes.Kept reasons.NoGain)
-  gains_nothing no edit typed at is_flat = record {
+  gains_nothing nothing edit typed at is_flat = record {
     each = λ links constructor are gives.
         let routing = some_routing (scope_of classes links flat) plan (valid links are) in
         record {
@@ -54,7 +54,7 @@ module _ (classes : Classes) (flat : FlatCode) (plan : Plan) (least : IsLeastFor
             one = record { flat = flat; routes = routing.0; form = short };
             plan = plan;
             planned = record { flat = is_flat.is; least = least links are; routed = routing.1 };
-            none = λ gains. false≢true (sym no ∙ (tells links (valid links are)).1 gains);
+            none = λ gains. false≢true (sym nothing ∙ (tells links (valid links are)).1 gains);
           };
           kept = λ same. absurd cc;
           same = refl;

@@ -10,8 +10,8 @@ use Rattle.flow_code.specs.declared.reason.Reason.{Reason}
 
 pub returns-then-not-gain : goal.returns-then-not-gain
 returns-then-not-gain c = λ typed at is_flat.
-    let no : c.gain.result ≡ false = search rules in
-    gains_nothing c.args.tree.now c.args.flat.now c.args.plan.now c.requires.least c.gain.result (λ links valid. c.gain.ensures c.args.tree.now links valid) no
+    let nothing : c.gain.result ≡ false = search rules in
+    gains_nothing c.args.tree.now c.args.flat.now c.args.plan.now c.requires.least c.gain.result (λ links valid. c.gain.ensures c.args.tree.now links valid) nothing
     c.args.pool.now typed at is_flat
 
 pub written_method-requires : goal.written_method-requires
