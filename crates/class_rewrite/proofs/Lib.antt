@@ -27,3 +27,10 @@ pub mod KeptMethods
 pub mod GivenConstructors
 pub mod LocalUnits
 pub mod PoolCopies
+pub mod NotedSites
+pub mod Tallies
+pub mod TalliedItems
+pub mod TalliedOrders
+pub mod TalliedEdges
+pub mod TalliedPoints
+pub mod MadeOfPlans

@@ -1,4 +1,5 @@
 pub mod LaidMethods
+pub mod MadeSites
 pub mod Meanings
 pub mod Outcomes
 pub mod Reporting
