@@ -1,13 +1,13 @@
 -- What a plan makes is what its written code makes: as many objects of sites, of the same classes.
-use Rattle.std.proofs.Common.{if◌then◌else◌, ◌≡◌, ◌≤◌, ◌+◌, ◌==◌, ◌||◌, ℕ, zero, suc, Bool, true, false, List, [], ◌∷◌, ◌++◌, length, slice_get, bytes_eq, Option, Some, None, refl, sym, ap, subst, ◌∙◌, arith}
+use Rattle.std.proofs.Common.{◌≡◌, ◌==◌, ◌||◌, ℕ, zero, suc, Bool, true, false, List, [], ◌∷◌, ◌++◌, length, slice_get, bytes_eq, Option, Some, None, refl, sym, ap, subst, ◌∙◌, arith}
 use Rattle.std.proofs.lemmas.Bool.{eqb-true, false≢true}
 use Rattle.std.proofs.lemmas.Option.{none-some, same_Some}
 use Rattle.std.proofs.lemmas.Slice.Eq.{bytes_eq-Decides}
 use Rattle.class_rewrite.proofs.TalliedItems.{on_item, on_makes}
 use Rattle.class_rewrite.proofs.TalliedPoints.{written_tallied}
-use Rattle.class_rewrite.proofs.Tallies.{Passes, all_tallied, counted, has_item, item_had, one_passes, some_tallied, tally}
+use Rattle.class_rewrite.proofs.Tallies.{all_tallied, counted, has_item, item_had, one_passes, some_tallied, tally}
 use Rattle.class_rewrite.specs.Inner.MadeSites.{AreMadeBy, AreMadeHere, class_of, classes_of, made_to}
-use Rattle.class_rewrite.specs.Inner.Outcomes.{AreNamesOf, MakesHere}
+use Rattle.class_rewrite.specs.Inner.Outcomes.{MakesHere}
 use Rattle.class_rewrite.specs.Rewriting.Methods.{Rewriting}
 use Rattle.class_rewrite.specs.declared.made_sites.MadeSites.{MadeSites}
 use Rattle.class_tree.specs.Headers.{Name}
@@ -15,7 +15,6 @@ use Rattle.flow_code.specs.declared.point.Site.{Site}
 use Rattle.making_code.specs.CountedItems.{makes_site, site_news}
 use Rattle.making_code.specs.Items.{WInstr, WItem, carried, constructs, load, makes, plain, store}
 use Rattle.plan_flow.specs.Laws.RoutedPlans.{HasOneEffect}
-use Rattle.plan_flow.specs.PlanScope.{PlanScope}
 use Rattle.plan_flow.specs.Plans.{IsValid, Plan}
 use Rattle.plan_flow.specs.Written.Routes.{IsRouted}
 use Rattle.plan_flow.specs.Written.WrittenPrograms.{WrittenMethod, items_of, plan_scope}

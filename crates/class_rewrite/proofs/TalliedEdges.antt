@@ -1,5 +1,5 @@
 -- What is made on the edges of a point: on that to the next point, on those of jumps, and on those to handlers.
-use Rattle.std.proofs.Common.{if◌then◌else◌, ◌≡◌, ◌+◌, ℕ, zero, suc, Bool, true, false, List, [], ◌∷◌, ◌++◌, filter, map, Option, Some, None, refl, sym, ap, subst, ◌∙◌, arith}
+use Rattle.std.proofs.Common.{if◌then◌else◌, ◌≡◌, ◌+◌, ℕ, Bool, true, false, List, [], ◌∷◌, ◌++◌, filter, map, Option, Some, None, refl, sym, ap, subst, ◌∙◌, arith}
 use Rattle.std.specs.List.{AllByRecursion, find, flat_map}
 use Rattle.class_rewrite.proofs.TalliedItems.{on_place}
 use Rattle.class_rewrite.proofs.Tallies.{tally, tally_both}

@@ -1,8 +1,7 @@
 -- The objects of sites that written code makes are those of its plan.
-use Rattle.std.proofs.Common.{if◌then◌else◌, ◌≡◌, ◌<◌, ◌+◌, ℕ, zero, suc, Bool, true, false, List, [], ◌∷◌, ◌++◌, length, slice_get, Option, Some, None, IsTrue, refl, sym, ap, subst, ◌∙◌, arith, flat_map}
+use Rattle.std.proofs.Common.{if◌then◌else◌, ◌≡◌, ◌+◌, ℕ, suc, Bool, true, false, List, [], ◌∷◌, ◌++◌, length, slice_get, Option, Some, None, refl, sym, ap, subst, ◌∙◌, arith, flat_map}
 use Rattle.std.specs.List.{AllByRecursion}
 use Rattle.std.proofs.lemmas.Bool.{false≢true}
-use Rattle.std.proofs.lemmas.Option.{none-some, same_Some}
 use Rattle.class_model.specs.Instructions.{targets}
 use Rattle.class_model.specs.declared.frame.Frame.{Frame}
 use Rattle.class_model.specs.declared.instr.Instr.{Instr}
@@ -13,7 +12,7 @@ use Rattle.class_rewrite.proofs.TalliedOrders.{order_tallied}
 use Rattle.class_rewrite.proofs.Tallies.{tally, tally_both}
 use Rattle.class_rewrite.specs.Inner.MadeSites.{made_on, made_there, made_to}
 use Rattle.class_tree.specs.Headers.{Name}
-use Rattle.code_drafts.specs.ItemPlaces.{own_places, places_by, point_places_by}
+use Rattle.code_drafts.specs.ItemPlaces.{own_places, point_places_by}
 use Rattle.code_drafts.specs.Laws.GoingOn.{decided, decided_is}
 use Rattle.code_drafts.specs.Laws.PlacedBlocks.{placed_by}
 use Rattle.code_drafts.specs.Laws.ReachedStarts.{finished}
@@ -31,14 +30,13 @@ use Rattle.plan_flow.specs.PlanSlots.{held, is_open}
 use Rattle.plan_flow.specs.PlanTable.{edges_of, operand, targets_at}
 use Rattle.plan_flow.specs.Plans.{AllLead, IsMadeIn, IsValid, IsValidAt, MadeEdge, Plan, PlannedPoint, planned, state_left}
 use Rattle.plan_flow.specs.Written.Blocks.{is_decided, state_written}
-use Rattle.plan_flow.specs.Written.Places.{Place, edge_places, enters_monitor, handler_places, jump_pad_places, jump_places, made_places, new_places, of_reached}
+use Rattle.plan_flow.specs.Written.Places.{edge_places, enters_monitor, handler_places, jump_pad_places, jump_places, made_places, new_places, of_reached}
 use Rattle.plan_flow.specs.Written.Routes.{AreEdgeRoutes, AreRoutes, IsRoute, IsRouted, Route, RouteEdge, Routes, edge_by}
 use Rattle.plan_flow.specs.Written.Templates.{is_virtual}
 use Rattle.plan_flow.specs.Written.WrittenCode.{Form, short, written_items}
 use Rattle.plan_flow.specs.declared.edge.Edge.{Edge}
-use Rattle.plan_flow.specs.declared.edge.EdgeKind.{EdgeKind}
 use Rattle.plan_flow.specs.declared.edge.EdgeKind.TheVariants as edges
-use Rattle.virtual_state.specs.Sites.{differing, has}
+use Rattle.virtual_state.specs.Sites.{has}
 use Rattle.virtual_state.specs.States.{IsState, State}
 
 -- ---- an instruction that is decided has one target

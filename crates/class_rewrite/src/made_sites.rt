@@ -1,5 +1,5 @@
 //! Which objects of sites written code makes.
-ghost use Rattle.std.specs.Prelude.{◌≡◌, IfOk, OnOk, []};
+ghost use Rattle.std.specs.Prelude.{◌≡◌, IfOk, OnOk};
 ghost use Rattle.class_rewrite.specs.Inner.MadeSites.{AreMadeBy, AreMadeHere, IsNoted, classes_of, edges_behind, made_on, made_there, made_to};
 ghost use Rattle.class_rewrite.specs.Inner.Meanings.{IsMeant, Meaning, rewriting, scope};
 ghost use Rattle.plan_flow.specs.Plans.{planned};
