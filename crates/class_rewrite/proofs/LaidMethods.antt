@@ -10,7 +10,7 @@ use Rattle.class_model.specs.declared.instr.Instr.{Instr}
 use Rattle.class_rewrite.proofs.LastItems.{nothing_closes}
 use Rattle.class_rewrite.proofs.LongItems.{long_is_long, within_is_short}
 use Rattle.class_rewrite.proofs.StackRoom.{framed_roomy, greatest_roomy}
-use Rattle.class_rewrite.specs.Inner.LaidMethods.{IsLaidMethod}
+use Rattle.class_rewrite.specs.Inner.LaidMethods.{IsLaidMethod, framed_of}
 use Rattle.class_rewrite.specs.Inner.Meanings.{Framed, IsCode, IsEditOf, IsFramedFor, IsMeant, IsReady, Meaning, scope}
 use Rattle.class_tree.specs.Headers.{headers_of}
 use Rattle.code_drafts.specs.CodeOfPlans.{AreItemsEmitted, GoAllWide}
@@ -167,16 +167,7 @@ module _ (laws : LaidLaws) (of : Writing) (m : Meaning) (before middle : Edit) (
   found = laws.framed (in_form form 0) (setting form 0)
 
   abbrev f : Framed
-  f = record {
-    host = ready.host;
-    routes = ready.routes;
-    form = form;
-    before = grown before;
-    pool = pool;
-    items = chosen_items code.emitted;
-    state = found.0;
-    frames = found.1;
-  }
+  f = framed_of of m ready before middle code found.0 found.1
 
   is_framed : IsFramedFor of m f
   is_framed = record {
@@ -192,14 +183,12 @@ module _ (laws : LaidLaws) (of : Writing) (m : Meaning) (before middle : Edit) (
 
   pub laid_method : IsLaidMethod of m before middle code ready
   laid_method = record {
+    grows = grows;
+    limit = written.grows.limit ∙ edit.limit;
     emitted = emitted;
     within = within_is_short s m.constructor pool blocks code.emitted goes written.items chosen;
     long = long_is_long s m.constructor pool blocks code.emitted goes written.items chosen;
-    f = f;
-    is_host = refl;
-    of_routes = refl;
-    of_form = refl;
-    of_pool = refl;
-    of_items = refl;
+    state = found.0;
+    frames = found.1;
     framed = is_framed;
   }

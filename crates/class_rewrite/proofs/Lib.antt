@@ -34,3 +34,9 @@ pub mod TalliedOrders
 pub mod TalliedEdges
 pub mod TalliedPoints
 pub mod MadeOfPlans
+pub mod ContinuedEdits
+pub mod RewrittenParts
+pub mod WrittenParts
+pub mod RewrittenMethods
+pub mod PlannedMethods
+pub mod AnsweredMethods

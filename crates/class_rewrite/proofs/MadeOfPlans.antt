@@ -6,8 +6,8 @@ use Rattle.std.proofs.lemmas.Slice.Eq.{bytes_eq-Decides}
 use Rattle.class_rewrite.proofs.TalliedItems.{on_item, on_makes}
 use Rattle.class_rewrite.proofs.TalliedPoints.{written_tallied}
 use Rattle.class_rewrite.proofs.Tallies.{all_tallied, counted, has_item, item_had, one_passes, some_tallied, tally}
-use Rattle.class_rewrite.specs.Inner.MadeSites.{AreMadeBy, AreMadeHere, class_of, classes_of, made_to}
-use Rattle.class_rewrite.specs.Inner.Outcomes.{MakesHere}
+use Rattle.class_rewrite.specs.Inner.MadeSites.{AreMadeBy, class_of, classes_of, made_to}
+use Rattle.class_rewrite.specs.Inner.Outcomes.{AreNamesOf, MakesHere}
 use Rattle.class_rewrite.specs.Rewriting.Methods.{Rewriting}
 use Rattle.class_rewrite.specs.declared.made_sites.MadeSites.{MadeSites}
 use Rattle.class_tree.specs.Headers.{Name}
@@ -171,8 +171,8 @@ module _ (r : Rewriting) (one : WrittenMethod) (plan : Plan) (one_effect : HasOn
       let there = class_there one.flat.sites made_by.sites site.item named.site (made_by.same site.item ∙ has_item all site.number site.item site.is) named.is_site in
       (there.0, named_there made.names (classes_of one.flat.sites made_by.sites) there.0 named.site.class name made_by.names there.1 named.named)
 
-  pub made_here : AreMadeHere r one made
-  made_here = record {
-    count = λ few. let same = as_many in let told = made_by.count (omega (arith, few, same)) in omega (arith, told, same);
-    names = record { each = each_made; all = all_made };
-  }
+  pub count_here : made.count ≡ site_news items
+  count_here = made_by.count ∙ sym as_many
+
+  pub names_here : AreNamesOf (MakesHere r one) made.names
+  names_here = record { each = each_made; all = all_made }

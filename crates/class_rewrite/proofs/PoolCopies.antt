@@ -37,8 +37,12 @@ copied_fits base pool entries at constant index is so_far =
     ∙ ap (λ (more : Constants). base ++ more) (flat_map-append entries_of (take (at + 1) (keys_of entries)) (drop (at + 1) (keys_of entries)))
     ∙ sym (append_assoc base (flat_map entries_of (take (at + 1) (keys_of entries))) (flat_map entries_of (drop (at + 1) (keys_of entries))))
     ∙ ap (λ (p : Constants). p ++ flat_map entries_of (drop (at + 1) (keys_of entries))) (sym step) in
-    omega (arith, ap length all, length-append (pool ++ entries_of constant) (flat_map entries_of (drop (at + 1) (keys_of entries))),
-    length-append pool (entries_of constant))
+    omega (
+      arith,
+      ap length all,
+      length-append (pool ++ entries_of constant) (flat_map entries_of (drop (at + 1) (keys_of entries))),
+      length-append pool (entries_of constant),
+    )
 
 -- the constants of numbered ones
 pub keys_numbered : (index : ℕ) (constants : List Const) → keys_of (numbered index constants) ≡ constants

@@ -1,10 +1,9 @@
 //! Which objects of sites written code makes.
 ghost use Rattle.std.specs.Prelude.{◌≡◌, IfOk, OnOk};
-ghost use Rattle.class_rewrite.specs.Inner.MadeSites.{AreMadeBy, AreMadeHere, IsNoted, classes_of, edges_behind, made_on, made_there, made_to};
-ghost use Rattle.class_rewrite.specs.Inner.Meanings.{IsMeant, Meaning, rewriting, scope};
+ghost use Rattle.class_rewrite.specs.Inner.MadeSites.{AreMadeBy, IsNoted, classes_of, edges_behind, made_on, made_there, made_to};
+ghost use Rattle.class_rewrite.specs.Inner.Meanings.{IsMeant, Meaning};
+ghost use Rattle.class_rewrite.specs.Inner.WrittenCodes.{IsMade};
 ghost use Rattle.plan_flow.specs.Plans.{planned};
-ghost use Rattle.plan_flow.specs.Written.Routes.{IsRouted};
-ghost use Rattle.plan_flow.specs.Written.WrittenPrograms.{WrittenMethod};
 
 use class_model::{ListOf, NoMemory, TextList};
 use code_drafts::Setting;
@@ -49,17 +48,14 @@ impl Drop for Making {
     }
 }
 
-/// What the code makes that is written by a plan: how many objects of sites, where they are no more than 4,294,967,295, and the classes
-/// of these sites.
+/// What the code makes that is written by a plan: how many objects of sites, and the classes of these sites.
 ///
 /// # Errors
-/// `NoMemory`, where memory runs out.
+/// `NoMemory`, where memory runs out, or where there are more than 4,294,967,295 objects, which no code has.
 pub(crate) fn made_sites(alloc: Global, setting: &Setting<'_>) -> Result<MadeSites, NoMemory>
-    ensures { IfOk result (λ made. (m : Meaning) (one : WrittenMethod)
+    ensures { IfOk result (λ made. (m : Meaning)
         → IsMeant setting.now m
-        → one.flat ≡ setting.now.flat
-        → IsRouted (scope setting.now m) setting.now.plan one.routes
-        → AreMadeHere (rewriting setting.now m) one made) }
+        → IsMade setting.now m made.count made.names) }
 {
     effect_grows();
     made_by(alloc, setting.flat(), setting.plan())
@@ -112,7 +108,7 @@ fn note_edges(plan: &Plan, at: usize, making: &mut Making) -> Result<(), NoMemor
         };
         note_sites(edge.made.as_slice(), making)?;
     }
-    // so many edges are in no memory
+    // no memory holds so many edges
     Err(NoMemory)
 }
 
@@ -122,7 +118,10 @@ fn note_sites(sites: &[u16], making: &mut Making) -> Result<(), NoMemory>
 {
     for site in sites {
         making.sites.add(*site)?;
-        making.count = making.count.saturating_add(1);
+        let Some(count) = making.count.checked_add(1) else {
+            return Err(NoMemory);
+        };
+        making.count = count;
     }
     Ok(())
 }

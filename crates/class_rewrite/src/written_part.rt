@@ -1,5 +1,5 @@
 //! The content of the Code attribute of a method that is rewritten (JVM Specification SE 8, 4.7.3).
-ghost use Rattle.std.specs.Prelude.{◌≡◌, ℕ, List, IfOk};
+ghost use Rattle.std.specs.Prelude.{◌≡◌, ◌≤◌, ℕ, List, length, IfOk};
 ghost use Rattle.std.specs.Result.{IsErrOf};
 ghost use Rattle.class_rewrite.specs.Inner.Meanings.{IsCode, IsEditOf, IsFit, IsFullFor, IsKnownCode, IsMeant, IsPart, IsReasonOf, Meaning, StatesFrames};
 ghost use Rattle.class_tree.specs.Headers.{Name};
@@ -10,14 +10,17 @@ ghost use Rattle.plan_flow.specs.Written.Routes.{Routes};
 ghost use Rattle.pool_edit.specs.Edits.{Continues, Edit};
 ghost use Rattle.stackmap_emit.specs.FrameConstants.{table_needs};
 ghost use Rattle.stackmap_emit.specs.FramedItems.{AreEmitted, ArePlacedBy, entry_with, finished_by, form_of};
-ghost use Rattle.stackmap_emit.specs.FramesAttribute.{CanBeWritten, all_stated};
+ghost use Rattle.stackmap_emit.specs.FramesAttribute.{CanBeWritten, all_stated, attributes};
 
 use crate::home::Home;
 use crate::local_units::local_units;
 use crate::method_laws::{
-    what_is_meant_can_be_written, what_is_written_is_laid_out, written_frames_are_sound,
+    what_is_meant_can_be_written, what_is_written_fits, what_is_written_is_laid_out,
+    written_frames_are_sound,
 };
-use class_model::{CodePart, Frame, InnerAttrList, ListOf, NoMemory, PlacedFrameList, Pool};
+use class_model::{
+    CodePart, Frame, InnerAttr, InnerAttrList, ListOf, NoMemory, PlacedFrameList, Pool,
+};
 use code_drafts::Setting;
 use code_emit::WrittenCode;
 use code_layout::{Laid, layout};
@@ -48,6 +51,7 @@ pub(crate) fn written_part(
         → IsEditOf setting.now.classes m.at before
         → IsCode setting.now before pool.old code.now
         → IsPart setting.now m before pool.old pool.new code.now part) }
+    ensures few { IfOk result (λ part. length part.code ≤ 65535) }
     ensures kept { (reason : Reason) (m : Meaning) (before : Edit)
         → IsErrOf result (KeptFault.Kept reason)
         → IsMeant setting.now m
@@ -59,6 +63,7 @@ pub(crate) fn written_part(
     an_edit_goes_back_to_what_it_was();
     what_is_meant_can_be_written();
     what_is_written_is_laid_out();
+    what_is_written_fits();
     written_frames_are_sound();
     let laid = layout(alloc, &code.emitted)?;
     let locals = local_units(setting.units());
@@ -126,11 +131,19 @@ fn attributes_of(
     ensures more { Continues pool.old pool.new }
 {
     an_edit_goes_back_to_what_it_was();
-    let mut attrs = ListOf::new(alloc);
     if major < FIRST_FRAMES {
-        return Ok(attrs);
+        return Ok(ListOf::new(alloc));
     }
-    if let Some(attribute) = frames_attribute(alloc, entry, placed, pool)? {
+    let made = frames_attribute(alloc, entry, placed, pool)?;
+    Ok(listed(alloc, made)?)
+}
+
+// An attribute that may be there, as a list.
+fn listed(alloc: Global, made: Option<InnerAttr>) -> Result<InnerAttrList, NoMemory>
+    ensures { IfOk result (λ attrs. attrs ≡ attributes made) }
+{
+    let mut attrs = ListOf::new(alloc);
+    if let Some(attribute) = made {
         attrs.push(attribute)?;
     }
     Ok(attrs)

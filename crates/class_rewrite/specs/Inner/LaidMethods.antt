@@ -2,6 +2,7 @@
 use Rattle.std.specs.Prelude.{◌≡◌, ◌≤◌, ℕ, List, length, Option, Some}
 use Rattle.class_model.specs.Pool.{Constants}
 use Rattle.class_model.specs.declared.class_file.MethodAt.{MethodAt}
+use Rattle.class_model.specs.declared.frame.Frame.{Frame}
 use Rattle.class_rewrite.specs.Inner.Meanings.{AreSoundFrames, Framed, IsCode, IsEditOf, IsFit, IsFramedFor, IsKnownCode, IsMeant, IsReady, IsReasonOf, Meaning, rewriting, scope}
 use Rattle.class_rewrite.specs.Inner.WrittenCodes.{IsFlatOf}
 use Rattle.class_rewrite.specs.Rewriting.Methods.{IsTooLong}
@@ -20,6 +21,8 @@ use Rattle.member_link.specs.Machine.Programs.{Links}
 use Rattle.member_link.specs.Scope.{Scope}
 use Rattle.plan_flow.specs.PlanScope.{scope_of}
 use Rattle.plan_flow.specs.ReadyForPlans.{IsReadyForPlans}
+use Rattle.plan_flow.specs.Written.WrittenCode.{short, written_items}
+use Rattle.plan_flow.specs.Written.WrittenConstants.{code_pool}
 use Rattle.plan_flow.specs.Written.WrittenPrograms.{GivesConstructors}
 use Rattle.pool_edit.specs.Edits.{Edit, grown}
 use Rattle.stackmap_emit.specs.FramedItems.{AreEmitted, finished_by, form_of}
@@ -36,21 +39,36 @@ ArePlannable =
 abbrev pub AreReady : Type 0
 AreReady = (of : Writing) (m : Meaning) → IsMeant of m → IsReady of m
 
--- Written code in the form in which it is laid out, with frames that it has.
+-- the written code in the form in which it is laid out, with these frames
+abbrev pub framed_of : (of : Writing) (m : Meaning) → IsReady of m → Edit → Edit → WrittenCode
+    → (ℕ → Option Frame) → List Frame → Framed
+framed_of of m ready before middle code state frames = record {
+  host = ready.host;
+  routes = ready.routes;
+  form = form_of code.emitted;
+  before = grown before;
+  pool = grown middle;
+  items = chosen_items code.emitted;
+  state = state;
+  frames = frames;
+}
+
+-- It is that of the definition, and it has frames.
 pub record IsLaidMethod (of : Writing) (m : Meaning) (before middle : Edit) (code : WrittenCode)
     (ready : IsReady of m)
     : Type 0 where
+  pub grows : code_pool (scope of m) m.constructor
+      (written_items short (finished_by (scope of m) ready.routes)) (grown before)
+      ≡ Some (grown middle)
+  pub limit : middle.limit ≡ 64535
   pub emitted : AreEmitted (scope of m) m.constructor ready.routes (grown middle)
       code.emitted code.starts
-  pub within : IsWithin code.emitted → ¬ IsTooLong (form_of code.emitted) (chosen_items code.emitted)
+  pub within : IsWithin code.emitted
+      → ¬ IsTooLong (form_of code.emitted) (chosen_items code.emitted)
   pub long : IsLong code.emitted → IsTooLong (form_of code.emitted) (chosen_items code.emitted)
-  pub f : Framed
-  pub is_host : f.host ≡ ready.host
-  pub of_routes : f.routes ≡ ready.routes
-  pub of_form : f.form ≡ form_of code.emitted
-  pub of_pool : f.pool ≡ grown middle
-  pub of_items : f.items ≡ chosen_items code.emitted
-  pub framed : IsFramedFor of m f
+  pub state : ℕ → Option Frame
+  pub frames : List Frame
+  pub framed : IsFramedFor of m (framed_of of m ready before middle code state frames)
 
 abbrev pub AreLaidMethods : Type 0
 AreLaidMethods =

@@ -1,16 +1,12 @@
--- Which objects of sites a plan makes, and what is known of what written code makes.
-use Rattle.std.specs.Prelude.{◌≡◌, ◌≤◌, ◌||◌, ◌+◌, ℕ, zero, suc, List, [], ◌∷◌, ◌++◌, length, slice_get, Option, Some, None}
+-- Of which sites a plan makes objects, and the classes of these.
+use Rattle.std.specs.Prelude.{◌≡◌, ◌||◌, ◌+◌, ℕ, zero, suc, List, [], ◌∷◌, ◌++◌, length, slice_get, Option, Some, None}
 use Rattle.std.specs.List.{flat_map}
-use Rattle.class_rewrite.specs.Inner.Outcomes.{AreNamesOf, MakesHere}
-use Rattle.class_rewrite.specs.Rewriting.Methods.{Rewriting}
 use Rattle.class_rewrite.specs.declared.made_sites.MadeSites.{MadeSites}
 use Rattle.class_rewrite.specs.declared.made_sites.Making.{Making}
 use Rattle.class_tree.specs.Headers.{Name}
 use Rattle.flow_code.specs.FlatCode.{FlatCode}
 use Rattle.flow_code.specs.declared.point.Site.{Site}
-use Rattle.making_code.specs.CountedItems.{site_news}
 use Rattle.plan_flow.specs.Plans.{MadeEdge, Plan, PlannedPoint}
-use Rattle.plan_flow.specs.Written.WrittenPrograms.{WrittenMethod, items_of}
 use Rattle.virtual_state.specs.Sites.{has}
 
 -- ---- what a plan makes
@@ -39,13 +35,9 @@ made_to (suc count) (point ∷ plan) = made_there point ++ made_to count plan
 
 -- ---- what is noted of them
 
--- so many can be counted
-abbrev pub most : ℕ
-most = 4294967295
-
 -- more sites are noted, each as often as an object of it is made
 pub record IsNoted (before : Making) (more : List ℕ) (after : Making) : Type 0 where
-  pub count : before.count + length more ≤ most → after.count ≡ before.count + length more
+  pub count : after.count ≡ before.count + length more
   pub sites : (one : ℕ) → has after.sites one ≡ (has before.sites one || has more one)
 
 abbrev pub class_of : Option Site → List Name
@@ -60,14 +52,5 @@ classes_of sites numbers = flat_map (λ number. class_of (slice_get sites number
 pub record AreMadeBy (flat : FlatCode) (plan : Plan) (made : MadeSites) : Type 0 where
   pub sites : List ℕ
   pub same : (one : ℕ) → has sites one ≡ has (made_to (length flat.points) plan) one
-  pub count : length (made_to (length flat.points) plan) ≤ most
-      → made.count ≡ length (made_to (length flat.points) plan)
+  pub count : made.count ≡ length (made_to (length flat.points) plan)
   pub names : made.names ≡ classes_of flat.sites sites
-
--- ---- what written code makes
-
--- how many objects of sites written code makes, and the classes of these
-pub record AreMadeHere (r : Rewriting) (one : WrittenMethod) (made : MadeSites) : Type 0 where
-  pub count : site_news (items_of r.classes r.links one) ≤ most
-      → made.count ≡ site_news (items_of r.classes r.links one)
-  pub names : AreNamesOf (MakesHere r one) made.names
