@@ -2,11 +2,11 @@ pub mod AccessedItems
 pub mod AddedConstants
 pub mod AddedMarks
 pub mod AddedTexts
+pub mod AnsweredMethods
 pub mod AskedCodes
 pub mod AssembledFolders
 pub mod AttrsWithCode
 pub mod CandidateChains
-pub mod CaughtItems
 pub mod CaughtItems
 pub mod CaughtTexts
 pub mod CheckedCodes
@@ -35,24 +35,6 @@ pub mod GrownTrees
 pub mod ItemBytes
 pub mod KeptMethods
 pub mod LaidMethods
-pub mod StackRoom
-pub mod WholeFolders
-pub mod FolderPairs
-pub mod ReadMajors
-pub mod SoundAdditions
-pub mod StatedTexts
-pub mod WrittenScopes
-pub mod DeclaredFolders
-pub mod UsedFolders
-pub mod TypedRewriting
-pub mod TypedFolders
-pub mod SameHandles
-pub mod WrittenSettings
-mod NamedItems
-mod SpelledWalk
-mod SoundNeeds
-mod PlacedFits
-mod SoundItems
 pub mod LastItems
 pub mod LinkedFrames
 pub mod LinkedParts
@@ -61,10 +43,12 @@ pub mod LocalUnits
 pub mod LongItems
 pub mod MadeClasses
 pub mod MadeMembers
+pub mod MadeOfPlans
 pub mod MeantOps
 pub mod NamedItems
 pub mod NeededConstants
 pub mod NoHandles
+pub mod NotedSites
 pub mod OpenedFields
 pub mod OptimisedFolders
 pub mod PassingUses
@@ -87,7 +71,13 @@ pub mod SoundNeeds
 pub mod SpelledWalk
 pub mod StackRoom
 pub mod StatedNeeds
+pub mod StatedTexts
 pub mod StayingIndices
+pub mod TalliedEdges
+pub mod TalliedItems
+pub mod TalliedOrders
+pub mod TalliedPoints
+pub mod Tallies
 pub mod TypedFolders
 pub mod TypedRewriting
 pub mod UsedFolders
@@ -104,4 +94,3 @@ pub mod WrittenScopes
 pub mod WrittenSettings
 pub mod WrittenSorts
 pub mod WrittenUses
-pub mod AnsweredMethods

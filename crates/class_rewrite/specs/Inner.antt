@@ -2,6 +2,7 @@ pub mod Deciding
 pub mod Finishing
 pub mod FittingFolders
 pub mod LaidMethods
+pub mod MadeSites
 pub mod Marking
 pub mod Meanings
 pub mod Outcomes
