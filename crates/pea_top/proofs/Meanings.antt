@@ -22,7 +22,7 @@ use Rattle.pea_top.specs.Folders.{AreReadAs, HasClassFiles, class_file, names_cl
 use Rattle.pea_top.specs.Meaning.{MeansTheSame, under_names}
 use Rattle.pea_top.specs.Words.{Word, Optimise, Command, OnFolder, Spells}
 use Rattle.pea_top.specs.Optimising as optimising
-use Rattle.pea_top.specs.Optimising.{AreFinal, AreOptimised, IsFinal, PutsOptimised}
+use Rattle.pea_top.specs.Optimising.{AreFinal, IsFinal, PutsOptimised}
 
 -- an item of a list of which all are so
 item_is : {X : Type 0} (P : X → Type 0) (xs : List X) (n : ℕ) (x : X) → AllByRecursion P xs → slice_get xs n ≡ Some x → P x

@@ -1,6 +1,5 @@
 -- What is written of files, one after the other.
-use Rattle.std.proofs.Common.{◌≡◌, ◌<◌, ◌≤◌, ◌+◌, ℕ, Bool, true, false, List, [], ◌∷◌, cond, map, bytes_eq, Option, Some, None, is_some, refl, sym, ap, ◌∙◌, subst, arith}
-use Rattle.std.proofs.lemmas.Bool.{false≢true}
+use Rattle.std.proofs.Common.{◌≡◌, ◌<◌, ◌≤◌, ℕ, Bool, true, false, List, [], ◌∷◌, cond, map, bytes_eq, Option, Some, None, is_some, refl, sym, ap, ◌∙◌, subst, arith}
 use Rattle.std.proofs.lemmas.Slice.Eq.{bytes_eq-Decides}
 use Rattle.std.specs.Cmp.Lexicographic.{slice_cmp}
 use Rattle.std.specs.List.{AllByRecursion}
@@ -32,10 +31,12 @@ IsOnce files file = (1 ≤ times file.name (names_of files)) × (folder_of files
 contents_once : (files : List NamedFile) → ((name : Bytes) → times name (names_of files) ≤ 1) → AllByRecursion (IsOnce files) files
 contents_once [] once = tt
 contents_once (first ∷ files) once = (
-  (let one = times-first first.name (names_of files) in omega (arith, one),
-  rw ((bytes_eq-Decides first.name first.name).1 refl) refl),
+  (
+    let one = times-first first.name (names_of files) in omega (arith, one),
+    rw ((bytes_eq-Decides first.name first.name).1 refl) refl,
+  ),
   AllByRecursion-weaker (IsOnce files) (IsOnce (first ∷ files)) (λ file is. later file is) files
-  (contents_once files (λ name. let all = once name in let parts = times-cons name first.name (names_of files) in omega (arith, all, parts))),
+      (contents_once files (λ name. let all = once name in let parts = times-cons name first.name (names_of files) in omega (arith, all, parts))),
 ) where
   later : (file : NamedFile) → IsOnce files file → IsOnce (first ∷ files) file
   later file is = by (bytes_eq file.name first.name) refl where
@@ -89,9 +90,11 @@ module _ (tree : Classes) (written : List ClassFile) (folder : Folder) (name bef
         let named : name ≡ file.name = (bytes_eq-Decides name file.name).0 e in
         let held : Some file.bytes ≡ Some before = sym here ∙ ap folder (sym named) ∙ there in
         let bytes : file.bytes ≡ before = cc held in
-        let out_named : bytes_eq name out.name ≡ true = ap (bytes_eq name) is.name ∙ e in
-        (out.bytes, ap (λ b. cond b (Some out.bytes) (folder_of outs name)) out_named,
-        subst (λ (b : Bytes). IsFinal tree written name b out.bytes) bytes (subst (λ (n : Bytes). IsFinal tree written n file.bytes out.bytes) (sym named) is.final))
+        let out_named : bytes_eq name out.name ≡ true = ap (bytes_eq name) is.name ∙ e in (
+          out.bytes,
+          ap (λ b. cond b (Some out.bytes) (folder_of outs name)) out_named,
+          subst (λ (b : Bytes). IsFinal tree written name b out.bytes) bytes (subst (λ (n : Bytes). IsFinal tree written n file.bytes out.bytes) (sym named) is.final),
+        )
     by false e =
         let parts = times-cons name file.name (names_of files) in
         let none : cond (bytes_eq name file.name) 1 0 ≡ 0 = ap {B = ℕ} (λ b. cond b 1 0) e in
