@@ -40,3 +40,5 @@ pub mod PoolCopies
 pub mod ContinuedEdits
 pub mod RewrittenParts
 pub mod WrittenParts
+pub mod RewrittenMethods
+pub mod PlannedMethods

@@ -199,7 +199,17 @@ module _ (laws : AreLaidMethods) (ready_of : AreReady) (of : Writing) (m : Meani
             handlers = refl;
             attrs = here;
           };
-          form = refl;
+          routes = ready.routes;
+          one = refl;
+          of_items = record {
+            routed = ready.routed;
+            host = ready.host;
+            is_host = ready.is_host;
+            before = grown before;
+            begins = laid_method.framed.begins;
+            grows = laid_method.grows;
+            items_are = laid_method.emitted.short_items;
+          };
           items = refl;
           code_pool = refl;
           pool = refl;

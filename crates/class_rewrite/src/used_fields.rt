@@ -1,4 +1,9 @@
 //! The fields that written code reads or stores into, as far as flags of theirs are cleared for that.
+ghost use Rattle.std.specs.Prelude.{◌≡◌, IfOk};
+ghost use Rattle.class_rewrite.specs.Inner.Meanings.{AreItemsOf, IsMeant, Meaning};
+ghost use Rattle.class_rewrite.specs.Inner.WrittenCodes.{AreUsed};
+ghost use Rattle.plan_flow.specs.Written.Routes.{Routes};
+
 use crate::outcome::{FieldAt, FieldAtList};
 use class_model::{ACC_FINAL, ACC_PRIVATE, ACC_STATIC, Instr, ListOf, NoMemory, Pool, has};
 use class_tree::{Place, Tree};
@@ -26,7 +31,10 @@ impl Drop for UsedFields {
 
 impl UsedFields {
     /// The final fields, and the private ones.
-    pub(crate) fn into_parts(self) -> (FieldAtList, FieldAtList) {
+    pub(crate) fn into_parts(self) -> (FieldAtList, FieldAtList)
+        ensures finals { result.0 ≡ self.finals }
+        ensures privates { result.1 ≡ self.privates }
+    {
         let UsedFields { finals, privates } = self;
         (finals, privates)
     }
@@ -41,7 +49,12 @@ pub(crate) fn used_fields(
     setting: &Setting<'_>,
     pool: &Pool,
     items: &[EmitItem],
-) -> Result<UsedFields, NoMemory> {
+) -> Result<UsedFields, NoMemory>
+    ensures { IfOk result (λ used. (m : Meaning) (routes : Routes)
+        → IsMeant setting.now m
+        → AreItemsOf setting.now m routes pool.now items.now
+        → AreUsed setting.now m routes used.finals used.privates) }
+{
     let mut used = UsedFields {
         finals: ListOf::new(alloc),
         privates: ListOf::new(alloc),
@@ -128,7 +141,10 @@ fn is_of_site(tree: &Tree, flat: &Flat, class: usize) -> bool {
 // Whether a class of the folder is one from a place upwards.
 fn is_above(tree: &Tree, low: Option<Place>, class: usize) -> bool {
     let mut next = low;
-    while let Some(place) = next {
+    for _ in 0..usize::MAX {
+        let Some(place) = next else {
+            return false;
+        };
         if is_class(place, class) {
             return true;
         }

@@ -48,3 +48,6 @@ returns-clause-ok c = λ m before meant edit is_code.
     c.in_ok-attrs.attrs
     (subst (λ (class : ClassFile). StatesFrames class.major c.args.pool.now c.attributes_of.new.pool c.in_ok-entry.entry c.in_ok-frames.frames.placed
     c.in_ok-attrs.attrs) c.class.ensures c.in_ok-attrs.ensures.ok)
+
+pub returns-clause-few : goal.returns-clause-few
+returns-clause-few c = c.in_ok-laid.ensures.laid.is.decodes.few
