@@ -1,13 +1,12 @@
 -- A folder whose methods are decided, with field constructors added where classes are made and flags cleared where fields are used, is written.
-use Rattle.std.proofs.Common.{◌≡◌, ◌≢◌, ◌⊎◌, ◌↔◌, ◌<◌, ◌≤◌, ◌+◌, ◌++◌, ℕ, zero, suc, Bool, true, false, cond, List, [], ◌∷◌, bytes_eq, get_or, leb, length, map, slice_get, Option, Some, None, option_map, IsTrue, inl, inr, refl, sym, ap, subst, ◌∙◌, append-nil, arith}
+use Rattle.std.proofs.Common.{◌≡◌, ◌≢◌, ◌⊎◌, ◌↔◌, ◌<◌, ◌≤◌, ◌+◌, ℕ, zero, suc, Bool, true, false, List, [], ◌∷◌, bytes_eq, get_or, leb, length, map, slice_get, Option, Some, None, option_map, IsTrue, inl, inr, refl, sym, ap, subst, ◌∙◌, append-nil, arith}
 use Rattle.std.specs.List.{AllByRecursion, list_any}
 use Rattle.std.proofs.lemmas.Bool.{cases_Bool, false≢true, leb-false, leb-true, or_right}
 use Rattle.std.proofs.lemmas.List.{length-map, take_all}
-use Rattle.std.proofs.lemmas.Option.{get_or_from_slice_get, none-some, same_Some, slice_get-map, slice_get_within}
+use Rattle.std.proofs.lemmas.Option.{none-some, same_Some, slice_get-map, slice_get_within}
 use Rattle.class_model.specs.Header.{field_member, header_of}
 use Rattle.class_model.specs.Laws.Lists.{none_behind}
 use Rattle.class_model.specs.Members.{FINAL, PRIVATE, has}
-use Rattle.class_model.specs.Pool.{Constants}
 use Rattle.class_model.specs.declared.class_file.ClassFile.{ClassFile}
 use Rattle.class_model.specs.declared.class_file.Method.{Method}
 use Rattle.class_model.specs.declared.class_file.MethodAt.{MethodAt}
@@ -17,20 +16,20 @@ use Rattle.class_rewrite.proofs.CandidateChains.{number_of, room_of, written_con
 use Rattle.class_rewrite.proofs.Gathering.{at_number, rewritten_within}
 use Rattle.class_rewrite.proofs.Listed.{IsItem, first_item, later_item}
 use Rattle.class_rewrite.proofs.MadeClasses.{pool_count}
-use Rattle.class_rewrite.specs.Inner.Deciding.{AreDrafts, AreGathered, IsAsked, IsBefore, IsDraft}
+use Rattle.class_rewrite.specs.Inner.Deciding.{AreDrafts, IsAsked, IsBefore, IsDraft}
 use Rattle.class_rewrite.specs.Inner.Finishing.{AllCanExtend, AreFinished, CanExtend, ExtendsIf, IsFinished}
-use Rattle.class_rewrite.specs.Inner.Marking.{AreFieldsMarked, AreMarked, IsListed, IsMarked, IsNamed, StandsInChain, StandsInMade, cleared_flags, row_of}
+use Rattle.class_rewrite.specs.Inner.Marking.{AreFieldsMarked, AreMarked, IsListed, IsMarked, StandsInMade, cleared_flags, row_of}
 use Rattle.class_rewrite.specs.Inner.Outcomes.{ClearsFinalHere, MakesHere, OpensPrivateHere}
 use Rattle.class_rewrite.specs.Laws.OneFolder.{kept_or_rewritten, written_at_is_one}
 use Rattle.class_rewrite.specs.Laws.OneWriting.{HaveOne}
 use Rattle.class_rewrite.specs.Reports.{AreLines, IsReport, class_methods_from}
-use Rattle.class_rewrite.specs.Rewriting.Folders.{AddsMethods, AreClassesWritten, AreMethodsWritten, AreRewritten, IsClassWritten, IsFolderWritten, IsMade, IsMethodWritten, IsRewrittenAt, adds_none, adds_one, field_written, is_kept, is_rewritten}
+use Rattle.class_rewrite.specs.Rewriting.Folders.{AreClassesWritten, AreMethodsWritten, AreRewritten, IsClassWritten, IsFolderWritten, IsMade, IsMethodWritten, IsRewrittenAt, adds_none, adds_one, field_written, is_kept, is_rewritten}
 use Rattle.class_rewrite.specs.Rewriting.Methods.{Rewriting, Rewritten}
 use Rattle.class_rewrite.specs.declared.decided.Decided.{Decided}
 use Rattle.class_rewrite.specs.declared.decided.Draft.{Draft}
 use Rattle.class_rewrite.specs.declared.outcome.FieldAt.{FieldAt}
 use Rattle.class_tree.specs.Headers.{Headers, Name, class_named, headers_of}
-use Rattle.class_tree.specs.Hierarchy.{IsHierarchy, StandsAt}
+use Rattle.class_tree.specs.Hierarchy.{IsHierarchy}
 use Rattle.class_tree.specs.Laws.Names.{one_name_first, one_of_first}
 use Rattle.class_tree.specs.Layouts.{chain}
 use Rattle.class_tree.specs.Order.{place_of}

@@ -1,17 +1,11 @@
 -- The classes of a candidate's chain: they are of the folder, and may have field constructors.
-use Rattle.std.proofs.Common.{◌≡◌, ◌≢◌, ◌≤◌, ℕ, Bool, true, false, List, bytes_eq, length, map, slice_get, Option, Some, None, IsSome, IsTrue, option_map, refl, sym, ap, subst, ◌∙◌, inl, inr, arith}
-use Rattle.std.specs.List.{AllByRecursion, list_any}
-use Rattle.std.proofs.lemmas.Bool.{false≢true}
-use Rattle.std.proofs.lemmas.Option.{none-some, same_Some, slice_get-map}
+use Rattle.std.proofs.Common.{◌≡◌, ◌≢◌, ◌≤◌, ℕ, Bool, true, false, bytes_eq, Option, Some, None, IsSome, IsTrue, refl, arith}
+use Rattle.std.specs.List.{list_any}
 use Rattle.std.proofs.lemmas.Slice.Eq.{bytes_eq-Decides}
-use Rattle.class_model.specs.Descriptors.{parameter_units}
-use Rattle.class_model.specs.Header.{header_of}
-use Rattle.class_model.specs.declared.class_file.ClassFile.{ClassFile}
 use Rattle.class_model.specs.declared.header.Header.{Header}
 use Rattle.class_rewrite.proofs.MadeClasses.{above_there, kept_name, units_same}
 use Rattle.class_tree.specs.Headers.{Classes, Headers, Name, class_named, headers_of, named}
 use Rattle.class_tree.specs.Hierarchy.{IsHierarchy}
-use Rattle.class_tree.specs.Laws.Headers.{same_class}
 use Rattle.class_tree.specs.Layouts.{chain, instance_fields, superclasses}
 use Rattle.class_tree.specs.Names.{object}
 use Rattle.class_tree.specs.Order.{place_of}
@@ -21,8 +15,7 @@ use Rattle.expanded_code.specs.Candidates.{HasRoom, IsCandidate}
 use Rattle.expanded_code.specs.Quiet.{IsOfFolder}
 use Rattle.making_code.specs.FieldConstructor.{units_of_fields}
 use Rattle.materialise.specs.MadeCode.{IsMadeClass}
-use Rattle.member_link.specs.FieldConstructors.{field_types}
-use Rattle.member_link.specs.Laws.FolderClasses.{class_of_folder, folder_index, found_in_folder}
+use Rattle.member_link.specs.Laws.FolderClasses.{class_of_folder, folder_index}
 use Rattle.written_runs.specs.Laws.AddedConstructors.{each_name, of_chain}
 use Rattle.written_runs.specs.Laws.KnownConstructors.{fewer_units}
 

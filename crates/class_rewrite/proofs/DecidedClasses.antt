@@ -1,8 +1,7 @@
 -- The classes of a folder are decided one after the other.
-use Rattle.std.proofs.Common.{◌≡◌, ◌⊎◌, ◌<◌, ◌+◌, ◌++◌, ℕ, zero, suc, List, [], ◌∷◌, length, take, slice_get, Some, inl, inr, refl, sym, ap, subst, ◌∙◌, arith}
+use Rattle.std.proofs.Common.{◌≡◌, ◌⊎◌, ◌+◌, ◌++◌, ℕ, zero, suc, List, [], ◌∷◌, length, take, slice_get, Some, inl, inr, refl, sym, ap, subst, ◌∙◌, arith}
 use Rattle.std.proofs.lemmas.List.{length-append, take_all}
 use Rattle.std.proofs.lemmas.Option.{none-some, same_Some}
-use Rattle.class_model.specs.Pool.{Constants}
 use Rattle.class_model.specs.declared.class_file.ClassFile.{ClassFile}
 use Rattle.class_model.specs.declared.class_file.Method.{Method}
 use Rattle.class_model.specs.declared.class_file.MethodAt.{MethodAt}
@@ -15,7 +14,6 @@ use Rattle.class_rewrite.specs.Rewriting.Folders.{AreMethodsWritten, IsPoolBefor
 use Rattle.class_rewrite.specs.Rewriting.Methods.{Rewriting, rewriting_of}
 use Rattle.class_rewrite.specs.declared.decided.Decided.{Decided}
 use Rattle.class_rewrite.specs.declared.decided.Draft.{Draft}
-use Rattle.class_rewrite.specs.declared.report.Line.{Line}
 use Rattle.class_tree.specs.Headers.{Classes}
 use Rattle.flow_code.specs.TypedFrames.{FolderFrames}
 use Rattle.pool_edit.specs.Edits.{Edit, grown}

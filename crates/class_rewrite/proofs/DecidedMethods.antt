@@ -1,5 +1,5 @@
 -- The methods of a class are decided one after the other.
-use Rattle.std.proofs.Common.{◌≡◌, ◌≢◌, ◌<◌, ◌+◌, ◌++◌, ℕ, zero, suc, List, [], ◌∷◌, length, take, slice_get, Some, refl, sym, ap, subst, ◌∙◌, append-nil, append_assoc, arith}
+use Rattle.std.proofs.Common.{◌≡◌, ◌≢◌, ◌+◌, ◌++◌, ℕ, zero, suc, List, [], ◌∷◌, length, take, slice_get, Some, refl, sym, ap, subst, ◌∙◌, append-nil, append_assoc, arith}
 use Rattle.std.proofs.lemmas.List.{length-take-le}
 use Rattle.std.proofs.lemmas.Option.{slice_get_within}
 use Rattle.class_model.specs.Laws.Lists.{take_item}
@@ -10,7 +10,7 @@ use Rattle.class_model.specs.declared.class_file.Method.{Method}
 use Rattle.class_model.specs.declared.class_file.MethodAt.{MethodAt}
 use Rattle.class_rewrite.proofs.Gathering.{at_number, gathered_kept, gathered_more}
 use Rattle.class_rewrite.proofs.Reporting.{lines_append, methods_one_more}
-use Rattle.class_rewrite.specs.Inner.Deciding.{AreAllDecided, AreDecided, AreGathered, HasRules, IsMethodDecided, decided_for, line_for, method_for}
+use Rattle.class_rewrite.specs.Inner.Deciding.{AreAllDecided, AreDecided, HasRules, IsMethodDecided, decided_for, line_for, method_for}
 use Rattle.class_rewrite.specs.Inner.Outcomes.{IsOutcomeBy, line_of}
 use Rattle.class_rewrite.specs.Laws.OneFolder.{kept_or_rewritten, numbers_are_one}
 use Rattle.class_rewrite.specs.Laws.OneWriting.{HaveOne}

@@ -1,14 +1,14 @@
 -- The classes of a folder are finished one after the other.
-use Rattle.std.proofs.Common.{◌≡◌, ◌<◌, ◌≤◌, ◌+◌, ◌++◌, ℕ, zero, suc, Bool, false, List, [], ◌∷◌, get_or, length, slice_get, Option, Some, None, inl, inr, refl, sym, ap, subst, ◌∙◌, append-nil, arith}
+use Rattle.std.proofs.Common.{◌≡◌, ◌<◌, ◌+◌, ◌++◌, ℕ, Bool, false, List, [], ◌∷◌, get_or, length, slice_get, Option, Some, None, inl, inr, refl, sym, ap, subst, ◌∙◌, append-nil, arith}
 use Rattle.std.proofs.lemmas.List.{length-append}
-use Rattle.std.proofs.lemmas.Option.{none-some, same_Some}
+use Rattle.std.proofs.lemmas.Option.{same_Some}
 use Rattle.class_model.specs.Laws.Lists.{none_behind}
 use Rattle.class_model.specs.Pool.{Constants}
 use Rattle.class_model.specs.declared.class_file.ClassFile.{ClassFile}
 use Rattle.class_model.specs.declared.class_file.Method.{Method}
 use Rattle.class_model.specs.declared.header.Header.{Header}
 use Rattle.class_rewrite.proofs.DecidedClasses.{of_last}
-use Rattle.class_rewrite.specs.Inner.Finishing.{AllCanExtend, AreFinished, CanExtend, Extends, IsFinished}
+use Rattle.class_rewrite.specs.Inner.Finishing.{AreFinished, CanExtend, Extends, IsFinished}
 use Rattle.class_rewrite.specs.Inner.Marking.{row_of}
 use Rattle.class_rewrite.specs.declared.decided.Draft.{Draft}
 use Rattle.class_tree.specs.Headers.{Classes, headers_of}

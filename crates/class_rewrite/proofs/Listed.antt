@@ -1,5 +1,5 @@
 -- Items of lists that are put behind one another.
-use Rattle.std.proofs.Common.{◌≡◌, ◌⊎◌, ◌++◌, ℕ, zero, suc, List, [], ◌∷◌, slice_get, Some, None, inl, inr, refl}
+use Rattle.std.proofs.Common.{◌≡◌, ◌⊎◌, ◌++◌, ℕ, zero, suc, List, [], ◌∷◌, slice_get, Some, inl, inr, refl}
 use Rattle.std.proofs.lemmas.Option.{none-some, same_Some}
 
 -- the item is one of a list

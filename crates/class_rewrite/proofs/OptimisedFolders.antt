@@ -15,7 +15,6 @@ use Rattle.class_rewrite.specs.Rewriting.Verifying.{IsOfVerified}
 use Rattle.class_rewrite.specs.Rewriting.WellWritten.{IsWellWritten}
 use Rattle.class_rewrite.specs.declared.decided.Decided.{Decided}
 use Rattle.class_rewrite.specs.declared.decided.Draft.{Draft}
-use Rattle.class_rewrite.specs.declared.folder.Optimised.{Optimised}
 use Rattle.class_tree.specs.Headers.{Classes, Name, headers_of}
 use Rattle.class_tree.specs.Hierarchy.{IsHierarchy}
 use Rattle.class_tree.specs.Trees.{IsTree}

@@ -1,7 +1,7 @@
 //! What is written of the classes of a folder, but for what the whole folder decides.
 ghost use Rattle.std.specs.Prelude.{◌≡◌, [], Some, IfOk, length, slice_get};
 ghost use Rattle.class_rewrite.specs.Inner.Deciding.{AreAllDecided, AreDraftsOf, HasRules, IsMethodDecided};
-ghost use Rattle.class_rewrite.specs.Inner.Outcomes.{IsEditOf};
+ghost use Rattle.class_rewrite.specs.Inner.Meanings.{IsEditOf};
 ghost use Rattle.member_link.specs.Linked.{IsLinked};
 ghost use Rattle.pool_edit.specs.Edits.{Edit, grown};
 ghost use Rattle.type_rules.specs.Verified.{TypesFolder};

@@ -1,14 +1,13 @@
-use Rattle.std.proofs.Common.{◌≡◌, ◌<◌, ◌+◌, List, Some, ap, length, refl, slice_get, sym, subst, ◌∙◌, arith}
+use Rattle.std.proofs.Common.{◌≡◌, ◌+◌, List, Some, ap, length, refl, slice_get, sym, subst, ◌∙◌}
 use Rattle.std.proofs.lemmas.Option.{same_Some, slice_get_read}
 use Rattle.class_model.specs.declared.class_file.ClassFile.{ClassFile}
 use Rattle.class_model.specs.declared.class_file.Method.{Method}
-use Rattle.class_rewrite.proofs.DecidedMethods.{IsEditIn, all_next, all_none, edit_next}
+use Rattle.class_rewrite.proofs.DecidedMethods.{all_next, all_none, edit_next}
 use Rattle.class_rewrite.proofs.Gathering.{at_number}
 use Rattle.class_rewrite.proofs.drafts.written_methods.Goals as goal
 use Rattle.class_rewrite.specs.Inner.Deciding.{AreAllDecided, IsMethodDecided}
 use Rattle.class_rewrite.specs.Laws.OneWriting.{HaveOne}
 use Rattle.class_rewrite.specs.Rewriting.Methods.{Rewriting}
-use Rattle.class_tree.specs.Headers.{Classes}
 use Rattle.class_tree.specs.Trees.{IsTree}
 use Rattle.inline_expand.specs.TypedClasses.{TypedClasses}
 

@@ -1,4 +1,4 @@
-use Rattle.std.proofs.Common.{◌<◌, get_or, length, subst, sym}
+use Rattle.std.proofs.Common.{◌<◌, get_or, length}
 use Rattle.std.proofs.lemmas.Option.{slice_get-get_or}
 use Rattle.class_rewrite.proofs.AddedMarks.{fields_item}
 use Rattle.class_rewrite.proofs.marked_fields.mark_fields.Goals as goal

@@ -1,4 +1,4 @@
-use Rattle.std.proofs.Common.{◌+◌, ◌++◌, List, [], ◌∷◌, ap, length, replicate, false, subst, sym, take, ◌∙◌}
+use Rattle.std.proofs.Common.{◌+◌, ◌++◌, List, [], ◌∷◌, ap, replicate, false, subst, sym, take, ◌∙◌}
 use Rattle.class_model.specs.declared.class_file.ClassFile.{ClassFile}
 use Rattle.class_rewrite.proofs.AddedMarks.{rows_next}
 use Rattle.class_rewrite.proofs.marked_fields.unmarked_fields.Goals as goal
