@@ -22,7 +22,6 @@ mod marks;
 mod method_laws;
 mod outcome;
 mod ready_laws;
-mod reasons;
 mod report;
 mod rewriter;
 mod used_fields;
