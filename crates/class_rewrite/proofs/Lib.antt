@@ -28,3 +28,5 @@ pub mod GivenConstructors
 pub mod LocalUnits
 pub mod PoolCopies
 pub mod ContinuedEdits
+pub mod UsedChains
+pub mod UsedLists
