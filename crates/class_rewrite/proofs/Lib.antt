@@ -30,3 +30,5 @@ pub mod PoolCopies
 pub mod ContinuedEdits
 pub mod UsedChains
 pub mod UsedLists
+pub mod UsedNumbers
+pub mod UsedFound

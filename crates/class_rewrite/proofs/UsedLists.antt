@@ -36,6 +36,9 @@ fields_none Is none = record {
   all = λ class number is. absurd (none class number is);
 }
 
+abbrev field_at : ℕ → ℕ → FieldAt
+field_at class number = record { class = class; field = number }
+
 pub fields_one : (Is : ℕ → ℕ → Type 0) (one : FieldAt) → Is one.class one.field
     → ((class number : ℕ) → Is class number → (class ≡ one.class) × (number ≡ one.field))
     → AreFieldsOf Is (one ∷ [])
@@ -47,8 +50,7 @@ fields_one Is one holds only = record { each = each; all = all } where
   all : (class number : ℕ) → Is class number → (place : ℕ) × (slice_get (one ∷ []) place ≡ Some (record { class = class; field = number }))
   all class number is =
       let same = only class number is in
-      (zero, sym (ap (λ (c : ℕ). Some {A = FieldAt} (record { class = c; field = number })) same.0
-          ∙ ap (λ (n : ℕ). Some {A = FieldAt} (record { class = one.class; field = n })) same.1))
+      (zero, ap Some (sym (ap (λ (c : ℕ). field_at c number) same.0 ∙ ap (λ (n : ℕ). field_at one.class n) same.1)))
 
 pub fields_same : (Is Also : ℕ → ℕ → Type 0) (fields : List FieldAt)
     → ((class number : ℕ) → Is class number → Also class number)
@@ -78,7 +80,7 @@ fields_more Is Also fields others are more = record {
 
 nothing_behind : {A : Type 0} (xs : List A) → xs ≡ xs ++ []
 nothing_behind [] = refl
-nothing_behind (x ∷ xs) = ap (λ (rest : List A). x ∷ rest) (nothing_behind xs)
+nothing_behind (x ∷ xs) = ap (λ (rest : List _). x ∷ rest) (nothing_behind xs)
 
 pub adds_none : (Is : ℕ → ℕ → Type 0) (before : List FieldAt) → ((class number : ℕ) → ¬ Is class number) → Adds Is before before
 adds_none Is before none = record { more = []; is = nothing_behind before; are = fields_none Is none }

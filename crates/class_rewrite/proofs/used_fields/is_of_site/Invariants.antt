@@ -7,7 +7,8 @@ use Rattle.class_rewrite.proofs.used_fields.is_of_site.Given as goal
 
 abbrev pub invariant-loop-site : goal.invariant-loop-site
 invariant-loop-site l =
-    (of : ℕ) (site : Site)
+    (of : ℕ)
     → of < l.site-index
+    → (site : Site)
     → slice_get l.flat.sites of ≡ Some site
     → list_any (bytes_eq l.header.name) (chain (headers_of l.tree) site.class) ≡ false
