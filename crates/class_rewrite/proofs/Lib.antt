@@ -32,3 +32,5 @@ pub mod UsedChains
 pub mod UsedLists
 pub mod UsedNumbers
 pub mod UsedFound
+pub mod UsedItems
+pub mod UsedWritten

@@ -20,7 +20,7 @@ use class_tree::{Place, Tree, a_tree_is_a_hierarchy, chain};
 use code_drafts::Setting;
 use code_layout::EmitItem;
 use flow_code::Flat;
-use member_link::{Found, a_found_field_is_above, a_look_up_finds_one_field, find_field, member_at};
+use member_link::{Found, a_look_up_finds_one_field, find_field, member_at};
 use std::alloc::Global;
 use type_rules::{a_grown_class_has_a_grown_header, a_grown_class_keeps_its_instructions};
 
@@ -206,7 +206,6 @@ fn field_of_folder(tree: &Tree, pool: &Pool, index: u16) -> Option<FolderField>
 {
     a_tree_is_a_hierarchy(tree);
     a_look_up_finds_one_field();
-    a_found_field_is_above();
     let _folder = tree.folder();
     let member = member_at(pool, index)?;
     let found = find_field(tree, member.class, member.name, member.desc)?;
