@@ -34,3 +34,4 @@ pub mod UsedNumbers
 pub mod UsedFound
 pub mod UsedItems
 pub mod UsedWritten
+pub mod UsedMethods

@@ -1,9 +1,8 @@
 -- A class is in the chain of another one where it is among the classes of a walk upwards.
-use Rattle.std.proofs.Common.{◌≡◌, ◌≢◌, ◌||◌, not, ℕ, zero, suc, Bool, true, false, List, [], ◌∷◌, bytes_eq, filter, length, Option, Some, None, is_some, refl, sym, ap, subst, ◌∙◌}
+use Rattle.std.proofs.Common.{◌≡◌, ◌≢◌, ◌||◌, not, ℕ, zero, suc, Bool, true, false, List, [], ◌∷◌, bytes_eq, filter, length, Some, None, is_some, refl, sym, ap, ◌∙◌}
 use Rattle.std.specs.List.{list_any}
 use Rattle.std.proofs.lemmas.Bool.{false≢true}
 use Rattle.std.proofs.lemmas.Slice.Eq.{bytes_eq-Decides}
-use Rattle.class_model.specs.declared.header.Header.{Header}
 use Rattle.class_tree.specs.Headers.{Headers, IsThere, Name, all_headers, class_named}
 use Rattle.class_tree.specs.Hierarchy.{IsHierarchy}
 use Rattle.class_tree.specs.Layouts.{chain, classes_up, superclasses}

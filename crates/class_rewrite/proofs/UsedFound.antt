@@ -1,7 +1,7 @@
 -- The field that a constant names, by its numbers, and what is noted of it.
-use Rattle.std.proofs.Common.{◌≡◌, ◌≢◌, ◌⊎◌, inl, inr, ℕ, Bool, true, false, List, slice_get, Option, Some, None, Result, Ok, Err, OnOk, IsTrue, IsFalse, if◌then◌else◌, refl, sym, ap, subst, ◌∙◌}
+use Rattle.std.proofs.Common.{◌≡◌, ◌≢◌, ◌⊎◌, inl, inr, ℕ, Bool, true, false, List, slice_get, Option, Some, None, Result, Ok, Err, OnOk, IsTrue, refl, sym, ap, subst, ◌∙◌}
 use Rattle.std.proofs.lemmas.Bool.{false≢true}
-use Rattle.std.proofs.lemmas.Option.{none-some, same_Some}
+use Rattle.std.proofs.lemmas.Option.{same_Some}
 use Rattle.class_model.specs.Members.{FINAL, PRIVATE, STATIC, has}
 use Rattle.class_model.specs.Pool.{Constants, constant_at}
 use Rattle.class_model.specs.declared.header.Header.{Header}
@@ -27,7 +27,6 @@ use Rattle.member_link.specs.Machine.Links.{reference_to}
 use Rattle.member_link.specs.References.{Reference}
 use Rattle.member_link.specs.Signatures.{reference_of}
 use Rattle.member_link.specs.declared.found.Found.{Found}
-use Rattle.plan_flow.specs.Written.WrittenPrograms.{IsFieldOf}
 
 -- the law of look-up
 abbrev pub FindsOne : Type 0
@@ -162,15 +161,18 @@ module _ (classes : Classes) (flat : FlatCode) (pool : Constants) (index : ℕ) 
     finals_added stored adds =
         adds_same (λ class number. (class ≡ field.at.class) × (number ≡ field.at.field) × IsTrue stored × IsTrue (has field.flags FINAL) × IsOfSite classes flat field.at.class)
         (λ class number. IsTrue stored × NamesFinal classes flat pool index class number) before after
-        (λ class number is. (is.2, record {
-              member = there.member;
-              names = named_at class number is.0 is.1;
-              final = flag_is FINAL there.member refl ∙ is.3;
-              of_site = subst (IsOfSite classes flat) (sym is.0) is.4;
-            }))
+        (λ class number is. (
+          is.2,
+          record {
+            member = there.member;
+            names = named_at class number is.0 is.1;
+            final = flag_is FINAL there.member refl ∙ is.3;
+            of_site = subst (IsOfSite classes flat) (sym is.0) is.4;
+          },
+        ))
         (λ class number is.
-            let one = there.only class number is.1.member is.1.names in
-            (one.0, one.1, is.0, sym (flag_is FINAL is.1.member one.2) ∙ is.1.final, subst (IsOfSite classes flat) one.0 is.1.of_site))
+        let one = there.only class number is.1.member is.1.names in
+        (one.0, one.1, is.0, sym (flag_is FINAL is.1.member one.2) ∙ is.1.final, subst (IsOfSite classes flat) one.0 is.1.of_site))
         adds
 
     pub privates_added :
@@ -186,8 +188,8 @@ module _ (classes : Classes) (flat : FlatCode) (pool : Constants) (index : ℕ) 
           other = λ same. is.3 (sym is.0 ∙ same);
         })
         (λ class number is.
-            let one = there.only class number is.member is.names in
-            (one.0, one.1, sym (flag_is PRIVATE is.member one.2) ∙ is.private, λ same. is.other (one.0 ∙ same)))
+        let one = there.only class number is.member is.names in
+        (one.0, one.1, sym (flag_is PRIVATE is.member one.2) ∙ is.private, λ same. is.other (one.0 ∙ same)))
         adds
 
   -- ---- by instructions

@@ -1,6 +1,5 @@
 -- The fields that emitted items name in the pool of their host are those that the instructions of written code name in their own classes.
-use Rattle.std.proofs.Common.{◌≡◌, ◌≢◌, ◌==◌, ◌++◌, ℕ, zero, suc, Bool, true, false, List, [], ◌∷◌, flat_map, map, slice_get, Option, Some, None, option_and_then, option_map, if◌then◌else◌, inl, inr, refl, sym, ap, subst, ◌∙◌}
-use Rattle.std.specs.List.{AllByRecursion}
+use Rattle.std.proofs.Common.{◌≡◌, ◌≢◌, ◌==◌, ◌++◌, ℕ, zero, suc, Bool, true, false, List, [], ◌∷◌, flat_map, map, slice_get, Option, Some, None, option_map, inl, inr, refl, sym, ap, subst, ◌∙◌}
 use Rattle.std.proofs.lemmas.Bool.{false≢true}
 use Rattle.std.proofs.lemmas.Bool.Decides.{Decides-eqb}
 use Rattle.std.proofs.lemmas.Option.{none-some, same_Some}
@@ -14,7 +13,7 @@ use Rattle.class_model.specs.declared.instr.Instr.{Instr}
 use Rattle.class_model.specs.declared.instr.Instr.TheVariants.{GetField, Goto, If, If2, IfNull, IfSame, Invoke, Load, New, PutField, Store}
 use Rattle.class_model.specs.declared.opcodes.TheConstants.{INVOKESPECIAL}
 use Rattle.class_rewrite.proofs.MeantOps.{field_meant}
-use Rattle.class_rewrite.proofs.NeededConstants.{InstrMeant, ItemMeant}
+use Rattle.class_rewrite.proofs.NeededConstants.{InstrMeant}
 use Rattle.class_rewrite.proofs.UsedLists.{in_either, in_left, in_right}
 use Rattle.class_rewrite.proofs.WrittenOps.{NamesNone}
 use Rattle.class_rewrite.proofs.WrittenPoints.{Sort}
@@ -29,7 +28,7 @@ use Rattle.making_code.specs.Laws.GrownPools.{Begins}
 use Rattle.making_code.specs.Opposites.{opposite_instr}
 use Rattle.making_code.specs.Units.{unit_number}
 use Rattle.member_link.specs.Machine.Codes.{instr_op, or_meaningless}
-use Rattle.member_link.specs.Machine.Ops.{Op, get_field, meaningless}
+use Rattle.member_link.specs.Machine.Ops.{get_field, meaningless}
 use Rattle.member_link.specs.Machine.Programs.{Links}
 use Rattle.member_link.specs.Machine.Replaced.{map_numbered}
 use Rattle.member_link.specs.References.{Reference}
@@ -411,7 +410,7 @@ module _ (class : ℕ) (old : Use) where
           let far : WItem = record { instr = plain (Goto 0); targets = one.targets; catches = [] } in
           let wide_is : widened one ≡ jump ∷ far ∷ [] = rw (is, some) refl in
           absurd (two c other (opposite_none instr other some) jump far refl refl has.place has.one
-              (sym (ap (λ (l : List WItem). slice_get l has.place) wide_is) ∙ has.there) has.is)
+          (sym (ap (λ (l : List WItem). slice_get l has.place) wide_is) ∙ has.there) has.is)
     by (plain instr) is = single (rw (is) refl)
     by (load kind unit) is = single (rw (is) refl)
     by (store kind unit) is = single (rw (is) refl)

@@ -1,8 +1,8 @@
 -- A class of the folder has one field of a name and descriptor, by its number.
-use Rattle.std.proofs.Common.{◌≡◌, ◌++◌, ◌+◌, ◌&&◌, ◌||◌, ℕ, zero, suc, Bool, true, false, List, [], ◌∷◌, bytes_eq, length, map, slice_get, Option, Some, None, IsSome, is_some, option_map, refl, sym, ap, subst, ◌∙◌}
+use Rattle.std.proofs.Common.{◌≡◌, ◌++◌, ◌+◌, ◌&&◌, ℕ, zero, suc, Bool, true, false, List, [], ◌∷◌, length, map, slice_get, Option, Some, None, IsSome, refl, sym, ap, subst, ◌∙◌}
 use Rattle.std.specs.List.{list_any}
 use Rattle.std.proofs.lemmas.Bool.{false≢true, or_left, or_right}
-use Rattle.std.proofs.lemmas.Option.{none-some, same_Some, slice_get-map}
+use Rattle.std.proofs.lemmas.Option.{none-some, same_Some}
 use Rattle.std.proofs.lemmas.Slice.Eq.{bytes_eq-Decides}
 use Rattle.class_model.specs.Checks.{AllHold, Check, Fault}
 use Rattle.class_model.specs.ClassOf.{fields_checks}
@@ -10,7 +10,7 @@ use Rattle.class_model.specs.Header.{field_member, header_of}
 use Rattle.class_model.specs.Laws.Checks.{first_holds, others_hold}
 use Rattle.class_model.specs.Laws.ClassFiles.{fields_place, parts_hold}
 use Rattle.class_model.specs.Laws.Lists.{at_index}
-use Rattle.class_model.specs.Members.{Signature, field_checks, field_signature, same_signature, same_text, stands_before}
+use Rattle.class_model.specs.Members.{Signature, field_checks, field_signature, same_signature, same_text}
 use Rattle.class_model.specs.Pool.{Constants}
 use Rattle.class_model.specs.PoolChecks.{text_or_empty, utf8_at}
 use Rattle.class_model.specs.Spelling.{field_bytes}

@@ -1,5 +1,5 @@
 -- The fields that written code uses, as far as flags of theirs are cleared for that, are those that its emitted items use.
-use Rattle.std.proofs.Common.{◌≡◌, ◌≢◌, ◌⊎◌, inl, inr, ℕ, List, [], ◌∷◌, bytes_eq, slice_get, Option, Some, None, option_and_then, option_map, IsTrue, refl, sym, ap, subst, ◌∙◌}
+use Rattle.std.proofs.Common.{◌≡◌, ◌⊎◌, inl, inr, ℕ, List, bytes_eq, slice_get, Option, Some, None, option_and_then, option_map, refl, sym, ap, subst, ◌∙◌}
 use Rattle.std.specs.List.{AllByRecursion, list_any}
 use Rattle.std.proofs.lemmas.Option.{none-some, same_Some}
 use Rattle.class_model.specs.Laws.Lists.{at_index}
@@ -33,14 +33,14 @@ use Rattle.making_code.specs.Laws.GrownPools.{Begins, begins_itself, begins_thro
 use Rattle.member_link.specs.DeclaredMembers.{Declared}
 use Rattle.member_link.specs.Fields.{FindsField}
 use Rattle.member_link.specs.Laws.Scopes.{scope_is_at}
-use Rattle.member_link.specs.Machine.Links.{AreLinksOf, reference_to}
+use Rattle.member_link.specs.Machine.Links.{reference_to}
 use Rattle.member_link.specs.References.{Reference}
 use Rattle.member_link.specs.Signatures.{reference_of}
 use Rattle.plan_flow.specs.PlanScope.{PlanScope, field_of, member_of}
 use Rattle.plan_flow.specs.Written.Finish.{Finished}
 use Rattle.plan_flow.specs.Written.WrittenCode.{short, written_items}
 use Rattle.plan_flow.specs.Written.WrittenConstants.{code_needs}
-use Rattle.plan_flow.specs.Written.WrittenPrograms.{IsFieldOf, StoresField, UsesField, WrittenMethod, reads, stores, writes}
+use Rattle.plan_flow.specs.Written.WrittenPrograms.{StoresField, UsesField, WrittenMethod, reads, stores, writes}
 use Rattle.stackmap_emit.specs.FramedItems.{finished_by}
 
 -- laws of the crates below
@@ -122,7 +122,7 @@ module _ (laws : UsedLaws) (of : Writing) (m : Meaning) (pool : Constants) (item
       same_Some file other (sym at_file ∙ ap (λ (at : MethodAt). slice_get of.classes.folder at.class) (sym ready.own) ∙ there) in
       subst
       (λ (f : ClassFile). IsFieldConstant (constant_at f.pool index)
-          → reference_of pool (constant_at pool index) ≡ reference_of f.pool (constant_at f.pool index))
+      → reference_of pool (constant_at pool index) ≡ reference_of f.pool (constant_at f.pool index))
       same (own_reference laws.grown m.links file read pool begins index)
 
   meant : AllByRecursion (ItemMeant s m.constructor pool) (written_items short blocks)
@@ -325,10 +325,9 @@ module _ (laws : UsedLaws) (of : Writing) (m : Meaning) (pool : Constants) (item
       → AreFieldsOf (ClearsFinalHere (rewriting of m) one) finals
       × AreFieldsOf (OpensPrivateHere (rewriting of m) m.at one) privates
   used_fields_are finals privates are_finals are_privates =
-      let same : other ≡ one = ap with_flat (sym are.flat) in
-      (
+      let same : other ≡ one = ap with_flat (sym are.flat) in (
         subst (λ (w : WrittenMethod). AreFieldsOf (ClearsFinalHere (rewriting of m) w) finals) same
-        (fields_same (OfSome (StoresFinal of.classes of.flat pool) items) (ClearsFinalHere (rewriting of m) other) finals clears cleared are_finals),
+            (fields_same (OfSome (StoresFinal of.classes of.flat pool) items) (ClearsFinalHere (rewriting of m) other) finals clears cleared are_finals),
         subst (λ (w : WrittenMethod). AreFieldsOf (OpensPrivateHere (rewriting of m) m.at w) privates) same
-        (fields_same (OfSome (UsesPrivate of.classes of.flat pool) items) (OpensPrivateHere (rewriting of m) m.at other) privates opens opened are_privates),
+            (fields_same (OfSome (UsesPrivate of.classes of.flat pool) items) (OpensPrivateHere (rewriting of m) m.at other) privates opens opened are_privates),
       )

@@ -12,7 +12,7 @@ use Rattle.class_rewrite.specs.Inner.Meanings.{IsMeant, Meaning, rewriting, scop
 use Rattle.class_rewrite.specs.Inner.Outcomes.{AreFieldsOf, ClearsFinalHere, OpensPrivateHere}
 use Rattle.class_rewrite.specs.declared.outcome.FieldAt.{FieldAt}
 use Rattle.class_rewrite.specs.declared.used_fields.FolderField.{FolderField}
-use Rattle.class_tree.specs.Headers.{Classes, Name, headers_of}
+use Rattle.class_tree.specs.Headers.{Classes, headers_of}
 use Rattle.class_tree.specs.Layouts.{chain}
 use Rattle.code_drafts.specs.Emits.{Writing}
 use Rattle.code_layout.specs.PlainItems.{plain_items}

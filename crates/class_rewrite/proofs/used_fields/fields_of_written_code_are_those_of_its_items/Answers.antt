@@ -13,4 +13,4 @@ returns c =
       };
     } in
     λ of m pool items one finals privates are are_finals are_privates.
-        used_fields_are laws of m pool items one are (c.what_is_meant_can_be_written.ensures of m are.meant) finals privates are_finals are_privates
+    used_fields_are laws of m pool items one are (c.what_is_meant_can_be_written.ensures of m are.meant) finals privates are_finals are_privates

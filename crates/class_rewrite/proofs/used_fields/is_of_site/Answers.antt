@@ -1,4 +1,4 @@
-use Rattle.std.proofs.Common.{◌≡◌, ◌<◌, ℕ, false, bytes_eq, length, slice_get, List, Option, Some, is_some, refl, sym, ap, subst, ◌∙◌, arith}
+use Rattle.std.proofs.Common.{◌≡◌, ◌<◌, ℕ, false, bytes_eq, length, slice_get, List, Some, is_some, refl, sym, ap, subst, ◌∙◌, arith}
 use Rattle.std.specs.List.{list_any}
 use Rattle.std.specs.Option.{option_copied}
 use borrow.Author.Count.{below_more}
@@ -10,7 +10,6 @@ use Rattle.class_tree.specs.Layouts.{chain}
 use Rattle.class_tree.specs.declared.place.Place.TheVariants.{Folder}
 use Rattle.flow_code.specs.declared.point.Site.{Site}
 use Rattle.written_runs.specs.Laws.FolderFacts.{not_object}
-use Rattle.class_rewrite.specs.Inner.UsedFields.{IsOfSite}
 use Rattle.class_rewrite.proofs.used_fields.is_of_site.Goals as goal
 
 pub is_on_chain-requires-clause-there : goal.is_on_chain-requires-clause-there
@@ -25,8 +24,7 @@ is_on_chain-requires-clause-other c =
 pub returns-then-branch : goal.returns-then-branch
 returns-then-branch c =
     let items = c.as_slice-site-items.result.now in
-    let read = slice_get_read items (length items) c.loop-site.site-index c.site-item.result refl c.loop-site-test.true c.site-item.is in
-    (
+    let read = slice_get_read items (length items) c.loop-site.site-index c.site-item.result refl c.loop-site-test.true c.site-item.is in (
       λ is. record {
         header = c.in-Some.header.now;
         of_folder = sym c.header.ensures ∙ ap option_copied c.in-Some.is;
@@ -48,11 +46,11 @@ loop-site-preserved c =
     sym c.in_ok-is_on_chain.ensures ∙ c.if-branch.false in
     below_more
     (λ (of : ℕ). (site : Site) → slice_get c.args.flat.now.sites of ≡ Some site
-        → list_any (bytes_eq c.in-Some.header.now.name) (chain (headers_of c.args.tree.now) site.class) ≡ false)
+    → list_any (bytes_eq c.in-Some.header.now.name) (chain (headers_of c.args.tree.now) site.class) ≡ false)
     here c.loop-site.invariant
     (λ site is.
-        subst (λ (s : Site). list_any (bytes_eq c.in-Some.header.now.name) (chain (headers_of c.args.tree.now) s.class) ≡ false)
-        (same_Some c.site-item.result site (sym is_site ∙ is)) not_here)
+    subst (λ (s : Site). list_any (bytes_eq c.in-Some.header.now.name) (chain (headers_of c.args.tree.now) s.class) ≡ false)
+    (same_Some c.site-item.result site (sym is_site ∙ is)) not_here)
 
 pub returns : goal.returns
 returns c = (

@@ -2,7 +2,7 @@ use Rattle.std.proofs.Common.{sym, subst}
 use Rattle.class_tree.specs.Headers.{Classes}
 use Rattle.class_rewrite.proofs.UsedFound.{finals_added, ok_then, privates_added}
 use Rattle.class_rewrite.proofs.UsedLists.{adds_none}
-use Rattle.class_rewrite.specs.Inner.UsedFields.{IsFieldThere, IsFolderField, NamesFieldAt}
+use Rattle.class_rewrite.specs.Inner.UsedFields.{IsFieldThere, NamesFieldAt}
 use Rattle.class_rewrite.proofs.used_fields.note_field.Goals as goal
 
 pub returns-in_ok-note_private-in-Some-clause-finals : goal.returns-in_ok-note_private-in-Some-clause-finals
@@ -22,11 +22,11 @@ returns-in_ok-note_private-in-Some-clause-privates c =
 pub returns-in-None-clause-finals : goal.returns-in-None-clause-finals
 returns-in-None-clause-finals c =
     adds_none _ c.args.used.now.finals (λ class number is.
-        c.in-None.ensures class number is.1.member
-        (subst (λ (t : Classes). NamesFieldAt t c.args.pool.now c.args.index class number is.1.member) (sym c.tree.ensures) is.1.names))
+    c.in-None.ensures class number is.1.member
+    (subst (λ (t : Classes). NamesFieldAt t c.args.pool.now c.args.index class number is.1.member) (sym c.tree.ensures) is.1.names))
 
 pub returns-in-None-clause-privates : goal.returns-in-None-clause-privates
 returns-in-None-clause-privates c =
     adds_none _ c.args.used.now.privates (λ class number is.
-        c.in-None.ensures class number is.member
-        (subst (λ (t : Classes). NamesFieldAt t c.args.pool.now c.args.index class number is.member) (sym c.tree.ensures) is.names))
+    c.in-None.ensures class number is.member
+    (subst (λ (t : Classes). NamesFieldAt t c.args.pool.now c.args.index class number is.member) (sym c.tree.ensures) is.names))

@@ -14,9 +14,9 @@ by : (law : AreUsedFields) (of : Writing) (pool : Constants) (items : List EmitI
     → IfOk result (λ used. AreFieldsOf (OfSome (StoresFinal of.classes of.flat pool) items) used.finals)
     → IfOk result (λ used. AreFieldsOf (OfSome (UsesPrivate of.classes of.flat pool) items) used.privates)
     → IfOk result (λ used. (m : Meaning) (one : WrittenMethod)
-        → AreItemsOf of m pool items one
-        → AreFieldsOf (ClearsFinalHere (rewriting of m) one) used.finals
-        × AreFieldsOf (OpensPrivateHere (rewriting of m) m.at one) used.privates)
+    → AreItemsOf of m pool items one
+    → AreFieldsOf (ClearsFinalHere (rewriting of m) one) used.finals
+    × AreFieldsOf (OpensPrivateHere (rewriting of m) m.at one) used.privates)
 by law of pool items (Ok used) finals privates = λ m one are. law of m pool items one used.finals used.privates are finals privates
 by law of pool items (Err fault) finals privates = finals
 
