@@ -66,9 +66,9 @@ module _ (classes : Classes) (class : Name) where
           let most = leb-true one other up in
           let least = leb-true other one down in
           omega (arith, most, least)
-      | inr less ↦ absurd (has.fewest other also.some (leb-false other one less) also.free)
+      | inr less ↦ absurd (also.fewest one has.some (leb-false other one less) has.free)
     ]
-    | inr less ↦ absurd (also.fewest one has.some (leb-false one other less) has.free)
+    | inr less ↦ absurd (has.fewest other also.some (leb-false one other less) also.free)
   ]
 
   text_of : Decision HasSome → List ℕ

@@ -28,10 +28,14 @@ pub mod GivenConstructors
 pub mod LocalUnits
 pub mod PoolCopies
 pub mod ContinuedEdits
+pub mod RewrittenParts
+pub mod WrittenParts
+pub mod RewrittenMethods
+pub mod PlannedMethods
+pub mod AnsweredMethods
 pub mod UsedChains
 pub mod UsedLists
 pub mod UsedNumbers
 pub mod UsedFound
 pub mod UsedItems
 pub mod UsedWritten
-pub mod UsedMethods

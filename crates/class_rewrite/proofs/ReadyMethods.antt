@@ -1,6 +1,7 @@
 -- What is meant of a method of a verified folder can be written.
-use Rattle.std.proofs.Common.{◌≡◌, ◌≢◌, ◌+◌, ◌++◌, ◌<◌, ℕ, zero, suc, Bool, true, false, cond, not, List, [], ◌∷◌, bytes_eq, filter, length, slice_get, Option, Some, None, option_and_then, refl, sym, ap, subst, ◌∙◌, arith}
+use Rattle.std.proofs.Common.{◌≡◌, ◌≢◌, ◌+◌, ◌++◌, ◌<◌, ◌≤◌, leb, inl, inr, ℕ, zero, suc, Bool, true, false, cond, not, List, [], ◌∷◌, bytes_eq, filter, length, slice_get, Option, Some, None, option_and_then, refl, sym, ap, subst, ◌∙◌, arith}
 use Rattle.std.specs.List.{AllByRecursion}
+use Rattle.std.proofs.lemmas.Bool.{cases_Bool, leb-false, leb-true}
 use Rattle.std.proofs.lemmas.Option.{none-some}
 use Rattle.std.proofs.lemmas.Slice.Eq.{bytes_eq-Decides}
 use Rattle.class_model.specs.declared.class_file.ClassFile.{ClassFile}
@@ -17,7 +18,9 @@ use Rattle.class_tree.specs.declared.place.Place.TheVariants.{Folder}
 use Rattle.code_drafts.specs.FlatForms.{AreFormed, IsFormed}
 use Rattle.expanded_code.specs.CandidateSites.{HasCandidateSites, IsSite}
 use Rattle.expanded_code.specs.Candidates.{HasRoom, IsCandidate}
+use Rattle.expanded_code.specs.ExpandAnswers.{IsWide, many_units}
 use Rattle.flow_code.specs.FlatCode.{FlatCode}
+use Rattle.flow_code.specs.WrittenUnits.{written_units}
 use Rattle.flow_code.specs.declared.point.FlatInstr.{FlatInstr}
 use Rattle.flow_code.specs.declared.point.FlatInstr.TheVariants.{Of, NullTest}
 use Rattle.flow_code.specs.declared.point.Point.{Point}
@@ -120,3 +123,11 @@ module _ (classes : Classes) (tree : IsTree classes) where
 
   pub have_constructors : (flat : FlatCode) → HasCandidateSites classes flat → HaveConstructors classes flat
   have_constructors flat has = sites_made flat flat.sites has.sites
+
+-- ---- what is not too wide
+
+pub few_units : (flat : FlatCode) → (IsWide flat → ⊥) → written_units flat ≤ 65535
+few_units flat narrow = elim (cases_Bool (leb (written_units flat) 65535)) [
+  | inl low ↦ leb-true (written_units flat) 65535 low
+  | inr high ↦ absurd (narrow (many_units (leb-false (written_units flat) 65535 high)))
+]

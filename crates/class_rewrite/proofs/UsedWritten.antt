@@ -18,15 +18,15 @@ use Rattle.class_rewrite.proofs.UsedItems as items_of_uses
 use Rattle.class_rewrite.proofs.UsedLists.{fields_same}
 use Rattle.class_rewrite.proofs.WrittenPoints.{Sort}
 use Rattle.class_rewrite.proofs.WrittenSorts.{sorts_are}
-use Rattle.class_rewrite.specs.Inner.Meanings.{IsReady, Meaning, rewriting, scope}
+use Rattle.class_rewrite.specs.Inner.Meanings.{AreItemsOf, IsMeant, IsReady, Meaning, rewriting, scope}
 use Rattle.class_rewrite.specs.Inner.Outcomes.{AreFieldsOf, ClearsFinalHere, OpensPrivateHere}
-use Rattle.class_rewrite.specs.Inner.UsedFields.{AreItemsOf, NamesField, OfSome, StoresFinal, UsesPrivate}
+use Rattle.class_rewrite.specs.Inner.UsedFields.{NamesField, OfSome, StoresFinal, UsesPrivate}
+use Rattle.class_rewrite.specs.Inner.WrittenCodes.{one_of}
 use Rattle.class_rewrite.specs.declared.outcome.FieldAt.{FieldAt}
 use Rattle.class_tree.specs.Headers.{IsClassFile, Name, headers_of}
 use Rattle.class_tree.specs.Layouts.{chain}
 use Rattle.code_drafts.specs.Emits.{Writing}
 use Rattle.code_layout.specs.declared.emitted.EmitItem.{EmitItem}
-use Rattle.flow_code.specs.FlatCode.{FlatCode}
 use Rattle.making_code.specs.Items.{WInstr, WItem, carried}
 use Rattle.making_code.specs.Laws.AddedConstants.{Compares}
 use Rattle.making_code.specs.Laws.GrownPools.{Begins, begins_itself, begins_through, grow_begins}
@@ -38,7 +38,8 @@ use Rattle.member_link.specs.References.{Reference}
 use Rattle.member_link.specs.Signatures.{reference_of}
 use Rattle.plan_flow.specs.PlanScope.{PlanScope, field_of, member_of}
 use Rattle.plan_flow.specs.Written.Finish.{Finished}
-use Rattle.plan_flow.specs.Written.WrittenCode.{short, written_items}
+use Rattle.plan_flow.specs.Written.Routes.{Routes}
+use Rattle.plan_flow.specs.Written.WrittenCode.{Form, short, written_items}
 use Rattle.plan_flow.specs.Written.WrittenConstants.{code_needs}
 use Rattle.plan_flow.specs.Written.WrittenPrograms.{StoresField, UsesField, WrittenMethod, reads, stores, writes}
 use Rattle.stackmap_emit.specs.FramedItems.{finished_by}
@@ -90,26 +91,26 @@ either : (instr : Instr) (u : Use) → instr ≡ instr_of u → (instr ≡ PutFi
 either instr (puts index) is = inl is
 either instr (gets index) is = inr is
 
-module _ (laws : UsedLaws) (of : Writing) (m : Meaning) (pool : Constants) (items : List EmitItem) (one : WrittenMethod)
-    (are : AreItemsOf of m pool items one) (ready : IsReady of m) where
+module _ (laws : UsedLaws) (of : Writing) (m : Meaning) (pool : Constants) (items : List EmitItem) (routes : Routes) (form : Form)
+    (is_meant : IsMeant of m) (are : AreItemsOf of m routes pool items) (ready : IsReady of m) where
   abbrev s : PlanScope
   s = scope of m
 
   abbrev blocks : List Finished
-  blocks = finished_by s one.routes
+  blocks = finished_by s routes
 
   abbrev file : ClassFile
-  file = ready.host.class
+  file = are.host.class
 
   at_file : slice_get of.classes.folder m.at.class ≡ Some file
-  at_file = (scope_is_at of.classes m.at ready.host ready.is_host).of_folder
+  at_file = (scope_is_at of.classes m.at are.host are.is_host).of_folder
 
   read : IsClassFile file
-  read = at_index IsClassFile of.classes.folder m.at.class file are.meant.folder.tree.folder at_file
+  read = at_index IsClassFile of.classes.folder m.at.class file is_meant.folder.tree.folder at_file
 
   begins : Begins file.pool pool
   begins =
-      begins_through file.pool are.before pool (are.begins file at_file)
+      begins_through file.pool are.before pool are.begins
       (grow_begins 64535 (code_needs s m.constructor (written_items short blocks)) are.before pool are.grows)
 
   first : constant_at pool 0 ≡ None
@@ -129,7 +130,7 @@ module _ (laws : UsedLaws) (of : Writing) (m : Meaning) (pool : Constants) (item
   meant = written_meant s m.constructor pool laws.compares 64535 pool (begins_itself pool) are.before short blocks are.grows
 
   sorts : AllByRecursion (λ (w : WItem). Sort s w.instr) (written_items short blocks)
-  sorts = sorts_are s ready.host ready.code ready.carries short one.routes
+  sorts = sorts_are s ready.host ready.code ready.carries short routes
 
   -- ---- fields
 
@@ -137,7 +138,7 @@ module _ (laws : UsedLaws) (of : Writing) (m : Meaning) (pool : Constants) (item
       → (field : Reference) → NamesField of.classes pool new field
       → field_of s class index ≡ Some field
   to_field class index new refers field names =
-      let link = are.meant.links.field names.reference in
+      let link = is_meant.links.field names.reference in
       let found : link.found ≡ Some names.found =
       laws.finds_one (headers_of of.classes) names.reference.class names.reference.name names.reference.desc link.found (Some names.found) link.finds names.finds in
       ap (option_and_then m.links.field) (sym refers ∙ names.refers) ∙ link.same ∙ ap (option_map reference_to) found ∙ ap Some names.same
@@ -162,7 +163,7 @@ module _ (laws : UsedLaws) (of : Writing) (m : Meaning) (pool : Constants) (item
     by : (found : Option Reference) → member_of s class index ≡ found → NamesField of.classes pool new field
     by None e = absurd (none-some field (sym (ap (option_and_then m.links.field) e) ∙ is))
     by (Some r) e =
-        let link = are.meant.links.field r in
+        let link = is_meant.links.field r in
         linked r e link.found link.finds (sym link.same ∙ sym (ap (option_and_then m.links.field) e) ∙ is)
 
   -- ---- items
@@ -174,7 +175,7 @@ module _ (laws : UsedLaws) (of : Writing) (m : Meaning) (pool : Constants) (item
     class : ℕ
     old : Use
     named : Named class old u
-    has : Has class old (written_items one.form blocks)
+    has : Has class old (written_items form blocks)
 
   written : (k : ℕ) (item : EmitItem) → slice_get items k ≡ Some item → (u : Use) → item.instr ≡ instr_of u → Written u
   written k item is u uses_it =
@@ -187,7 +188,7 @@ module _ (laws : UsedLaws) (of : Writing) (m : Meaning) (pool : Constants) (item
         class = used.class;
         old = used.old;
         named = used.named;
-        has = to_form used.class used.old one.form blocks (record { place = k; one = w.0; there = w.1; is = used.is });
+        has = to_form used.class used.old form blocks (record { place = k; one = w.0; there = w.1; is = used.is });
       }
 
   record Emitted (class : ℕ) (old : Use) : Type 0 where
@@ -198,9 +199,9 @@ module _ (laws : UsedLaws) (of : Writing) (m : Meaning) (pool : Constants) (item
     is : item.instr ≡ instr_of new
     named : Named class old new
 
-  emitted : (class : ℕ) (old : Use) → Has class old (written_items one.form blocks) → Emitted class old
+  emitted : (class : ℕ) (old : Use) → Has class old (written_items form blocks) → Emitted class old
   emitted class old has =
-      let h = from_form class old one.form blocks has in
+      let h = from_form class old form blocks has in
       let e = emitted_from s m.constructor pool short blocks 0 items (written_items short blocks) are.items_are h.place h.one h.there in
       let used = used_so s m.constructor pool first own_refers e.2.numbers h.one.instr
       (at_index (λ (x : WItem). Sort s x.instr) (written_items short blocks) h.place h.one sorts h.there)
@@ -210,11 +211,8 @@ module _ (laws : UsedLaws) (of : Writing) (m : Meaning) (pool : Constants) (item
 
   -- ---- what is used
 
-  abbrev with_flat : FlatCode → WrittenMethod
-  with_flat flat = record { flat = flat; routes = one.routes; form = one.form }
-
   abbrev other : WrittenMethod
-  other = with_flat of.flat
+  other = one_of of routes form
 
   clears : (class number : ℕ) → OfSome (StoresFinal of.classes of.flat pool) items class number → ClearsFinalHere (rewriting of m) other class number
   clears class number some =
@@ -319,15 +317,11 @@ module _ (laws : UsedLaws) (of : Writing) (m : Meaning) (pool : Constants) (item
         };
       }
 
-  pub used_fields_are : (finals privates : List FieldAt)
-      → AreFieldsOf (OfSome (StoresFinal of.classes of.flat pool) items) finals
-      → AreFieldsOf (OfSome (UsesPrivate of.classes of.flat pool) items) privates
-      → AreFieldsOf (ClearsFinalHere (rewriting of m) one) finals
-      × AreFieldsOf (OpensPrivateHere (rewriting of m) m.at one) privates
-  used_fields_are finals privates are_finals are_privates =
-      let same : other ≡ one = ap with_flat (sym are.flat) in (
-        subst (λ (w : WrittenMethod). AreFieldsOf (ClearsFinalHere (rewriting of m) w) finals) same
-            (fields_same (OfSome (StoresFinal of.classes of.flat pool) items) (ClearsFinalHere (rewriting of m) other) finals clears cleared are_finals),
-        subst (λ (w : WrittenMethod). AreFieldsOf (OpensPrivateHere (rewriting of m) m.at w) privates) same
-            (fields_same (OfSome (UsesPrivate of.classes of.flat pool) items) (OpensPrivateHere (rewriting of m) m.at other) privates opens opened are_privates),
-      )
+  pub finals_are : (finals : List FieldAt) → AreFieldsOf (OfSome (StoresFinal of.classes of.flat pool) items) finals
+      → AreFieldsOf (ClearsFinalHere (rewriting of m) other) finals
+  finals_are finals are_finals = fields_same (OfSome (StoresFinal of.classes of.flat pool) items) (ClearsFinalHere (rewriting of m) other) finals clears cleared are_finals
+
+  pub privates_are : (privates : List FieldAt) → AreFieldsOf (OfSome (UsesPrivate of.classes of.flat pool) items) privates
+      → AreFieldsOf (OpensPrivateHere (rewriting of m) m.at other) privates
+  privates_are privates are_privates =
+      fields_same (OfSome (UsesPrivate of.classes of.flat pool) items) (OpensPrivateHere (rewriting of m) m.at other) privates opens opened are_privates

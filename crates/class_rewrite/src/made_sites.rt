@@ -1,4 +1,8 @@
 //! Which objects of sites written code makes.
+ghost use Rattle.std.specs.Prelude.{◌≡◌, IfOk};
+ghost use Rattle.class_rewrite.specs.Inner.Meanings.{IsMeant, Meaning};
+ghost use Rattle.class_rewrite.specs.Inner.WrittenCodes.{IsMade};
+
 use class_model::{ListOf, NoMemory, TextList};
 use code_drafts::Setting;
 use flow_code::Flat;
@@ -21,7 +25,10 @@ impl Drop for MadeSites {
 
 impl MadeSites {
     /// How many objects, and the classes.
-    pub(crate) fn into_parts(self) -> (u32, TextList) {
+    pub(crate) fn into_parts(self) -> (u32, TextList)
+        ensures count { result.0 ≡ self.count }
+        ensures names { result.1 ≡ self.names }
+    {
         let MadeSites { count, names } = self;
         (count, names)
     }
@@ -43,7 +50,11 @@ impl Drop for Making {
 ///
 /// # Errors
 /// `NoMemory`, where memory runs out.
-pub(crate) fn made_sites(alloc: Global, setting: &Setting<'_>) -> Result<MadeSites, NoMemory> {
+pub(crate) fn made_sites(alloc: Global, setting: &Setting<'_>) -> Result<MadeSites, NoMemory>
+    ensures { IfOk result (λ made. (m : Meaning)
+        → IsMeant setting.now m
+        → IsMade setting.now m made.count made.names) }
+{
     let mut making = Making {
         count: 0,
         sites: SiteSet::new(alloc),

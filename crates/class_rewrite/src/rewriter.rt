@@ -75,6 +75,7 @@ impl<'t> Rewriter<'t> {
             (λ rewriter. rewriter ≡ record { classes = tree.now; typed = typed.now }) }
     {
         codes_of_a_tree_are_bytes(tree);
+        let _ = tree.folder();
         Ok(Rewriter {
             tree,
             expander: Expander::new(alloc, tree, typed)?,

@@ -2,13 +2,14 @@
 ghost use Rattle.std.specs.Prelude.{◌≡◌, ◌≢◌, ◌↔◌, bytes_eq, IfOk, OnOk, IsTrue};
 ghost use Rattle.std.specs.List.{list_any};
 ghost use Rattle.class_model.specs.Members.{FINAL, PRIVATE, has};
-ghost use Rattle.class_rewrite.specs.Inner.Meanings.{Meaning, rewriting};
-ghost use Rattle.class_rewrite.specs.Inner.Outcomes.{AreFieldsOf, ClearsFinalHere, OpensPrivateHere};
-ghost use Rattle.class_rewrite.specs.Inner.UsedFields.{Adds, AreItemsOf, AreUsedFields, IsFolderField, IsOfSite, NamesFinal, NamesPrivate, OfSome, StoresFinal, UsesPrivate, instance_field_of};
+ghost use Rattle.class_rewrite.specs.Inner.Meanings.{AreItemsOf, IsMeant, Meaning};
+ghost use Rattle.class_rewrite.specs.Inner.Outcomes.{AreFieldsOf};
+ghost use Rattle.class_rewrite.specs.Inner.UsedFields.{Adds, AreUsedFields, IsFolderField, IsOfSite, NamesFinal, NamesPrivate, OfSome, StoresFinal, UsesPrivate, instance_field_of};
+ghost use Rattle.class_rewrite.specs.Inner.WrittenCodes.{AreUsed};
 ghost use Rattle.class_tree.specs.Headers.{IsThere, headers_of};
 ghost use Rattle.class_tree.specs.Layouts.{chain};
 ghost use Rattle.class_tree.specs.Names.{object};
-ghost use Rattle.plan_flow.specs.Written.WrittenPrograms.{WrittenMethod};
+ghost use Rattle.plan_flow.specs.Written.Routes.{Routes};
 
 use crate::method_laws::what_is_meant_can_be_written;
 use crate::outcome::{FieldAt, FieldAtList};
@@ -43,7 +44,8 @@ impl Drop for UsedFields {
 impl UsedFields {
     /// The final fields, and the private ones.
     pub(crate) fn into_parts(self) -> (FieldAtList, FieldAtList)
-        ensures { result ≡ (self.finals, self.privates) }
+        ensures finals { result.0 ≡ self.finals }
+        ensures privates { result.1 ≡ self.privates }
     {
         let UsedFields { finals, privates } = self;
         (finals, privates)
@@ -67,10 +69,10 @@ pub(crate) fn used_fields(
     pool: &Pool,
     items: &[EmitItem],
 ) -> Result<UsedFields, NoMemory>
-    ensures { IfOk result (λ used. (m : Meaning) (one : WrittenMethod)
-        → AreItemsOf setting.now m pool.now items.now one
-        → AreFieldsOf (ClearsFinalHere (rewriting setting.now m) one) used.finals
-        × AreFieldsOf (OpensPrivateHere (rewriting setting.now m) m.at one) used.privates) }
+    ensures { IfOk result (λ used. (m : Meaning) (routes : Routes)
+        → IsMeant setting.now m
+        → AreItemsOf setting.now m routes pool.now items.now
+        → AreUsed setting.now m routes used.finals used.privates) }
 {
     fields_of_written_code_are_those_of_its_items();
     fields_of_items(alloc, setting, pool, items)

@@ -3,7 +3,8 @@ ghost use Rattle.std.specs.Prelude.{◌≡◌, ◌≤◌, IfOk, OnErr, length};
 ghost use Rattle.std.specs.Result.{IsErrOf};
 ghost use Rattle.class_rewrite.specs.Inner.Meanings.{IsCode, IsEditOf, IsMeant, IsPart, IsReasonOf, MayBeWritten, Meaning, rewriting};
 ghost use Rattle.class_rewrite.specs.Inner.Outcomes.{IsRewrittenTo};
-ghost use Rattle.class_rewrite.specs.Inner.WrittenCodes.{IsOfCode, IsWrittenCode};
+ghost use Rattle.class_rewrite.specs.Inner.WrittenCodes.{IsMethodOf, IsOfPart, IsWrittenAt, IsWrittenCode};
+ghost use Rattle.plan_flow.specs.Narrow.{IsNarrow};
 ghost use Rattle.flow_code.specs.declared.reason.Reason.{Reason};
 ghost use Rattle.pool_edit.specs.Edits.{Continues, Edit};
 
@@ -108,11 +109,42 @@ fn written_of(
     let Some(home) = Home::at(setting.tree(), setting.flat().host()) else {
         unreachable!()
     };
-    let grown = grown_pool(alloc, &home.class().pool, pool)?;
-    let part = written_part(alloc, setting, &home, code, &grown, pool);
+    let written = written_at(alloc, setting, &home, code, pool);
     // let go by a call, so that its drop is proved once
     drop(home);
+    written
+}
+
+// The same, where the method stands.
+fn written_at(
+    alloc: Global,
+    setting: &Setting<'_>,
+    home: &Home<'_>,
+    code: &WrittenCode,
+    pool: &mut PoolEdit,
+) -> Result<RewrittenMethod, KeptFault>
+    requires { IsWrittenAt setting.now pool.old code.now home.now }
+    ensures ok { IfOk result (λ method. (m : Meaning) (before : Edit)
+        → IsMeant setting.now m
+        → IsEditOf setting.now.classes m.at before
+        → IsCode setting.now before pool.old code.now
+        → Continues before pool.old
+        → IsRewrittenTo (rewriting setting.now m) m.at before pool.new method) }
+    ensures kept { (reason : Reason) (m : Meaning) (before : Edit)
+        → IsErrOf result (KeptFault.Kept reason)
+        → IsMeant setting.now m
+        → IsEditOf setting.now.classes m.at before
+        → IsCode setting.now before pool.old code.now
+        → IsReasonOf setting.now m before reason }
+    ensures more { Continues pool.old pool.new }
+{
+    an_edit_goes_back_to_what_it_was();
+    what_is_meant_can_be_written();
+    what_is_written_fits();
+    let grown = grown_pool(alloc, &home.class().pool, pool)?;
+    let part = written_part(alloc, setting, home, code, &grown, pool);
     let method = with_part(alloc, setting, code, &grown, part);
+    // let go by a call, so that its drop is proved once
     drop(grown);
     method
 }
@@ -124,7 +156,15 @@ fn with_part(
     code: &WrittenCode,
     grown: &Pool,
     part: Result<CodePart, KeptFault>,
-) -> Result<RewrittenMethod, KeptFault> {
+) -> Result<RewrittenMethod, KeptFault>
+    requires narrow { IsNarrow setting.now.flat }
+    requires items { length code.now.emitted ≤ 65535 }
+    requires bytes { IfOk part (λ written. length written.code ≤ 65535) }
+    ensures ok { IfOk result (IsOfPart setting.now code.now grown.now part) }
+    ensures err { (reason : Reason)
+        → IsErrOf result (KeptFault.Kept reason)
+        → IsErrOf part (KeptFault.Kept reason) }
+{
     match part {
         Ok(part) => Ok(method_of(alloc, setting, code, grown, part)?),
         Err(fault) => Err(fault),
@@ -139,7 +179,10 @@ fn method_of(
     grown: &Pool,
     part: CodePart,
 ) -> Result<RewrittenMethod, NoMemory>
-    requires { length code.now.emitted ≤ 65535 }
+    requires narrow { IsNarrow setting.now.flat }
+    requires items { length code.now.emitted ≤ 65535 }
+    requires bytes { length part.code ≤ 65535 }
+    ensures { IfOk result (IsMethodOf setting.now code.now grown.now part) }
 {
     let items = code.emitted.as_slice();
     let (news, made) = made_sites(alloc, setting)?.into_parts();

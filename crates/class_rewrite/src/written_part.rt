@@ -1,5 +1,5 @@
 //! The content of the Code attribute of a method that is rewritten (JVM Specification SE 8, 4.7.3).
-ghost use Rattle.std.specs.Prelude.{◌≡◌, ℕ, List, IfOk};
+ghost use Rattle.std.specs.Prelude.{◌≡◌, ◌≤◌, ℕ, List, length, IfOk};
 ghost use Rattle.std.specs.Result.{IsErrOf};
 ghost use Rattle.class_rewrite.specs.Inner.Meanings.{IsCode, IsEditOf, IsFit, IsFullFor, IsKnownCode, IsMeant, IsPart, IsReasonOf, Meaning, StatesFrames};
 ghost use Rattle.class_tree.specs.Headers.{Name};
@@ -51,6 +51,7 @@ pub(crate) fn written_part(
         → IsEditOf setting.now.classes m.at before
         → IsCode setting.now before pool.old code.now
         → IsPart setting.now m before pool.old pool.new code.now part) }
+    ensures few { IfOk result (λ part. length part.code ≤ 65535) }
     ensures kept { (reason : Reason) (m : Meaning) (before : Edit)
         → IsErrOf result (KeptFault.Kept reason)
         → IsMeant setting.now m

@@ -35,7 +35,7 @@ use Rattle.member_link.specs.Machine.Programs.{Links}
 use Rattle.member_link.specs.Scope.{Scope, scope_at}
 use Rattle.plan_flow.specs.Gain.{Gains}
 use Rattle.plan_flow.specs.PlanScope.{PlanScope, scope_of}
-use Rattle.plan_flow.specs.Plans.{IsLeast}
+use Rattle.plan_flow.specs.Plans.{IsLeast, IsValid}
 use Rattle.plan_flow.specs.ReadyForPlans.{IsReadyForPlans}
 use Rattle.plan_flow.specs.Written.FramedCode.{IsFramed, greatest_of}
 use Rattle.plan_flow.specs.Written.Routes.{IsRouted, Routes}
@@ -184,13 +184,30 @@ pub record StatesFrames (major : ℕ) (old new : Edit) (entry : Frame) (placed :
   pub grows : frames_pool_of major old (table_needs (all_stated placed)) ≡ Some (grown new)
   pub continues : Continues old new
 
+-- Items of written code in the short form, by the constants of a pool that has grown by theirs.
+pub record AreItemsOf (of : Writing) (m : Meaning) (routes : Routes) (pool : Constants)
+    (items : List EmitItem)
+    : Type 0 where
+  pub routed : IsRouted (scope of m) of.plan routes
+  pub host : Scope
+  pub is_host : scope_at of.classes m.at ≡ Some host
+  pub before : Constants
+  pub begins : Begins host.class.pool before
+  pub grows : code_pool (scope of m) m.constructor
+      (written_items short (finished_by (scope of m) routes)) before ≡ Some pool
+  pub items_are : plain_items items
+      ≡ indexed_items (scope of m) m.constructor pool short (finished_by (scope of m) routes)
+
 -- The Code that is written, where the code before its frames left an edit, and these left another.
 pub record IsPart (of : Writing) (m : Meaning) (before middle after : Edit) (code : WrittenCode)
     (part : CodePart)
     : Type 0 where
   pub w : Rewritten
   pub is : IsRewritten (rewriting of m) m.at (grown before) w
-  pub form : w.one.form ≡ form_of code.emitted
+  pub routes : Routes
+  pub one : w.one
+      ≡ record { flat = of.flat; routes = routes; form = form_of code.emitted }
+  pub of_items : AreItemsOf of m routes (grown middle) code.emitted
   pub items : w.items ≡ chosen_items code.emitted
   pub code_pool : w.code_pool ≡ grown middle
   pub pool : w.pool ≡ grown after
@@ -206,3 +223,6 @@ pub record MayBeWritten (of : Writing) (edit : Edit) : Type 0 where
   pub m : Meaning
   pub meant : IsMeant of m
   pub of_class : IsEditOf of.classes m.at edit
+  pub valid : (links : Links)
+      → AreLinksOf (headers_of of.classes) links
+      → IsValid (scope_of of.classes links of.flat) of.plan

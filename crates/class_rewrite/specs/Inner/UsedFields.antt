@@ -3,33 +3,29 @@ use Rattle.std.specs.Prelude.{◌≡◌, ◌≢◌, ◌⊎◌, ◌++◌, ℕ, by
 use Rattle.std.specs.List.{list_any}
 use Rattle.class_model.specs.Members.{FINAL, PRIVATE, STATIC, has}
 use Rattle.class_model.specs.Pool.{Constants, constant_at}
-use Rattle.class_model.specs.declared.class_file.ClassFile.{ClassFile}
 use Rattle.class_model.specs.declared.header.Header.{Header}
 use Rattle.class_model.specs.declared.header.Member.{Member}
 use Rattle.class_model.specs.declared.instr.Instr.{Instr}
 use Rattle.class_model.specs.declared.instr.Instr.TheVariants.{GetField, PutField}
-use Rattle.class_rewrite.specs.Inner.Meanings.{IsMeant, Meaning, rewriting, scope}
-use Rattle.class_rewrite.specs.Inner.Outcomes.{AreFieldsOf, ClearsFinalHere, OpensPrivateHere}
+use Rattle.class_rewrite.specs.Inner.Meanings.{AreItemsOf, IsMeant, Meaning}
+use Rattle.class_rewrite.specs.Inner.Outcomes.{AreFieldsOf}
+use Rattle.class_rewrite.specs.Inner.WrittenCodes.{AreUsed}
 use Rattle.class_rewrite.specs.declared.outcome.FieldAt.{FieldAt}
 use Rattle.class_rewrite.specs.declared.used_fields.FolderField.{FolderField}
 use Rattle.class_tree.specs.Headers.{Classes, headers_of}
 use Rattle.class_tree.specs.Layouts.{chain}
 use Rattle.code_drafts.specs.Emits.{Writing}
-use Rattle.code_layout.specs.PlainItems.{plain_items}
 use Rattle.code_layout.specs.declared.emitted.EmitItem.{EmitItem}
 use Rattle.flow_code.specs.FlatCode.{FlatCode}
 use Rattle.flow_code.specs.declared.point.Site.{Site}
-use Rattle.making_code.specs.Laws.GrownPools.{Begins}
 use Rattle.member_link.specs.DeclaredMembers.{Declared}
 use Rattle.member_link.specs.Fields.{FindsField}
 use Rattle.member_link.specs.Machine.Links.{reference_to}
 use Rattle.member_link.specs.References.{Reference}
 use Rattle.member_link.specs.Signatures.{reference_of}
 use Rattle.member_link.specs.declared.found.Found.{Found}
-use Rattle.plan_flow.specs.Written.WrittenCode.{short, written_items}
-use Rattle.plan_flow.specs.Written.WrittenConstants.{code_pool, indexed_items}
-use Rattle.plan_flow.specs.Written.WrittenPrograms.{IsFieldOf, WrittenMethod}
-use Rattle.stackmap_emit.specs.FramedItems.{finished_by}
+use Rattle.plan_flow.specs.Written.Routes.{Routes}
+use Rattle.plan_flow.specs.Written.WrittenPrograms.{IsFieldOf}
 
 -- ---- the field of a constant
 
@@ -138,28 +134,13 @@ pub record Adds (Is : ℕ → ℕ → Type 0) (before after : List FieldAt) : Ty
 
 -- ---- written code
 
--- Items are those of a method's written code in the short form, in a pool that has their constants.
-pub record AreItemsOf (of : Writing) (m : Meaning) (pool : Constants) (items : List EmitItem)
-    (one : WrittenMethod)
-    : Type 0 where
-  pub meant : IsMeant of m
-  pub flat : one.flat ≡ of.flat
-  pub before : Constants
-  pub begins : (file : ClassFile)
-      → slice_get of.classes.folder m.at.class ≡ Some file
-      → Begins file.pool before
-  pub grows : code_pool (scope of m) m.constructor
-      (written_items short (finished_by (scope of m) one.routes)) before ≡ Some pool
-  pub items_are : plain_items items
-      ≡ indexed_items (scope of m) m.constructor pool short (finished_by (scope of m) one.routes)
-
 -- The fields that its items use are those that it uses.
 abbrev pub AreUsedFields : Type 0
 AreUsedFields =
-    (of : Writing) (m : Meaning) (pool : Constants) (items : List EmitItem) (one : WrittenMethod)
+    (of : Writing) (m : Meaning) (routes : Routes) (pool : Constants) (items : List EmitItem)
     (finals privates : List FieldAt)
-    → AreItemsOf of m pool items one
+    → IsMeant of m
+    → AreItemsOf of m routes pool items
     → AreFieldsOf (OfSome (StoresFinal of.classes of.flat pool) items) finals
     → AreFieldsOf (OfSome (UsesPrivate of.classes of.flat pool) items) privates
-    → AreFieldsOf (ClearsFinalHere (rewriting of m) one) finals
-    × AreFieldsOf (OpensPrivateHere (rewriting of m) m.at one) privates
+    → AreUsed of m routes finals privates

@@ -1,4 +1,4 @@
-use Rattle.std.proofs.Common.{◌≡◌, ◌<◌, length, Some, sym, ap, ◌∙◌}
+use Rattle.std.proofs.Common.{◌≡◌, Some, sym, ap, ◌∙◌}
 use Rattle.class_rewrite.proofs.ReadyMethods.{code_formed, folder_some, have_constructors}
 use Rattle.class_rewrite.proofs.method_laws.what_is_meant_can_be_written.Goals as goal
 use Rattle.class_rewrite.specs.Inner.Meanings.{IsMeant, IsReady, Meaning, scope}

@@ -1,4 +1,4 @@
-use Rattle.std.proofs.Common.{◌≡◌, ◌<◌, ◌≤◌, ℕ, leb, length, Some, inl, inr, sym, subst, arith}
+use Rattle.std.proofs.Common.{◌<◌, ◌≤◌, ℕ, leb, length, inl, inr, subst}
 use Rattle.std.proofs.lemmas.Bool.{cases_Bool, leb-false, leb-true}
 use Rattle.class_model.specs.Laws.Lists.{at_index}
 use Rattle.class_model.specs.Pool.{Constants}
@@ -9,12 +9,10 @@ use Rattle.code_drafts.specs.Emits.{Writing}
 use Rattle.code_emit.specs.EmittedCode.{IsEmittedCode}
 use Rattle.code_emit.specs.declared.emitting.WrittenCode.{WrittenCode}
 use Rattle.expanded_code.specs.ExpandAnswers.{many_units}
-use Rattle.flow_code.specs.FlatCode.{point_at}
 use Rattle.flow_code.specs.WrittenUnits.{written_units}
-use Rattle.flow_code.specs.declared.point.Point.{Point}
 use Rattle.member_link.specs.Scope.{Scope}
 use Rattle.plan_flow.specs.Narrow.{IsNarrowPoint}
-use Rattle.plan_flow.specs.Written.WrittenCode.{short, written_items}
+use Rattle.plan_flow.specs.Written.WrittenCode.{short}
 use Rattle.pool_edit.specs.Edits.{Edit, grown}
 use Rattle.stackmap_emit.specs.FramedItems.{finished_by}
 

@@ -1,4 +1,4 @@
-use Rattle.class_rewrite.proofs.UsedWritten.{UsedLaws, used_fields_are}
+use Rattle.class_rewrite.proofs.UsedWritten.{UsedLaws, finals_are, privates_are}
 use Rattle.class_rewrite.proofs.used_fields.fields_of_written_code_are_those_of_its_items.Goals as goal
 
 pub returns : goal.returns
@@ -12,5 +12,7 @@ returns c =
         runs = c.a_grown_class_keeps_its_instructions.ensures.runs;
       };
     } in
-    λ of m pool items one finals privates are are_finals are_privates.
-    used_fields_are laws of m pool items one are (c.what_is_meant_can_be_written.ensures of m are.meant) finals privates are_finals are_privates
+    λ of m routes pool items finals privates meant are are_finals are_privates. record {
+      finals_are = λ form. finals_are laws of m pool items routes form meant are (c.what_is_meant_can_be_written.ensures of m meant) finals are_finals;
+      privates_are = λ form. privates_are laws of m pool items routes form meant are (c.what_is_meant_can_be_written.ensures of m meant) privates are_privates;
+    }

@@ -1,12 +1,9 @@
-use Rattle.std.proofs.Common.{rules, ◌≡◌, ◌≤◌, ◌<◌, ◌++◌, ℕ, nat_le, Bool, true, false, List, [], Some, None, refl, sym, ap, subst, ◌∙◌, arith, append-nil, if◌then◌else◌, OnOk}
+use Rattle.std.proofs.Common.{rules, ◌≡◌, nat_le, Bool, true, false, [], Some, refl, sym, ap, subst, ◌∙◌, arith, append-nil, if◌then◌else◌}
 use Rattle.std.proofs.lemmas.Bool.{le-leb, lt-leb}
 use Rattle.std.specs.Result.{IsErrOf}
 use Rattle.class_model.specs.Pool.{Constants}
-use Rattle.class_model.specs.declared.class_file.InnerAttr.{InnerAttr}
-use Rattle.class_model.specs.declared.frame.PlacedFrame.{PlacedFrame}
 use Rattle.class_rewrite.proofs.ContinuedEdits.{grows_continue}
 use Rattle.class_rewrite.proofs.written_part.attributes_of.Goals as goal
-use Rattle.class_rewrite.specs.Inner.Meanings.{StatesFrames, frames_pool_of}
 use Rattle.flow_code.specs.declared.reason.KeptFault.TheVariants.{Kept}
 use Rattle.making_code.specs.Constants.{grow}
 use Rattle.materialise.specs.Growing.{Grows}
