@@ -80,7 +80,13 @@ pub mod TalliedPoints
 pub mod Tallies
 pub mod TypedFolders
 pub mod TypedRewriting
+pub mod UsedChains
 pub mod UsedFolders
+pub mod UsedFound
+pub mod UsedItems
+pub mod UsedLists
+pub mod UsedNumbers
+pub mod UsedWritten
 pub mod WholeFolders
 pub mod WideEnters
 pub mod WrittenClasses

@@ -10,5 +10,6 @@ pub mod ReadyFolders
 pub mod SoundFrames
 pub mod SoundStates
 pub mod SpelledFrames
+pub mod UsedFields
 pub mod VerifiedFolders
 pub mod WrittenCodes
