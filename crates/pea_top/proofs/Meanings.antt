@@ -73,16 +73,18 @@ moved_at (old ∷ olds) (new ∷ news) zero class last once is is_last =
     let same : old ≡ class = cc is in
     let is_new : new ≡ last = cc is_last in
     ap (λ b. cond b new (moved olds news class)) ((bytes_eq-Decides (name_of class) (name_of old)).1 (ap name_of (sym same))) ∙ is_new
-moved_at (old ∷ olds) (new ∷ news) (suc n) class last once is is_last = by (bytes_eq (name_of class) (name_of old)) refl where
-  parts : how_many (name_of class) (old ∷ olds) ≡ cond (bytes_eq (name_of class) (name_of old)) 1 0 + how_many (name_of class) olds
-  parts = count_first (name_of class) old olds
+moved_at (old ∷ olds) (new ∷ news) (suc n) class last once is is_last = by (bytes_eq (name_of class) (name_of old)) refl
+    (λ low. moved_at olds news n class last low is is_last) where
+      parts : how_many (name_of class) (old ∷ olds) ≡ cond (bytes_eq (name_of class) (name_of old)) 1 0 + how_many (name_of class) olds
+      parts = count_first (name_of class) old olds
 
-  by : (b : Bool) → bytes_eq (name_of class) (name_of old) ≡ b → moved (old ∷ olds) (new ∷ news) class ≡ last
-  by true e =
-      let here : cond (bytes_eq (name_of class) (name_of old)) 1 0 ≡ 1 = ap {B = ℕ} (λ b. cond b 1 0) e in
-      let rest = there_counts olds n class is in
-      absurd (omega (arith, once, parts, here, rest))
-  by false e = ap (λ b. cond b new (moved olds news class)) e ∙ moved_at olds news n class last (omega (arith, once, parts)) is is_last
+      by : (b : Bool) → bytes_eq (name_of class) (name_of old) ≡ b → (how_many (name_of class) olds ≤ 1 → moved olds news class ≡ last)
+          → moved (old ∷ olds) (new ∷ news) class ≡ last
+      by true e rest =
+          let here : cond (bytes_eq (name_of class) (name_of old)) 1 0 ≡ 1 = ap {B = ℕ} (λ b. cond b 1 0) e in
+          let some = there_counts olds n class is in
+          absurd (omega (arith, once, parts, here, some))
+      by false e rest = ap (λ b. cond b new (moved olds news class)) e ∙ rest (omega (arith, once, parts))
 
 map_is : (f : ClassFile → ClassFile) (olds news : List ClassFile) → length news ≡ length olds
     → ((n : ℕ) (old new : ClassFile) → slice_get olds n ≡ Some old → slice_get news n ≡ Some new → f old ≡ new)

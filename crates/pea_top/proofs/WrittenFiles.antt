@@ -65,15 +65,16 @@ names_same tree written (file ∷ files) (out ∷ outs) are =
 
 none_there : (files : List NamedFile) (name : Bytes) → times name (names_of files) ≡ 0 → folder_of files name ≡ None
 none_there [] name none = refl
-none_there (file ∷ files) name none = by (bytes_eq name file.name) refl where
-  by : (same : Bool) → bytes_eq name file.name ≡ same → folder_of (file ∷ files) name ≡ None
-  by true e =
+none_there (file ∷ files) name none = by (bytes_eq name file.name) refl (none_there files name) where
+  by : (same : Bool) → bytes_eq name file.name ≡ same → (times name (names_of files) ≡ 0 → folder_of files name ≡ None)
+      → folder_of (file ∷ files) name ≡ None
+  by true e rest =
       let parts = times-cons name file.name (names_of files) in
       let here : cond (bytes_eq name file.name) 1 0 ≡ 1 = ap {B = ℕ} (λ b. cond b 1 0) e in
       absurd (omega (arith, none, parts, here))
-  by false e =
+  by false e rest =
       let parts = times-cons name file.name (names_of files) in
-      ap (λ b. cond b (Some file.bytes) (folder_of files name)) e ∙ none_there files name (omega (arith, none, parts))
+      ap (λ b. cond b (Some file.bytes) (folder_of files name)) e ∙ rest (omega (arith, none, parts))
 
 module _ (tree : Classes) (written : List ClassFile) (folder : Folder) (name before : Bytes) (there : folder name ≡ Some before) where
   abbrev Written : List NamedFile → Type 0
