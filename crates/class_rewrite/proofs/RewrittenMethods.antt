@@ -1,9 +1,10 @@
 -- What is written of a method, by its Code and by what is counted and noted.
-use Rattle.std.proofs.Common.{◌≡◌, ◌∙◌, ℕ, List, count_by, length, Result, Ok, Err, IfOk, refl, sym, ap, subst}
+use Rattle.std.proofs.Common.{◌≡◌, ◌∙◌, ◌≤◌, arith, ℕ, List, count_by, length, Result, Ok, Err, IfOk, refl, sym, ap, subst}
 use Rattle.class_model.specs.Pool.{Constants}
 use Rattle.class_model.specs.declared.class_file.CodePart.{CodePart}
+use Rattle.class_rewrite.proofs.LongItems.{items_many}
 use Rattle.class_rewrite.proofs.WideEnters.{chosen_enters}
-use Rattle.class_rewrite.specs.Inner.Meanings.{AreItemsOf, IsMeant, IsPart, Meaning, rewriting}
+use Rattle.class_rewrite.specs.Inner.Meanings.{AreItemsOf, IsMeant, IsPart, Meaning, rewriting, scope}
 use Rattle.class_rewrite.specs.Inner.Outcomes.{AreFieldsOf, AreNamesOf, ClearsFinalHere, IsRewrittenTo, MakesHere, OpensPrivateHere}
 use Rattle.class_rewrite.specs.Inner.WrittenCodes.{IsMethodOf, IsOfPart, one_of}
 use Rattle.class_rewrite.specs.declared.outcome.RewrittenMethod.{RewrittenMethod}
@@ -13,9 +14,10 @@ use Rattle.code_layout.specs.declared.emitted.EmitItem.{EmitItem}
 use Rattle.flow_code.specs.declared.reason.KeptFault.{KeptFault}
 use Rattle.making_code.specs.CountedItems.{is_enter, site_news}
 use Rattle.materialise.specs.Laws.GrownEdits.{continues_both}
+use Rattle.plan_flow.specs.Written.WrittenCode.{short, written_items}
 use Rattle.plan_flow.specs.Written.WrittenPrograms.{WrittenMethod, items_of}
 use Rattle.pool_edit.specs.Edits.{Continues, Edit, grown}
-use Rattle.stackmap_emit.specs.FramedItems.{form_of}
+use Rattle.stackmap_emit.specs.FramedItems.{finished_by, form_of}
 
 module _ (of : Writing) (m : Meaning) (before middle after : Edit) (code : WrittenCode) (pool : Constants) (part : CodePart) (method : RewrittenMethod)
     (meant : IsMeant of m) (is_pool : pool ≡ grown middle) (first : Continues before middle) (then : Continues middle after)
@@ -25,6 +27,11 @@ module _ (of : Writing) (m : Meaning) (before middle after : Edit) (code : Writt
 
   items_here : AreItemsOf of m p.routes pool code.emitted
   items_here = subst (λ (constants : Constants). AreItemsOf of m p.routes constants code.emitted) (sym is_pool) p.of_items
+
+  few : length (written_items short (finished_by (scope of m) p.routes)) ≤ 65535
+  few =
+      let count = items_many (scope of m) m.constructor (grown middle) short (finished_by (scope of m) p.routes) code.emitted p.of_items.items_are in
+      let most = is.few in omega (arith, count, most)
 
   pub rewritten_to : IsRewrittenTo (rewriting of m) m.at before after method
   rewritten_to =
@@ -40,7 +47,7 @@ module _ (of : Writing) (m : Meaning) (before middle after : Edit) (code : Writt
         numbers = record {
           sites = is.sites ∙ ap (λ (one : WrittenMethod). length one.flat.sites) back;
           news =
-              made.counts p.routes (form_of code.emitted) p.of_items.routed
+              made.counts p.routes (form_of code.emitted) p.of_items.routed few
               ∙ ap (λ (one : WrittenMethod). site_news (items_of of.classes m.links one)) back;
           enters =
               is.enters ∙ sym (chosen_enters code.emitted)

@@ -1,5 +1,5 @@
 -- What is known of a method step by step: its flat code, its least plan, its code.
-use Rattle.std.specs.Prelude.{◌≡◌, ℕ, List, length, count_by, Some, Ok, Err, Result}
+use Rattle.std.specs.Prelude.{◌≡◌, ◌≤◌, ℕ, List, length, count_by, Some, Ok, Err, Result}
 use Rattle.class_model.specs.Pool.{Constants}
 use Rattle.class_model.specs.declared.class_file.CodePart.{CodePart}
 use Rattle.class_model.specs.declared.class_file.MethodAt.{MethodAt}
@@ -26,9 +26,10 @@ use Rattle.member_link.specs.Scope.{Scope, scope_at}
 use Rattle.plan_flow.specs.PlanScope.{scope_of}
 use Rattle.plan_flow.specs.Plans.{IsLeast, Plan}
 use Rattle.plan_flow.specs.Written.Routes.{IsRouted, Routes}
-use Rattle.plan_flow.specs.Written.WrittenCode.{Form}
+use Rattle.plan_flow.specs.Written.WrittenCode.{Form, short, written_items}
 use Rattle.plan_flow.specs.Written.WrittenPrograms.{WrittenMethod, items_of}
 use Rattle.pool_edit.specs.Edits.{Continues, Edit}
+use Rattle.stackmap_emit.specs.FramedItems.{finished_by}
 
 -- the flat code of a method of a verified folder
 pub record IsFlatOf (classes : Classes) (typed : FolderFrames) (at : MethodAt) (flat : FlatCode)
@@ -66,10 +67,11 @@ pub record IsWrittenAt (of : Writing) (edit : Edit) (code : WrittenCode) (host :
 abbrev pub one_of : Writing → Routes → Form → WrittenMethod
 one_of of routes form = record { flat = of.flat; routes = routes; form = form }
 
--- the objects of sites that written code makes: how many, and of which classes
+-- The objects of sites that written code makes: how many, where its items are no more than a code has bytes, and of which classes.
 pub record IsMade (of : Writing) (m : Meaning) (count : ℕ) (names : List Name) : Type 0 where
   pub counts : (routes : Routes) (form : Form)
       → IsRouted (scope of m) of.plan routes
+      → length (written_items short (finished_by (scope of m) routes)) ≤ 65535
       → count ≡ site_news (items_of of.classes m.links (one_of of routes form))
   pub names_are : (routes : Routes) (form : Form)
       → IsRouted (scope of m) of.plan routes
@@ -88,6 +90,7 @@ pub record AreUsed (of : Writing) (m : Meaning) (routes : Routes)
 pub record IsMethodOf (of : Writing) (code : WrittenCode) (pool : Constants) (part : CodePart)
     (method : RewrittenMethod)
     : Type 0 where
+  pub few : length code.emitted ≤ 65535
   pub part_is : method.part ≡ part
   pub sites : method.sites ≡ length of.flat.sites
   pub enters : method.enters ≡ count_by (λ item. is_enter item.instr) code.emitted
