@@ -37,6 +37,8 @@ pub mod FolderPairs
 pub mod ReadMajors
 pub mod SoundAdditions
 pub mod StatedTexts
+pub mod UnitsInside
+pub mod UnitsOfWritten
 pub mod WrittenScopes
 pub mod DeclaredFolders
 pub mod UsedFolders
