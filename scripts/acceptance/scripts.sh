@@ -39,7 +39,7 @@ run optimise in out --lib lib
 told "OUT that is another folder" eval '[ "$status" = 0 ] && [ ! -s "$work/errors" ]'
 
 # Each script that takes words says how it is called, with a status of its own.
-for script in jar gain library jdk-library compile-java build build-unproved run-example acceptance conformance refused-allocations \
+for script in jar gain library jdk-library compile-java build build-unproved run-example acceptance conformance written refused-allocations \
     compare-with-jvm; do
     case $script in
         jar | gain | library | jdk-library | compile-java) words=() ;;
