@@ -17,7 +17,7 @@ told() {
 for word in --help -h help --version; do
     run "$word"
     told "$word" eval '[ "$status" = 1 ] && [ "$(cat "$work/printed")" = "refused 1 Usage" ] &&
-        grep -q "^pea: note: this is pea [0-9.]*," "$work/errors" && [ "$(grep -c "^    pea " "$work/errors")" = 5 ]'
+        grep -q "^pea: note: this is pea [0-9.]*," "$work/errors" && [ "$(grep -c "^    pea " "$work/errors")" = 7 ]'
 done
 run optimize in out --lib lib
 told "a wrong command is named" grep -q "^pea: error: the word 'optimize' is no command" "$work/errors"
