@@ -13,7 +13,7 @@ use Rattle.class_rewrite.proofs.FittingCodes.{code_for}
 use Rattle.class_rewrite.proofs.FittingConstructors.{added_one}
 use Rattle.class_rewrite.proofs.FolderPairs.{ArePairs, IsPair, all_pairs}
 use Rattle.class_rewrite.proofs.GrownConstants.{class_adds}
-use Rattle.class_rewrite.specs.Inner.FittingFolders.{IsFittingFolder}
+use Rattle.class_rewrite.specs.Inner.FittingFolders.{IsFittedFolder}
 use Rattle.class_rewrite.specs.Inner.ReadyFolders.{IsReadyFolder}
 use Rattle.class_rewrite.specs.Laws.MadeConstructors.{made_is_added}
 use Rattle.class_rewrite.specs.Optimised.{with_folder}
@@ -28,7 +28,7 @@ use Rattle.type_rules.specs.Grown.{IsGrownClass}
 use Rattle.written_files.specs.WrittenClasses.{AreAddedMethods, AreKeptMethods, IsFitting, IsKeptMethod, IsWrittenClass, kept_as_it_was, kept_with_code}
 
 module _ (laws : FileLaws) (r : Rewriting) (files : List ClassFile) (w : IsFolderWritten r files) (tree : IsTree r.classes)
-    (ready : IsReadyFolder r files w) (fitting : IsFittingFolder r files w) where
+    (ready : IsReadyFolder r files w) (fitting : IsFittedFolder r files w) where
   module _ (class : ℕ) (file also : ClassFile) (pair : IsPair r files w class file also) where
     is_file : IsClassFile file
     is_file = at_index IsClassFile r.classes.folder class file tree.folder pair.there

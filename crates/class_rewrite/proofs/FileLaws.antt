@@ -1,17 +1,15 @@
 -- Laws of the crates below by which written classes are class files.
-use Rattle.std.proofs.Common.{◌≡◌, ◌≤◌, ℕ, List, length, slice_get, Some, Ok}
+use Rattle.std.proofs.Common.{◌≡◌, ◌≤◌, ℕ, List, length, Some, Ok}
 use Rattle.std.specs.List.{AllByRecursion}
 use Rattle.class_model.specs.Checks.{AllHold}
 use Rattle.class_model.specs.Code.{OperandFits}
 use Rattle.class_model.specs.Header.{header_of}
 use Rattle.class_model.specs.Instructions.{decoded}
 use Rattle.class_model.specs.Members.{Signature}
-use Rattle.class_model.specs.Methods.{entry_of, home_of, method_checks}
+use Rattle.class_model.specs.Methods.{home_of, method_checks}
 use Rattle.class_model.specs.Pool.{Constants}
 use Rattle.class_model.specs.PoolChecks.{entries_checks}
 use Rattle.class_model.specs.declared.class_file.ClassFile.{ClassFile}
-use Rattle.class_model.specs.declared.class_file.CodePart.{CodePart}
-use Rattle.class_model.specs.declared.class_file.Method.{Method}
 use Rattle.class_model.specs.declared.instr.Instr.{Instr}
 use Rattle.class_model.specs.declared.instr.Placed.{Placed}
 use Rattle.class_tree.specs.Headers.{Headers, IsClassFile, Name}
@@ -56,9 +54,6 @@ pub record FileLaws : Type 0 where
   -- codes
   pub operands : (old new : ClassFile) (max_locals : ℕ) (instr : Instr) → IsClassFile old → IsGrownClass old new → OperandFits old.pool old.major max_locals instr
       → OperandFits new.pool new.major max_locals instr
-  pub entry : (old new : ClassFile) (number : ℕ) (method : Method) (part : CodePart) → IsClassFile old → IsGrownClass old new
-      → slice_get old.methods number ≡ Some method
-      → entry_of (home_of new) method part ≡ entry_of (home_of old) method part
   pub consecutive : (code : List ℕ) (instrs : List Placed) → decoded code ≡ Ok instrs → AreConsecutive 0 instrs (length code)
   pub constructor_passes : (headers : Headers) (constructor : Name → List ℕ) (file : ClassFile) (s : Scope) (before : List Signature) (at : ℕ)
       → IsConstructorIn headers constructor file s

@@ -1,11 +1,12 @@
 -- The Code of a method that is rewritten, in the class that is written, passes what a class file asks of it, and fits its items.
-use Rattle.std.proofs.Common.{◌≡◌, ◌≢◌, ◌⊎◌, ◌≤◌, ◌<◌, ◌+◌, ◌∙◌, inl, inr, ℕ, zero, suc, nat_le, Bool, true, false, List, [], ◌∷◌, ◌++◌, flat_map, length, slice_get, Option, Some, None, IfSome, IsSome, if◌then◌else◌, refl, sym, ap, subst, arith}
+use Rattle.std.proofs.Common.{◌≡◌, ◌≢◌, ◌⊎◌, ◌≤◌, ◌<◌, ◌+◌, ◌∙◌, inl, inr, ℕ, zero, suc, nat_le, Bool, true, false, List, [], ◌∷◌, ◌++◌, flat_map, length, slice_get, Option, Some, None, IfSome, IsSome, if◌then◌else◌, Result, Ok, Err, refl, sym, ap, subst, arith}
 use Rattle.std.specs.List.{AllByRecursion}
 use Rattle.std.proofs.lemmas.Bool.{false≢true}
 use Rattle.std.proofs.lemmas.Option.{none-some, same_Some, slice_get_within}
-use Rattle.class_model.specs.Checks.{AllHold}
+use Rattle.class_model.specs.Checks.{AllHold, Fault}
 use Rattle.class_model.specs.Code.{OperandFits, stack_map_table}
 use Rattle.class_model.specs.Frames.{Setting, stack_map_table_at}
+use Rattle.class_model.specs.Stated.{read_or_none, stated_in}
 use Rattle.class_model.specs.Instructions.{decoded}
 use Rattle.class_model.specs.Laws.ClassFiles.{methods_place, parts_hold}
 use Rattle.class_model.specs.Laws.Lists.{at_index}
@@ -32,11 +33,11 @@ use Rattle.class_rewrite.proofs.NeededConstants.{written_meant}
 use Rattle.class_rewrite.proofs.StayingIndices.{items_stay}
 use Rattle.class_rewrite.proofs.WrittenFolders.{IsRewrittenHost, rewritten_host}
 use Rattle.class_rewrite.proofs.WrittenScopes.{IsHosted, hosted, now_scope, numbered}
-use Rattle.class_rewrite.specs.Inner.FittingFolders.{HasFittingCode, IsFittingFolder, UnitFits, frames_placed, setting_of}
+use Rattle.class_rewrite.specs.Inner.FittingFolders.{HasFittingCode, IsFittedFolder, UnitFits, frames_placed}
 use Rattle.class_rewrite.specs.Inner.ReadyFolders.{IsReadyFolder, IsReadyHost}
 use Rattle.class_rewrite.specs.Laws.GrownPools.{rewritten_begins, written_begins}
 use Rattle.class_rewrite.specs.Laws.WrittenGrown.{added_begins}
-use Rattle.class_rewrite.specs.Rewriting.Folders.{IsFolderWritten, IsPoolBefore, IsRewrittenAt}
+use Rattle.class_rewrite.specs.Rewriting.Folders.{IsFolderWritten, IsPoolBefore, IsRewrittenAt, with_part}
 use Rattle.class_rewrite.specs.Rewriting.Methods.{Rewriting, Rewritten}
 use Rattle.class_tree.specs.Headers.{IsClassFile, headers_of}
 use Rattle.code_layout.specs.Layout.{placed_items}
@@ -79,7 +80,7 @@ table_named same limit pool grown place stated grows some = by (stated_frames st
       (text_later cut.0 grown stack_map_table (grow_begins limit classes cut.0 grown cut.2) (grown_text same limit pool cut.0 stack_map_table cut.1))
 
 module _ (laws : FileLaws) (r : Rewriting) (files : List ClassFile) (w : IsFolderWritten r files) (folder : AllByRecursion IsClassFile r.classes.folder)
-    (ready : IsReadyFolder r files w) (fitting : IsFittingFolder r files w)
+    (ready : IsReadyFolder r files w) (fitting : IsFittedFolder r files w)
     (class : ℕ) (file also : ClassFile) (pair : IsPair r files w class file also)
     (number : ℕ) (method : Method) (got : slice_get file.methods number ≡ Some method)
     (v : Rewritten) (is_at : IsRewrittenAt r (numbered r files w class file also pair number) v) where
@@ -210,35 +211,50 @@ module _ (laws : FileLaws) (r : Rewriting) (files : List ClassFile) (w : IsFolde
 
   -- ---- its frames
 
+  -- what they are read by
+  abbrev setting : Setting
+  setting = record {
+    pool = also.pool;
+    max_locals = v.part.max_locals;
+    max_stack = v.part.max_stack;
+    code = placed_items (spelled_in v.one.form) v.items;
+  }
+
+  decodes : decoded v.part.code ≡ Ok (placed_items (spelled_in v.one.form) v.items)
+  decodes = ap decoded is_at.is.code ∙ is_at.is.framed.laid.decodes.covers
+
   abbrev entry : Frame
   entry = entry_of (home_of also) method v.part
 
-  abbrev entry_by : ClassFile → Method → ℕ → Frame
-  entry_by c m locals = entry_of (home_of c) m (record found.part { max_locals = locals })
+  -- frames that are stated in an attribute of this name are those that it is read as
+  read_as : (attr : InnerAttr) → utf8_at also.pool attr.name ≡ Some stack_map_table → frames_placed v ≢ []
+      → stated_in (home_of also) (record method { attrs = with_part v.part method.attrs }) v.part (attr ∷ []) ≡ frames_placed v
+      → stack_map_table_at setting entry attr.bytes ≡ Ok (frames_placed v)
+  read_as attr named some is = by (stack_map_table_at setting entry attr.bytes) refl where
+    there : stated_in (home_of also) (record method { attrs = with_part v.part method.attrs }) v.part (attr ∷ [])
+        ≡ read_or_none (stack_map_table_at setting entry attr.bytes)
+    there = rw (named, decodes) refl
 
-  entries_same : v.body.entry ≡ entry
-  entries_same =
-      ap (λ b. b.entry) is_at.is.framed.body
-      ∙ ap (λ (one : Scope). entry_of (home_of one.class) one.method (record one.part { max_locals = written_units v.one.flat })) host_same
-      ∙ sym (ap (entry_by file method) is_at.is.max_locals)
-      ∙ sym (laws.entry file also number method v.part is_file grown got)
+    by : (found : Result (List PlacedFrame) Fault) → stack_map_table_at setting entry attr.bytes ≡ found → found ≡ Ok (frames_placed v)
+    by (Ok frames) e = ap (λ (list : List PlacedFrame). Ok list) (sym (ap read_or_none e) ∙ sym there ∙ is)
+    by (Err fault) e = absurd (some (sym is ∙ there ∙ ap read_or_none e))
 
   attrs_read : (b : Bool) (from : Frame) (attrs : List InnerAttr) → IsFramesAttribute v.pool from (if b then frames_placed v else []) attrs
-      → from ≡ entry
+      → stated_in (home_of also) (record method { attrs = with_part v.part method.attrs }) v.part attrs ≡ frames_placed v
       → (if b then grow 64535 v.code_pool (table_needs v.stated) else Some v.code_pool) ≡ Some v.pool
-      → AreReadAttrs (setting_of v now) entry attrs
-  attrs_read b from _ (no_attribute none) same grows = none_there
-  attrs_read false from _ (one_attribute some named is_table read) same grows = absurd (some refl)
-  attrs_read true from _ (one_attribute {names = names} {bytes = bytes} some named is_table read) same grows =
+      → AreReadAttrs setting entry attrs
+  attrs_read b from _ (no_attribute none) states grows = none_there
+  attrs_read false from _ (one_attribute some named is_table read) states grows = absurd (some refl)
+  attrs_read true from _ (one_attribute {names = names} {bytes = bytes} some named is_table read) states grows =
+      let attr : InnerAttr = record { name = text_index v.pool stack_map_table; bytes = bytes } in
       let name = table_named laws.compares 64535 v.code_pool v.pool _ v.stated grows some in
       let there : utf8_at also.pool (text_index v.pool stack_map_table) ≡ Some stack_map_table =
       ap (λ (p : Constants). utf8_at p (text_index v.pool stack_map_table)) pool_in_class.is
       ∙ text_more v.pool pool_in_class.more (text_index v.pool stack_map_table) stack_map_table name in
-      one_there (record { name = text_index v.pool stack_map_table; bytes = bytes }) (frames_placed v) there
-      (ap (λ (first : Frame). stack_map_table_at (setting_of v now) first bytes) (sym same) ∙ read (setting_of v now) (sound.frames names named))
+      one_there attr (frames_placed v) there (read_as attr there some states)
 
-  attrs : AreReadAttrs (setting_of v now) entry v.part.attrs
-  attrs = attrs_read (nat_le 50 is_at.is.host.class.major) v.body.entry v.part.attrs is_at.is.attrs entries_same is_at.is.grows
+  attrs : AreReadAttrs setting entry v.part.attrs
+  attrs = attrs_read (nat_le 50 is_at.is.host.class.major) v.body.entry v.part.attrs is_at.is.attrs sound.states is_at.is.grows
 
   -- ---- the whole
 
@@ -253,7 +269,7 @@ module _ (laws : FileLaws) (r : Rewriting) (files : List ClassFile) (w : IsFolde
     attrs = attrs;
   }
 
-  small_parts : HasSmallParts v.part (spelled_in v.one.form) v.items (setting_of v now) entry also.major
+  small_parts : HasSmallParts v.part (spelled_in v.one.form) v.items setting entry also.major
   small_parts = record {
     few_constants = (class_adds laws r folder files w fitting class file pair.there also pair.is).is_pool.count;
     code = subst (λ (code : List ℕ). length code ≤ 65535) (sym is_at.is.code) is_at.is.framed.laid.decodes.few;
@@ -269,9 +285,9 @@ module _ (laws : FileLaws) (r : Rewriting) (files : List ClassFile) (w : IsFolde
 
   pub code_for : IsCodeFor (home_of also) method v.part
   code_for = record {
-    fits = part_fits v.part (spelled_in v.one.form) v.items (setting_of v now) entry also.major small_parts;
-    numbers = part_small v.part (spelled_in v.one.form) v.items (setting_of v now) entry also.major small_parts;
+    fits = part_fits v.part (spelled_in v.one.form) v.items setting entry also.major small_parts;
+    numbers = part_small v.part (spelled_in v.one.form) v.items setting entry also.major small_parts;
     passes =
         part_holds (home_of also) method v.part (spelled_in v.one.form) v.items v.laid laid_part
-        (laws.consecutive v.part.code (placed_items (spelled_in v.one.form) v.items) (ap decoded is_at.is.code ∙ is_at.is.framed.laid.decodes.covers));
+        (laws.consecutive v.part.code (placed_items (spelled_in v.one.form) v.items) decodes);
   }

@@ -23,11 +23,11 @@ use Rattle.plan_flow.specs.Written.WrittenConstants.{named_index, with_index}
 
 -- ---- a constant of a pool that was checked
 
-record IsChecked (major : ℕ) (pool : Constants) (constant : Const) : Type 0 where
-  place : ℕ
-  hold : AllHold (constant_checks major pool place constant)
+pub record IsChecked (major : ℕ) (pool : Constants) (constant : Const) : Type 0 where
+  pub place : ℕ
+  pub hold : AllHold (constant_checks major pool place constant)
 
-one_checked : (major : ℕ) (pool : Constants) (at : ℕ) (entries : Constants) → AllHold (entries_checks major pool at entries) → (index : ℕ)
+pub one_checked : (major : ℕ) (pool : Constants) (at : ℕ) (entries : Constants) → AllHold (entries_checks major pool at entries) → (index : ℕ)
     (constant : Const)
     → constant_at entries index ≡ Some constant
     → IsChecked major pool constant

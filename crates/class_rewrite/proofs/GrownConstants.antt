@@ -12,7 +12,7 @@ use Rattle.class_model.specs.declared.class_file.ClassFile.{ClassFile}
 use Rattle.class_model.specs.declared.class_file.Method.{Method}
 use Rattle.class_model.specs.declared.class_file.MethodAt.{MethodAt}
 use Rattle.class_rewrite.proofs.FileLaws.{FileLaws}
-use Rattle.class_rewrite.specs.Inner.FittingFolders.{CatchesSound, HasFittingConstructor, HasSoundMaking, HasSoundNeeds, IsFittingFolder}
+use Rattle.class_rewrite.specs.Inner.FittingFolders.{CatchesSound, HasFittingConstructor, HasSoundMaking, HasSoundNeeds, IsFittedFolder}
 use Rattle.class_rewrite.specs.Rewriting.Folders.{AddsMethods, IsClassWritten, IsFolderWritten, IsPoolBefore, IsRewrittenAt, adds_none, adds_one, at_first, behind_kept, behind_rewritten}
 use Rattle.class_rewrite.specs.Rewriting.Methods.{IsRewritten, Rewriting, Rewritten, short_items}
 use Rattle.class_tree.specs.Headers.{IsClassFile, headers_of}
@@ -93,7 +93,7 @@ module _ (laws : FileLaws) (r : Rewriting) (folder : AllByRecursion IsClassFile 
     method_adds : (at : MethodAt) (pool : Constants) (v : Rewritten) → IsRewritten r at pool v → HasSoundNeeds r v → IsFittingPool major pool
         → AreAddedConstants major pool v.pool
     method_adds at pool v is needs fits =
-        let known = items_known v.one (short_items r v.one) needs.making needs.catches in
+        let known = items_known v.one (short_items r v.one) needs.making needs.names.catches in
         let s = plan_scope r.classes r.links v.one in
         let code =
         laws.added major 64535 pool v.code_pool (code_needs s r.constructor (short_items r v.one)) (omega arith)
@@ -102,13 +102,13 @@ module _ (laws : FileLaws) (r : Rewriting) (folder : AllByRecursion IsClassFile 
         laws.both major pool v.code_pool v.pool fits code (by next (nat_le 50 is.host.class.major) is.grows) where
           by : IsFittingPool major v.code_pool → (b : Bool) → (if b then grow 64535 v.code_pool (table_needs v.stated) else Some v.code_pool) ≡ Some v.pool
               → AreAddedConstants major v.code_pool v.pool
-          by next true e = laws.added major 64535 v.code_pool v.pool (table_needs v.stated) (omega arith) needs.frames needs.short_frames next e
+          by next true e = laws.added major 64535 v.code_pool v.pool (table_needs v.stated) (omega arith) needs.names.frames needs.names.short_frames next e
           by next false e =
               subst (AreAddedConstants major v.code_pool) (same_Some v.code_pool v.pool e) (laws.none major v.code_pool next)
 
   -- ---- the pool of a class
 
-  module _ (files : List ClassFile) (w : IsFolderWritten r files) (fitting : IsFittingFolder r files w) (class : ℕ) (file : ClassFile)
+  module _ (files : List ClassFile) (w : IsFolderWritten r files) (fitting : IsFittedFolder r files w) (class : ℕ) (file : ClassFile)
       (there : slice_get r.classes.folder class ≡ Some file) where
     is_file : IsClassFile file
     is_file = at_index IsClassFile r.classes.folder class file folder there

@@ -75,7 +75,7 @@ names_none (suc dimensions) some = subst (λ (found : Option Name). IfSome found
 
 -- ---- units
 
-units_same : (fields : List Member) → parameter_units (map (λ (field : Member). type_of field.desc) fields) ≡ units_of_fields fields
+pub units_same : (fields : List Member) → parameter_units (map (λ (field : Member). type_of field.desc) fields) ≡ units_of_fields fields
 units_same [] = refl
 units_same (field ∷ fields) =
     sum_by-cons (λ (type : FieldType). units_of (kind_of type)) (type_of field.desc) (map (λ (one : Member). type_of one.desc) fields)
@@ -264,15 +264,19 @@ module _ (u : Setup) (setup : IsSetup u) (hierarchy : IsHierarchy (headers_of u.
   pub fields_are : instance_fields headers name ≡ instance_fields headers above.0 ++ own_fields headers name
   fields_are = fields_above_and_own headers hierarchy name (header_of file) to.named_class above.0 above.1
 
-  pub described_above : above.0 ≢ object → IsDescribed headers u.constructor above.0
-  described_above differ =
+  -- the class above is of the chain too
+  pub above_in_chain : above.0 ≢ object → IsTrue (list_any (bytes_eq above.0) (chain headers to.candidate))
+  above_in_chain differ =
       let there =
       above_there headers hierarchy to.candidate to.is_candidate.header candidate_is name above.0 (header_of file)
       (of_chain headers to.candidate name to.of_chain_of).there to.named_class above.1 in
-      described_of above.0 (kept_name above.0 (superclasses headers to.candidate) there (apart above.0 differ))
+      kept_name above.0 (superclasses headers to.candidate) there (apart above.0 differ)
     where
       apart : (n : Name) → n ≢ object → bytes_eq n object ≡ false
       apart n other = by (bytes_eq n object) refl where
         by : (b : Bool) → bytes_eq n object ≡ b → b ≡ false
         by true same = absurd (other ((bytes_eq-Decides n object).0 same))
         by false same = refl
+
+  pub described_above : above.0 ≢ object → IsDescribed headers u.constructor above.0
+  described_above differ = described_of above.0 (above_in_chain differ)

@@ -101,7 +101,7 @@ pub record SpelledLaws : Type 0 where
       → result_of (w.constructor site.class) ≡ None
 
 -- the same, with other room on the stack
-with_room : (w : Writing) (room : ℕ) → Setting w → Setting (record w { max_stack = room })
+pub with_room : (w : Writing) (room : ℕ) → Setting w → Setting (record w { max_stack = room })
 with_room w room setting = record {
   plan = setting.plan;
   routes = setting.routes;

@@ -151,8 +151,8 @@ module _ (r : Rewriting) (files : List ClassFile) (w : IsFolderWritten r files) 
     enough = enough;
   }
 
-  module _ (laws : TypingLaws) (emitted : IsEmitted v.items) (sound : IsMethodSound r at v host now) where
-    typed_items : HasFrames (body (plain_items v.items) room) v.frames
+  module _ (laws : TypingLaws) (emitted : IsEmitted v.items) where
+    pub typed_items : HasFrames (body (plain_items v.items) room) v.frames
     typed_items =
         let wanted : List IndexedItem = indexed_items s r.constructor v.code_pool v.one.form (finished_of r.classes r.links v.one) in
         let here : Fits wanted = subst Fits items_are fits in
@@ -170,7 +170,7 @@ module _ (r : Rewriting) (files : List ClassFile) (w : IsFolderWritten r files) 
     abbrev laid : LaidCode
     laid = laid_of host v state
 
-    grown_method : IsGrownMethod host now
+    pub grown_method : IsGrownMethod host now
     grown_method = record {
       headers = ready.headers;
       is_class_file = is_file;
@@ -180,7 +180,7 @@ module _ (r : Rewriting) (files : List ClassFile) (w : IsFolderWritten r files) 
       method = record { rest = refl };
     }
 
-    laid_code : HasLaidCode laid now
+    pub laid_code : HasLaidCode laid now
     laid_code = record {
       emitted = emitted;
       laid = is_at.is.framed.laid;
@@ -201,5 +201,5 @@ module _ (r : Rewriting) (files : List ClassFile) (w : IsFolderWritten r files) 
     }
 
     -- The frames of the items type it.
-    pub method_typed : Typed now (frames_by_offset laid)
-    method_typed = laws.laid laid now grown_method laid_code typed_items (sound.access is_at) (sound.whole is_at)
+    pub method_typed : IsMethodSound r at v host now → Typed now (frames_by_offset laid)
+    method_typed sound = laws.laid laid now grown_method laid_code typed_items (sound.access is_at) (sound.whole is_at)

@@ -40,7 +40,7 @@ pub record IsRewrittenHost (r : Rewriting) (at : MethodAt) (one : WrittenMethod)
   pub valid : IsValid (plan_scope r.classes r.links one) plan
   pub routed : IsRouted (plan_scope r.classes r.links one) plan one.routes
 
-site_of : (P : Site → Type 0) (sites : List Site) (number : ℕ) (site : Site) → AllByRecursion P sites → slice_get sites number ≡ Some site → P site
+pub site_of : (P : Site → Type 0) (sites : List Site) (number : ℕ) (site : Site) → AllByRecursion P sites → slice_get sites number ≡ Some site → P site
 site_of P [] number site all is = absurd (none-some site is)
 site_of P (first ∷ sites) zero site all is = subst P (same_Some first site is) all.0
 site_of P (first ∷ sites) (suc number) site all is = site_of P sites number site all.1 is

@@ -1,4 +1,13 @@
+pub mod Deciding
+pub mod Finishing
 pub mod FittingFolders
-pub mod Reporting
+pub mod LaidMethods
+pub mod Marking
+pub mod Meanings
+pub mod Outcomes
 pub mod ReadyFolders
+pub mod SoundFrames
+pub mod SoundStates
 pub mod SpelledFrames
+pub mod VerifiedFolders
+pub mod WrittenCodes

@@ -1,7 +1,7 @@
-pub mod Kept
 pub mod OneReason
 pub mod OneWriting
 pub mod OneFolder
 pub mod GrownPools
 pub mod MadeConstructors
 pub mod WrittenGrown
+pub mod WrittenLists

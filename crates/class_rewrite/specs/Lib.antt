@@ -2,7 +2,6 @@ pub mod Reasons
 pub mod Rewriting
 pub mod ReasonNames
 pub mod Reports
-pub mod Written
 pub mod Optimised
 pub mod Laws
 pub mod Inner

@@ -1,13 +1,15 @@
 -- What optimising a folder promises of the folder that is written.
-use Rattle.std.specs.Prelude.{List}
+use Rattle.std.specs.Prelude.{ℕ, List}
 use Rattle.class_model.specs.declared.class_file.ClassFile.{ClassFile}
 use Rattle.class_rewrite.specs.Reports.{IsReport}
-use Rattle.class_rewrite.specs.Written.{IsWrittenFolder}
+use Rattle.class_rewrite.specs.Rewriting.Folders.{IsFolderWritten}
+use Rattle.class_rewrite.specs.Rewriting.Methods.{rewriting_of}
 use Rattle.class_rewrite.specs.declared.folder.Optimised.{Optimised}
-use Rattle.class_tree.specs.Headers.{Classes}
+use Rattle.class_tree.specs.Headers.{Classes, Name, headers_of}
 use Rattle.flow_code.specs.TypedFrames.{FolderFrames}
 use Rattle.member_link.specs.TreePrograms.{IsProgram}
-use Rattle.member_link.specs.Machine.Programs.{Program}
+use Rattle.member_link.specs.Machine.Links.{AreLinksOf}
+use Rattle.member_link.specs.Machine.Programs.{Links, Program}
 use Rattle.member_link.specs.Machine.SameRuns.{SameRuns}
 use Rattle.type_rules.specs.Verified.{IsVerified}
 
@@ -30,9 +32,12 @@ pub record KeepsMeaning (classes : Classes) (written : List ClassFile) : Type 0 
   pub verified : IsVerified (with_folder classes written)
   pub runs : RunsAs classes (with_folder classes written)
 
--- what optimising a folder gives: the written folder, and the report
+-- What optimising a folder gives: the written folder, by links of the folder and descriptors of field constructors, and the report.
 pub record IsOptimised (classes : Classes) (typed : FolderFrames) (optimised : Optimised)
     : Type 0 where
-  pub written : IsWrittenFolder classes typed optimised.classes
-  pub report : IsReport classes typed optimised.report
+  pub links : Links
+  pub are_links : AreLinksOf (headers_of classes) links
+  pub constructor : Name → List ℕ
+  pub written : IsFolderWritten (rewriting_of classes typed links constructor) optimised.classes
+  pub report : IsReport (rewriting_of classes typed links constructor) optimised.report
   pub keeps : KeepsMeaning classes optimised.classes

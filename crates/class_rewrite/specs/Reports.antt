@@ -1,12 +1,12 @@
 -- The report of a rewriting: a line for each method of the folder.
-use Rattle.std.specs.Prelude.{◌≡◌, ◌≢◌, ℕ, zero, suc, Bool, true, false, List, [], ◌∷◌, ◌++◌, count_by}
+use Rattle.std.specs.Prelude.{ℕ, zero, suc, Bool, true, false, List, [], ◌∷◌, ◌++◌, count_by}
 use Rattle.class_model.specs.declared.class_file.ClassFile.{ClassFile}
 use Rattle.class_model.specs.declared.class_file.Method.{Method}
 use Rattle.class_model.specs.declared.class_file.MethodAt.{MethodAt}
-use Rattle.class_rewrite.specs.Reasons.{HasReason}
+use Rattle.class_rewrite.specs.Rewriting.Lines.{IsLineOf}
+use Rattle.class_rewrite.specs.Rewriting.Methods.{Rewriting}
 use Rattle.class_rewrite.specs.declared.report.Line.{Line}
 use Rattle.class_tree.specs.Headers.{Classes}
-use Rattle.flow_code.specs.TypedFrames.{FolderFrames}
 use Rattle.flow_code.specs.declared.reason.Reason.{Reason}
 use Rattle.flow_code.specs.declared.reason.Reason.TheVariants.{Rewritten}
 
@@ -30,30 +30,15 @@ all_methods classes = class_methods_from zero classes.folder
 
 -- ---- lines
 
--- the numbers of a kept method are 0
-pub record HasNoNumbers (line : Line) : Type 0 where
-  pub sites : line.sites ≡ 0
-  pub news : line.news ≡ 0
-  pub enters : line.enters ≡ 0
-  pub bytes : line.bytes ≡ 0
-
--- the line of a method
-pub record IsLine (classes : Classes) (typed : FolderFrames) (at : MethodAt) (line : Line)
-    : Type 0 where
-  pub own : line.at ≡ at
-  pub reason : HasReason classes typed at line.reason
-  pub kept : line.reason ≢ Rewritten → HasNoNumbers line
-
 -- a line for each of some methods, in order
-abbrev pub AreLines : Classes → FolderFrames → List MethodAt → List Line → Type 0
-AreLines classes typed [] [] = Unit {0}
-AreLines classes typed (at ∷ ats) (line ∷ lines) =
-    IsLine classes typed at line × AreLines classes typed ats lines
-AreLines classes typed ats lines = ⊥
+abbrev pub AreLines : Rewriting → List MethodAt → List Line → Type 0
+AreLines r [] [] = Unit {0}
+AreLines r (at ∷ ats) (line ∷ lines) = IsLineOf r at line × AreLines r ats lines
+AreLines r ats lines = ⊥
 
 -- the report of a folder
-abbrev pub IsReport : Classes → FolderFrames → List Line → Type 0
-IsReport classes typed report = AreLines classes typed (all_methods classes) report
+abbrev pub IsReport : Rewriting → List Line → Type 0
+IsReport r report = AreLines r (all_methods r.classes) report
 
 -- ---- counts
 

@@ -1,16 +1,25 @@
 //! Optimising a folder.
-ghost use Rattle.std.specs.Prelude.{◌≡◌, IfOk};
+ghost use Rattle.std.specs.Prelude.{IfOk, length};
+ghost use Rattle.class_rewrite.specs.Inner.Marking.{AreFieldsMarked, AreMarked, IsListed, StandsInMade};
 ghost use Rattle.class_rewrite.specs.Optimised.{IsOptimised};
-ghost use Rattle.class_tree.specs.Trees.{IsTree};
+ghost use Rattle.class_tree.specs.Headers.{headers_of};
 ghost use Rattle.member_link.specs.Linked.{IsLinked};
 ghost use Rattle.type_rules.specs.Verified.{TypesFolder};
 
-use crate::laws::a_written_folder_runs_the_same;
-use crate::reasons::report_of;
+use crate::decided::Decided;
+use crate::drafts::{Drafts, drafts_of};
+use crate::finished::{Additions, finished_classes};
+use crate::laws::{
+    a_rewriting_has_one_answer, a_tree_has_rules, a_written_folder_runs_as_its_folder,
+    a_written_folder_verifies, rewritten_methods_make_candidates,
+};
+use crate::marked_classes::{classes_of_chains, named_classes};
+use crate::marked_fields::marked_fields;
 use crate::report::Report;
 use class_model::NoMemory;
-use class_tree::{ClassFileList, Tree};
-use member_link::a_tree_has_links;
+use class_tree::{ClassFileList, Tree, a_tree_is_a_hierarchy};
+use expanded_runs::codes_of_a_tree_are_bytes;
+use machine_laws::running_the_same_is_reflexive;
 use std::alloc::Global;
 use type_rules::TypedFolder;
 
@@ -37,21 +46,38 @@ pub fn optimise_folder(
     requires typed { TypesFolder tree.now typed.now }
     ensures { IfOk result (IsOptimised tree.now typed.now) }
 {
-    let report = report_of(alloc, tree, typed)?;
-    let classes = classes_of(alloc, tree)?;
-    a_tree_has_links(tree);
-    a_written_folder_runs_the_same();
-    Ok(Optimised { classes, report })
+    let _folder = tree.folder();
+    a_tree_is_a_hierarchy(tree);
+    codes_of_a_tree_are_bytes(tree);
+    a_tree_has_rules(tree);
+    a_rewriting_has_one_answer();
+    rewritten_methods_make_candidates();
+    a_written_folder_runs_as_its_folder();
+    a_written_folder_verifies();
+    running_the_same_is_reflexive();
+    let Drafts { drafts, known } = drafts_of(alloc, tree, typed)?;
+    let additions = additions_of(alloc, tree, &known)?;
+    let classes = finished_classes(alloc, tree, drafts.as_slice(), &additions)?;
+    Ok(Optimised {
+        classes,
+        report: known.report,
+    })
 }
 
-// The classes of the folder, which are written as they are.
-fn classes_of(alloc: Global, tree: &Tree) -> Result<ClassFileList, NoMemory>
-    ensures same { IfOk result (λ classes. classes ≡ tree.now.folder) }
-    ensures tree { IsTree tree.now }
+// What is added to classes, and the flags that are cleared of fields.
+fn additions_of(alloc: Global, tree: &Tree, known: &Decided) -> Result<Additions, NoMemory>
+    ensures extended { IfOk result (λ additions. AreMarked (length tree.now.folder)
+        (StandsInMade (headers_of tree.now) known.now.made (length tree.now.folder))
+        additions.extended) }
+    ensures finals { IfOk result (λ additions. AreFieldsMarked tree.now.folder
+        (IsListed known.now.finals) additions.finals.items) }
+    ensures privates { IfOk result (λ additions. AreFieldsMarked tree.now.folder
+        (IsListed known.now.privates) additions.privates.items) }
 {
-    let mut classes = ClassFileList::new(alloc);
-    for class in tree.folder().as_slice() {
-        classes.push(class.copy(alloc)?)?;
-    }
-    Ok(classes)
+    let made = named_classes(alloc, tree, known.made.as_slice())?;
+    Ok(Additions {
+        extended: classes_of_chains(alloc, tree, &made)?,
+        finals: marked_fields(alloc, tree, known.finals.as_slice())?,
+        privates: marked_fields(alloc, tree, known.privates.as_slice())?,
+    })
 }

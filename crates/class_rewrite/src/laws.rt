@@ -4,64 +4,97 @@ ghost use Rattle.same_runs.specs.TypedFlats.{TypesFlat};
 ghost use Rattle.std.specs.Prelude.{◌≡◌, ◌<◌, List, Some, length};
 ghost use Rattle.class_model.specs.declared.class_file.ClassFile.{ClassFile};
 ghost use Rattle.class_model.specs.declared.class_file.MethodAt.{MethodAt};
-ghost use Rattle.class_rewrite.specs.Optimised.{KeepsMeaning, RunsAs, with_folder};
-ghost use Rattle.class_rewrite.specs.Reasons.{HasReason};
-ghost use Rattle.class_rewrite.specs.Rewriting.Folders.{IsFolderWritten};
-ghost use Rattle.class_rewrite.specs.Rewriting.Methods.{Rewriting};
+ghost use Rattle.class_rewrite.specs.Inner.Deciding.{HasRules};
+ghost use Rattle.class_rewrite.specs.Inner.Outcomes.{MakesHere};
+ghost use Rattle.class_rewrite.specs.Laws.OneWriting.{HaveOne};
+ghost use Rattle.class_rewrite.specs.Optimised.{RunsAs, with_folder};
+ghost use Rattle.class_rewrite.specs.Rewriting.Folders.{HasReasonAt, IsFolderWritten, IsRewrittenAt};
+ghost use Rattle.class_rewrite.specs.Rewriting.Methods.{Rewriting, Rewritten};
+ghost use Rattle.class_rewrite.specs.Rewriting.Verifying.{IsOfVerified};
 ghost use Rattle.class_rewrite.specs.Rewriting.WellWritten.{IsWellWritten};
-ghost use Rattle.class_rewrite.specs.Written.{IsWrittenFolder};
-ghost use Rattle.class_tree.specs.Headers.{Classes, headers_of};
+ghost use Rattle.class_tree.specs.Headers.{Classes, Name, headers_of};
 ghost use Rattle.class_tree.specs.Hierarchy.{IsHierarchy};
 ghost use Rattle.class_tree.specs.Trees.{IsTree};
+ghost use Rattle.expanded_code.specs.Candidates.{IsCandidate};
 ghost use Rattle.expanded_code.specs.ExpandAnswers.{IsExpanded, IsNoHost};
 ghost use Rattle.expanded_runs.specs.ByteCodes.{HaveByteCodes};
 ghost use Rattle.expanded_runs.specs.ExpandedPrograms.{AreExpanded};
 ghost use Rattle.flow_code.specs.FlatCode.{FlatCode};
 ghost use Rattle.flow_code.specs.TypedFrames.{FolderFrames};
 ghost use Rattle.flow_code.specs.declared.reason.Reason.{Reason};
-ghost use Rattle.member_link.specs.TreePrograms.{IsProgram};
 ghost use Rattle.member_link.specs.Linked.{IsLinked};
 ghost use Rattle.member_link.specs.Machine.Classes.{program_of};
 ghost use Rattle.member_link.specs.Machine.Links.{AreLinksOf};
-ghost use Rattle.member_link.specs.Machine.Programs.{Links, Program};
+ghost use Rattle.member_link.specs.Machine.Programs.{Links};
 ghost use Rattle.member_link.specs.Machine.Replaced.{Replacement, replaced};
 ghost use Rattle.member_link.specs.Machine.SameRuns.{SameRuns};
 ghost use Rattle.member_link.specs.Scope.{Scope, scope_at};
 ghost use Rattle.same_runs.specs.EqualRuns.{EqualRuns};
 ghost use Rattle.same_runs.specs.Flats.{Flats};
-ghost use Rattle.type_rules.specs.Verified.{TypesFolder};
+ghost use Rattle.type_rules.specs.Verified.{IsVerified, TypesFolder};
 
 use crate::ready_laws::a_written_folder_is_ready;
-use expanded_runs::{an_expanded_flat_code_is_typed, expanded_flat_codes_run_equally};
+use class_tree::{Tree, classes_of_a_tree_are_a_hierarchy};
+use expanded_runs::{
+    an_expanded_flat_code_is_ready, an_expanded_flat_code_is_typed, expanded_flat_codes_run_equally,
+};
 use inline_expand::a_method_has_one_expanded_flat_code;
-use machine_laws::{running_the_same_composes, running_the_same_is_reflexive};
+use machine_laws::running_the_same_composes;
+use member_link::a_tree_has_links;
 use same_runs::{programs_that_are_equal_run_equally, running_equally_is_running_the_same};
 use typed_programs::a_verified_folder_is_a_typed_program;
 use written_runs::written_codes_run_the_same;
 
 /// A method of a hierarchy has one reason at most.
 pub fn a_method_has_one_reason()
-    ensures { (classes : Classes) (typed : FolderFrames) (at : MethodAt) (one other : Reason)
-        → IsHierarchy (headers_of classes)
-        → HasReason classes typed at one
-        → HasReason classes typed at other
+    ensures { (r : Rewriting) (at : MethodAt) (one other : Reason)
+        → IsTree r.classes
+        → HasReasonAt r at one
+        → HasReasonAt r at other
         → one ≡ other }
 {
-    a_method_has_one_expanded_flat_code();
+    a_rewriting_has_one_answer();
 }
 
-/// The folder that is written of a verified folder verifies and runs as it.
-pub fn a_written_folder_runs_the_same()
-    ensures { (classes : Classes) (typed : FolderFrames) (P : Program) (written : List ClassFile)
-        → IsTree classes
-        → IsLinked classes
-        → TypesFolder classes typed
-        → IsProgram classes P
-        → IsWrittenFolder classes typed written
-        → KeepsMeaning classes written }
+/// What becoming of methods goes by is one.
+pub(crate) fn a_rewriting_has_one_answer()
+    ensures { (r : Rewriting) → IsTree r.classes → HaveOne r }
 {
-    running_the_same_is_reflexive();
+    classes_of_a_tree_are_a_hierarchy();
+    a_method_has_one_expanded_flat_code();
+    plan_flow::flat_code_has_one_least_plan();
+    plan_flow::effect_grows();
 }
+
+/// A tree has links, and descriptors of the field constructors of its folder.
+pub(crate) fn a_tree_has_rules(tree: &Tree)
+    ensures { HasRules tree.now }
+{
+    let _folder = tree.folder();
+    a_tree_has_links(tree);
+}
+
+/// The classes whose objects the code of a method that is rewritten makes are candidates.
+pub(crate) fn rewritten_methods_make_candidates()
+    ensures { (r : Rewriting) (at : MethodAt) (w : Rewritten) (class : Name)
+        → IsTree r.classes
+        → IsLinked r.classes
+        → TypesFolder r.classes r.typed
+        → AreLinksOf (headers_of r.classes) r.links
+        → IsRewrittenAt r at w
+        → MakesHere r w.one class
+        → IsCandidate r.classes class }
+{
+    a_verified_folder_is_a_typed_program();
+    an_expanded_flat_code_is_ready();
+}
+
+/// The folder that is written of a verified folder verifies, and its methods have the code of their items.
+pub fn a_written_folder_verifies()
+    ensures { (r : Rewriting) (files : List ClassFile) (w : IsFolderWritten r files)
+        → IsOfVerified r
+        → IsVerified (with_folder r.classes files) × IsWellWritten r files w }
+{}
 
 /// In the program of a verified folder any hosts may run their expanded flat codes, callees in place of their calls, and it runs equally: for
 /// every list of actions it shows the same events with equal counts and the same end, and it goes on exactly where the program of the folder

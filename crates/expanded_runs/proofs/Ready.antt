@@ -17,7 +17,9 @@ mod DecodedForms
 mod LinkedUses
 mod ReadyPoints
 pub mod CarriedPoints
+pub mod VersionPoints
 mod AccessKept
 pub mod UsablePoints
 pub mod UsableCatches
+pub mod CaughtNames
 pub mod Whole

@@ -1,7 +1,9 @@
 pub mod AlonePrograms
 pub mod ByteCodes
 pub mod CarriedConstants
+pub mod CaughtNames
 pub mod ExpandedPrograms
 pub mod UsableNames
 pub mod NamedFrames
 pub mod Laws
+pub mod VersionsKept

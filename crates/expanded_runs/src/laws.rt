@@ -11,8 +11,10 @@ ghost use Rattle.expanded_code.specs.ExpandAnswers.{IsExpanded, IsNoHost, IsWide
 ghost use Rattle.expanded_runs.specs.AlonePrograms.{AreAlone};
 ghost use Rattle.expanded_runs.specs.ByteCodes.{HaveByteCodes};
 ghost use Rattle.expanded_runs.specs.CarriedConstants.{CarriesConstants};
+ghost use Rattle.expanded_runs.specs.CaughtNames.{AreNamedCatches};
 ghost use Rattle.expanded_runs.specs.ExpandedPrograms.{AreExpanded};
 ghost use Rattle.expanded_runs.specs.UsableNames.{AreUsableCatches, IsUsableCode};
+ghost use Rattle.expanded_runs.specs.VersionsKept.{AreOfVersion};
 ghost use Rattle.flow_code.specs.FlatCode.{FlatCode, point_at};
 ghost use Rattle.flow_code.specs.TypedFrames.{FolderFrames};
 ghost use Rattle.flow_code.specs.declared.point.Point.{Point};
@@ -179,6 +181,36 @@ pub fn an_expanded_flat_code_carries_constants()
         → TypesFolder classes typed
         → IsExpanded classes typed at flat
         → CarriesConstants classes flat }
+{
+    type_rules::a_typed_folder_types_each_method();
+    type_rules::a_typed_method_types_each_instruction();
+    type_rules::a_method_stands_in_order();
+    type_rules::frames_type_a_body_by_its_places();
+    type_rules::a_typed_body_goes_to_stated_frames();
+}
+
+/// Its instructions of other classes than the host's come from classes of the host's version.
+pub fn an_expanded_flat_code_is_of_one_version()
+    ensures { (classes : Classes) (typed : FolderFrames) (at : MethodAt) (flat : FlatCode) (s : Scope)
+        → TypesFolder classes typed
+        → IsExpanded classes typed at flat
+        → scope_at classes at ≡ Some s
+        → AreOfVersion classes s.class.major flat }
+{
+    type_rules::a_typed_folder_types_each_method();
+    type_rules::a_typed_method_types_each_instruction();
+    type_rules::a_method_stands_in_order();
+    type_rules::frames_type_a_body_by_its_places();
+    type_rules::a_typed_body_goes_to_stated_frames();
+}
+
+/// The classes that its handlers catch are named in the pool of the host's class.
+pub fn an_expanded_flat_code_catches_what_its_host_names()
+    ensures { (classes : Classes) (typed : FolderFrames) (at : MethodAt) (flat : FlatCode) (s : Scope)
+        → TypesFolder classes typed
+        → IsExpanded classes typed at flat
+        → scope_at classes at ≡ Some s
+        → AreNamedCatches s flat }
 {
     type_rules::a_typed_folder_types_each_method();
     type_rules::a_typed_method_types_each_instruction();

@@ -8,7 +8,9 @@ use Rattle.class_model.specs.ClassOf.{ClassOf}
 use Rattle.class_model.specs.Header.{header_of}
 use Rattle.class_model.specs.Spelling.{class_bytes}
 use Rattle.class_model.specs.declared.class_file.ClassFile.{ClassFile}
+use Rattle.class_rewrite.specs.Laws.WrittenLists.{written_len}
 use Rattle.class_rewrite.specs.Optimised.{with_folder}
+use Rattle.class_rewrite.specs.Rewriting.Methods.{rewriting_of}
 use Rattle.class_tree.specs.Headers.{Classes, IsClassFile, headers_of}
 use Rattle.class_tree.specs.Hierarchy.{IsHierarchy}
 use Rattle.class_tree.specs.Order.{place_of}
@@ -141,7 +143,7 @@ means_the_same one_class hierarchies input output library old new puts =
     let written = puts.optimised.classes in
     let keeps = are.is.keeps in
     let hierarchy = hierarchies tree are.verified.tree in
-    let count = are.is.count in
+    let count = written_len (rewriting_of tree are.verified.typed are.is.links are.is.constructor) written are.is.written in
     let spelled = keeps.verified.tree.folder in
     let arranged : IsArranged (map (written_behind tree written) are.classes) are.headers (with_folder tree written) =
     record {

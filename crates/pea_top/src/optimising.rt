@@ -15,6 +15,7 @@ use class_rewrite::{Optimised, optimise_folder, rewritten};
 use class_tree::{ClassFileList, Place, Tree, a_tree_is_a_hierarchy};
 use std::alloc::Global;
 use type_rules::TypedFolder;
+use written_files::a_class_file_fits_its_items;
 
 /// The files that are written, and the line that sums them up.
 #[derive(Drop)]
@@ -36,6 +37,7 @@ pub(crate) fn output_of(
     requires files { AreFilesOf files.items tree.now names.now }
     ensures { IfOk result (IsOutput tree.now typed.now files.items) }
 {
+    a_class_file_fits_its_items();
     let Optimised { classes, report } = optimise_folder(alloc, tree, typed)?;
     let changed = rewritten(&report);
     let kept = report.len() - changed;

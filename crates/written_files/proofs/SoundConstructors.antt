@@ -214,7 +214,7 @@ module _ (constructor : Name → List ℕ) where
     ),
   )
 
-  call_sound : (headers : Headers) (above : Name) → ClassSound above → IsModifiedUtf8 (constructor above)
+  call_sound : (headers : Headers) (above : Name) → ClassSound above → (above ≢ object → IsModifiedUtf8 (constructor above))
       → (above ≢ object → ReturnsVoid (constructor above))
       → AllByRecursion ItemSound (super_call headers above)
   call_sound headers above is text void = by (bytes_eq above object) refl where
@@ -231,7 +231,7 @@ module _ (constructor : Name → List ℕ) where
         rw (e) (
         all_both ((simple (Load kinds.Ref 0) ∷ []) ++ loads_from 1 (instance_fields headers above)) (simple (Const imms.Null) ∷ calls_constructor above ∷ [])
         (sound_none, loads_sound 1 (instance_fields headers above))
-        (sound_none, (one_member of_method above init (constructor above) (constructor_text above (constructor above) is text (void apart)), tt))
+        (sound_none, (one_member of_method above init (constructor above) (constructor_text above (constructor above) is (text apart) (void apart)), tt))
         )
 
 all_kept : (P : Member → Type 0) (test : Member → Bool) (fields : List Member) → AllByRecursion P fields → AllByRecursion P (filter test fields)

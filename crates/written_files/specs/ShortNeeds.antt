@@ -1,12 +1,13 @@
 -- Constants that a pool grows by and that fit their items (JVM Specification SE 8, 4.4): texts have at most 65,535 bytes, and numbers are those of the
 -- constants' types. It is this project's profile.
-use Rattle.std.specs.Prelude.{◌≡◌, ◌≤◌, ℕ, List, length, Option, Some, None}
+use Rattle.std.specs.Prelude.{◌≡◌, ◌≢◌, ◌≤◌, ℕ, List, length, Option, Some, None}
 use Rattle.std.specs.List.{AllByRecursion}
 use Rattle.class_model.specs.Pool.{Constants, IsPool}
 use Rattle.class_model.specs.Values.{TagStands, TagsStand}
 use Rattle.class_model.specs.declared.header.Member.{Member}
 use Rattle.class_tree.specs.Headers.{Headers, Name}
 use Rattle.class_tree.specs.Layouts.{own_fields}
+use Rattle.class_tree.specs.Names.{object}
 use Rattle.making_code.specs.Constants.{Need, needs_class, needs_itself, needs_member, needs_name_and_type, needs_string}
 use Rattle.making_code.specs.FieldConstructor.{superclass_of}
 use Rattle.making_code.specs.Items.{WInstr, WItem, carried, constructs, makes}
@@ -60,6 +61,6 @@ pub record HasShortTexts (headers : Headers) (constructor : Name → List ℕ) (
   pub name : IsShort class
   pub name_above : IsShort above
   pub text : IsShort (constructor class)
-  pub text_above : IsShort (constructor above)
+  pub text_above : above ≢ object → IsShort (constructor above)
   pub fields : AllByRecursion (λ (field : Member). IsShort field.name × IsShort field.desc)
       (own_fields headers class)

@@ -11,7 +11,7 @@ use Rattle.class_tree.specs.Names.{object}
 use Rattle.making_code.specs.FieldConstructor.{superclass_of}
 
 -- By the headers of the folder, the superclass and the own fields of a class are those of its file; its constructor's descriptor is a text, and
--- the one of the superclass is a method's without result.
+-- the one of the superclass, where that has a field constructor too, is a text and a method's without result.
 pub record HasSoundTexts (headers : Headers) (constructor : Name → List ℕ) (file : ClassFile) : Type 0 where
   pub is_class_file : IsClassFile file
   pub above : Name
@@ -20,5 +20,5 @@ pub record HasSoundTexts (headers : Headers) (constructor : Name → List ℕ) (
   pub own : own_fields headers (header_of file).name
       ≡ filter (λ field. not (has field.flags STATIC)) (header_of file).fields
   pub text : IsModifiedUtf8 (constructor (header_of file).name)
-  pub text_above : IsModifiedUtf8 (constructor above)
+  pub text_above : above ≢ object → IsModifiedUtf8 (constructor above)
   pub void_above : above ≢ object → ReturnsVoid (constructor above)

@@ -3,7 +3,6 @@ use Rattle.std.specs.Prelude.{◌≡◌, ◌≢◌, ◌^◌, ◌<◌, ◌≤◌,
 use Rattle.std.specs.List.{AllByRecursion}
 use Rattle.class_model.specs.Code.{FitsLocal}
 use Rattle.class_model.specs.Descriptors.{SpellsDescriptor}
-use Rattle.class_model.specs.Frames.{Setting}
 use Rattle.class_model.specs.Header.{header_of}
 use Rattle.class_model.specs.Members.{INTERFACE, has}
 use Rattle.class_model.specs.Spelling.{code_part_bytes}
@@ -18,18 +17,16 @@ use Rattle.class_rewrite.specs.Rewriting.Methods.{Rewriting, Rewritten, short_it
 use Rattle.class_rewrite.specs.Rewriting.Verifying.{IsWrittenIn}
 use Rattle.class_tree.specs.Headers.{Name, headers_of}
 use Rattle.code_layout.specs.Emitting.{IsEmitted}
-use Rattle.code_layout.specs.Layout.{placed_items, start_in}
+use Rattle.code_layout.specs.Layout.{start_in}
 use Rattle.flow_code.specs.WrittenUnits.{written_units}
 use Rattle.flow_code.specs.declared.point.FlatInstr.TheVariants.{Of}
 use Rattle.flow_code.specs.declared.point.Point.{Point}
 use Rattle.making_code.specs.Items.{WCatch, WInstr, WItem, constructs, makes}
-use Rattle.map_frames.specs.Writing.{HasFrames}
-use Rattle.map_frames.specs.declared.writing.NamedIndex.{NamedIndex}
 use Rattle.member_link.specs.Scope.{Scope}
 use Rattle.plan_flow.specs.Written.FramedCode.{greatest_of}
 use Rattle.stackmap_emit.specs.FrameConstants.{table_needs}
-use Rattle.stackmap_emit.specs.FramesAttribute.{NamesClasses, placed_needs}
-use Rattle.stackmap_emit.specs.PlacedFrames.{placed_frames, spelled_in}
+use Rattle.stackmap_emit.specs.PlacedFrames.{placed_frames}
+use Rattle.type_rules.specs.Stated.{stated}
 use Rattle.written_files.specs.GrownPools.{AreSound}
 use Rattle.written_files.specs.ShortNeeds.{AreFitting, HasShortTexts, IsShort, IsShortCatch}
 use Rattle.written_files.specs.SoundCode.{IsSoundCall, IsSoundCatch, IsSoundName}
@@ -47,14 +44,18 @@ HasSoundMaking constructor instr = Unit {0}
 abbrev pub CatchesSound : WCatch → Type 0
 CatchesSound catch = IsSoundCatch catch.class × IsShortCatch catch.class
 
--- What a method that is rewritten needs: names of classes that it makes and catches, and of those that its frames have.
-pub record HasSoundNeeds (r : Rewriting) (v : Rewritten) : Type 0 where
-  pub making : AllByRecursion (λ (one : WItem). HasSoundMaking r.constructor one.instr)
-      (short_items r v.one)
+-- The classes that a method that is rewritten catches, and those that its frames have, are texts that constants may have.
+pub record HasSoundNames (r : Rewriting) (v : Rewritten) : Type 0 where
   pub catches : AllByRecursion (λ (one : WItem). AllByRecursion CatchesSound one.catches)
       (short_items r v.one)
   pub frames : AreSound (table_needs v.stated)
   pub short_frames : AreFitting (table_needs v.stated)
+
+-- So are those that it makes.
+pub record HasSoundNeeds (r : Rewriting) (v : Rewritten) : Type 0 where
+  pub making : AllByRecursion (λ (one : WItem). HasSoundMaking r.constructor one.instr)
+      (short_items r v.one)
+  pub names : HasSoundNames r v
 
 -- ---- codes
 
@@ -68,17 +69,8 @@ UnitFits locals instr = Unit {0}
 abbrev pub frames_placed : Rewritten → List PlacedFrame
 frames_placed v = placed_frames (start_in v.laid.starts) 0 v.stated
 
--- what they are read by in the class that is written
-abbrev pub setting_of : Rewritten → Scope → Setting
-setting_of v now = record {
-  pool = now.class.pool;
-  max_locals = v.part.max_locals;
-  max_stack = v.part.max_stack;
-  code = placed_items (spelled_in v.one.form) v.items;
-}
-
 -- Its items are emitted code, whose instructions of other classes come from classes of the host's version and whose local units are those of written
--- code. Its stack is at most 65,535 units deep, its frames can be stated in the class that is written, and its Code has fewer than 2 ^ 32 bytes.
+-- code. Its stack is at most 65,535 units deep, it states its frames in the class that is written, and its Code has fewer than 2 ^ 32 bytes.
 pub record HasFittingCode (r : Rewriting) (v : Rewritten) (host now : Scope) : Type 0 where
   pub emitted : IsEmitted v.items
   pub version : (at : ℕ) (point : Point) (class : ℕ) (instr : Instr) (file : ClassFile)
@@ -89,9 +81,7 @@ pub record HasFittingCode (r : Rewriting) (v : Rewritten) (host now : Scope) : T
       → file.major ≡ host.class.major
   pub units : AllByRecursion (λ item. UnitFits (written_units v.one.flat) item.instr) v.items
   pub deep : greatest_of v.body.points v.frames ≤ 65535
-  pub frames : (names : List NamedIndex)
-      → NamesClasses v.pool names (placed_needs (frames_placed v))
-      → HasFrames (setting_of v now) names (frames_placed v)
+  pub states : stated now ≡ frames_placed v
   pub short : length (code_part_bytes v.part) < 2 ^ 32
 
 -- ---- the folder
@@ -106,7 +96,16 @@ pub record HasFittingConstructor (r : Rewriting) (file : ClassFile) : Type 0 whe
   pub short : HasShortTexts (headers_of r.classes) r.constructor (header_of file).name
   pub few : length file.methods ≤ 65534
 
-pub record IsFittingFolder (r : Rewriting) (files : List ClassFile) (w : IsFolderWritten r files)
+-- what is asked of the methods that are rewritten
+pub record HasFittingMethods (r : Rewriting) (files : List ClassFile) (w : IsFolderWritten r files)
+    : Type 0 where
+  pub names : (at : MethodAt) (v : Rewritten) → IsRewrittenAt r at v → HasSoundNames r v
+  pub codes : (at : MethodAt) (v : Rewritten) (host now : Scope)
+      → IsWrittenIn r files w at v host now
+      → HasFittingCode r v host now
+
+-- and what is known of all that is added
+pub record IsFittedFolder (r : Rewriting) (files : List ClassFile) (w : IsFolderWritten r files)
     : Type 0 where
   pub needs : (at : MethodAt) (v : Rewritten) → IsRewrittenAt r at v → HasSoundNeeds r v
   pub codes : (at : MethodAt) (v : Rewritten) (host now : Scope)

@@ -1,16 +1,32 @@
--- A method has one reason.
-use Rattle.std.proofs.Common.{◌≡◌, refl, subst}
+-- A method has one reason, of those that hold before a plan is made.
+use Rattle.std.proofs.Common.{◌≡◌, Ok, refl, subst}
 use Rattle.class_model.specs.declared.class_file.MethodAt.{MethodAt}
-use Rattle.class_rewrite.specs.Reasons.{HasReason}
+use Rattle.class_rewrite.specs.Reasons.{IsNotExpanded}
 use Rattle.class_tree.specs.Headers.{Classes}
-use Rattle.expanded_code.specs.ExpandAnswers.{HasNoSite, IsExpanded, IsTooLong, IsWide}
+use Rattle.expanded_code.specs.ExpandAnswers.{AnswersExpanded, HasNoSite, IsExpanded, IsTooLong, IsWide}
 use Rattle.flow_code.specs.FlatCode.{FlatCode}
 use Rattle.flow_code.specs.TypedFrames.{FolderFrames}
 use Rattle.flow_code.specs.declared.reason.Reason.{Reason}
 use Rattle.flow_code.specs.declared.reason.Reason.TheVariants as reasons
 
+-- the method has a flat code
+abbrev pub HasFlatCode : Classes → FolderFrames → MethodAt → Type 0
+HasFlatCode classes typed at = (flat : FlatCode) × AnswersExpanded classes typed at (Ok flat)
+
+-- a reason that holds before a plan is made; NoGain stands for all that may hold behind it
+abbrev pub HasEarlyReason : Classes → FolderFrames → MethodAt → Reason → Type 0
+HasEarlyReason classes typed at reasons.Host = IsNotExpanded classes typed at reasons.Host
+HasEarlyReason classes typed at reasons.Float = IsNotExpanded classes typed at reasons.Float
+HasEarlyReason classes typed at reasons.Expanded = IsNotExpanded classes typed at reasons.Expanded
+HasEarlyReason classes typed at reasons.NoSite = IsNotExpanded classes typed at reasons.NoSite
+HasEarlyReason classes typed at reasons.Wide = IsNotExpanded classes typed at reasons.Wide
+HasEarlyReason classes typed at reasons.NoGain = HasFlatCode classes typed at
+HasEarlyReason classes typed at reasons.Long = ⊥
+HasEarlyReason classes typed at reasons.PoolFull = ⊥
+HasEarlyReason classes typed at reasons.Rewritten = ⊥
+
 module _ (classes : Classes) (typed : FolderFrames) (at : MethodAt) (same : (one other : FlatCode) → IsExpanded classes typed at one → IsExpanded classes typed at other → one ≡ other) where
-  pub one_reason : (one other : Reason) → HasReason classes typed at one → HasReason classes typed at other → one ≡ other
+  pub one_reason : (one other : Reason) → HasEarlyReason classes typed at one → HasEarlyReason classes typed at other → one ≡ other
   one_reason reasons.Host reasons.Host h i = refl
   one_reason reasons.Host reasons.Float h i = absurd (i.0 h)
   one_reason reasons.Host reasons.Expanded h i = absurd (i.0.host h)

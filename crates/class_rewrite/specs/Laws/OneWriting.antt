@@ -5,8 +5,7 @@ use Rattle.class_model.specs.Pool.{Constants}
 use Rattle.class_model.specs.declared.class_file.MethodAt.{MethodAt}
 use Rattle.class_model.specs.declared.instr.Instr.{Instr}
 use Rattle.class_model.specs.declared.frame.Frame.{Frame}
-use Rattle.class_rewrite.specs.Laws.OneReason.{one_reason}
-use Rattle.class_rewrite.specs.Reasons.{HasReason}
+use Rattle.class_rewrite.specs.Laws.OneReason.{HasEarlyReason, one_reason}
 use Rattle.class_rewrite.specs.Rewriting.Methods.{CodeIsPast, FramesArePast, GainsNothing, HasReasonIn, IsCoded, IsFramedIn, IsLongCode, IsPlanned, IsRewritten, IsTooLong, Rewriting, Rewritten, short_items}
 use Rattle.code_layout.specs.Layout.{end_from, short_spelled}
 use Rattle.code_layout.specs.PlainItems.{plain_item, plain_items}
@@ -204,7 +203,7 @@ pub record HaveOne (r : Rewriting) : Type 0 where
       → edges ≡ also
 
 module _ (r : Rewriting) (known : HaveOne r) where
-  before_plan : (at : MethodAt) (pool : Constants) (reason : Reason) → HasReasonIn r at pool reason → HasReason r.classes r.typed at (early reason)
+  before_plan : (at : MethodAt) (pool : Constants) (reason : Reason) → HasReasonIn r at pool reason → HasEarlyReason r.classes r.typed at (early reason)
   before_plan at pool reasons.Host has = has
   before_plan at pool reasons.Float has = has
   before_plan at pool reasons.Expanded has = has
@@ -275,12 +274,12 @@ module _ (r : Rewriting) (known : HaveOne r) where
   abbrev chosen : List EmitItem → Form
   chosen items = if nat_le (end_from short_spelled 0 items) 32767 then short else wide
 
-  record SameCoded (w v : Rewritten) : Type 0 where
-    one : w.one ≡ v.one
-    pool : w.code_pool ≡ v.code_pool
-    items : w.items ≡ v.items
+  pub record SameCoded (w v : Rewritten) : Type 0 where
+    pub one : w.one ≡ v.one
+    pub pool : w.code_pool ≡ v.code_pool
+    pub items : w.items ≡ v.items
 
-  same_coded : (at : MethodAt) (pool : Constants) (w v : Rewritten) → IsCoded r at pool w → IsCoded r at pool v → SameCoded w v
+  pub same_coded : (at : MethodAt) (pool : Constants) (w v : Rewritten) → IsCoded r at pool w → IsCoded r at pool v → SameCoded w v
   same_coded at pool w v p q =
       let planned = same_planned at w.one v.one w.plan v.plan p.planned q.planned in
       let pools : w.code_pool ≡ v.code_pool =

@@ -38,6 +38,14 @@ pub record Rewriting : Type 0 where
   pub links : Links
   pub constructor : Name → List ℕ
 
+abbrev pub rewriting_of : Classes → FolderFrames → Links → (Name → List ℕ) → Rewriting
+rewriting_of classes typed links constructor = record {
+  classes = classes;
+  typed = typed;
+  links = links;
+  constructor = constructor;
+}
+
 -- ---- the least plan
 
 -- The method has a flat code with its callees, and this is its least plan.

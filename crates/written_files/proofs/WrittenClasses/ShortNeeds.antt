@@ -1,7 +1,8 @@
 -- Constants that fit their items: those that are needed, and those of a pool that grows by them.
-use Rattle.std.proofs.Common.{◌≡◌, ◌==◌, ◌++◌, ◌+◌, ◌^◌, ◌≤◌, ◌<◌, ◌∙◌, bytes_eq, ℕ, nat_le, leb, zero, suc, Bool, true, false, codes, List, [], ◌∷◌, length, Option, Some, None, if◌then◌else◌, option_and_then, refl, sym, ap, subst, arith, length-append}
+use Rattle.std.proofs.Common.{◌≡◌, ◌≢◌, ◌==◌, ◌++◌, ◌+◌, ◌^◌, ◌≤◌, ◌<◌, ◌∙◌, bytes_eq, ℕ, nat_le, leb, zero, suc, Bool, true, false, codes, List, [], ◌∷◌, length, Option, Some, None, if◌then◌else◌, option_and_then, refl, sym, ap, subst, arith, length-append}
 use Rattle.std.specs.List.{AllByRecursion, flat_map}
-use Rattle.std.proofs.lemmas.Bool.{leb-true}
+use Rattle.std.proofs.lemmas.Bool.{false≢true, leb-true}
+use Rattle.std.proofs.lemmas.Slice.Eq.{bytes_eq-Decides}
 use Rattle.std.proofs.lemmas.Option.{none-some, same_Some}
 use Rattle.class_model.specs.Laws.Pools.{IsPool-push}
 use Rattle.class_model.specs.Names.{init}
@@ -308,13 +309,14 @@ module _ (constructor : Name → List ℕ) where
       both_all IsFittingNeed (member_needs of_field class field.name field.desc) _ (member_fits of_field class field.name field.desc short all.0.0 all.0.1)
       (puts_fit class fields _ short all.1)
 
-  super_fits : (headers : Headers) (above : Name) → IsShort above → IsShort (constructor above) → AreFitting (NeedsOf (super_call headers above))
+  super_fits : (headers : Headers) (above : Name) → IsShort above → (above ≢ object → IsShort (constructor above)) → AreFitting (NeedsOf (super_call headers above))
   super_fits headers above short text = by (bytes_eq above object) refl where
     by : (b : Bool) → bytes_eq above object ≡ b → AreFitting (NeedsOf (super_call headers above))
     by true e = rw (e) (member_fits of_method object init (codes "()V") (omega arith) (omega arith) (omega arith))
     by false e =
         rw (e) (needs_both (loads_from 1 (instance_fields headers above)) _ (loads_fit (instance_fields headers above) 1)
-        (member_fits of_method above init (constructor above) short (omega arith) text))
+        (member_fits of_method above init (constructor above) short (omega arith)
+        (text (λ same. false≢true (sym e ∙ (bytes_eq-Decides above object).1 same)))))
 
   pub constructor_fits : (headers : Headers) (class : Name) → HasShortTexts headers constructor class → AreFitting (constructor_method_needs headers constructor class)
   constructor_fits headers class is =

@@ -1,6 +1,5 @@
-use Rattle.class_rewrite.specs.Laws.OneReason.{one_reason}
+use Rattle.class_rewrite.specs.Laws.OneFolder.{reason_at_is_one}
 use Rattle.class_rewrite.proofs.laws.a_method_has_one_reason.Goals as goal
 
 pub returns : goal.returns
-returns c = λ classes typed at one other hierarchy h i.
-    one_reason classes typed at (λ flat again is other_is. c.a_method_has_one_expanded_flat_code.ensures classes typed at flat again hierarchy is other_is) one other h i
+returns c = λ r at one other tree has also. reason_at_is_one r (c.a_rewriting_has_one_answer.ensures r tree) at one other has also
