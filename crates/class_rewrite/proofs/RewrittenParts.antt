@@ -1,7 +1,8 @@
 -- The Code that is written of a method, or the reason why there is none, by its emitted code, its layout and its frames.
-use Rattle.std.proofs.Common.{◌≡◌, ◌≢◌, ◌≤◌, ◌<◌, ◌++◌, ℕ, min, nat_le, Bool, true, false, List, [], length, Option, Some, None, refl, sym, ap, subst, ◌∙◌, inl, inr, arith, if◌then◌else◌, ◌⊎◌, zero, suc}
+use Rattle.std.proofs.Common.{◌≡◌, ◌≢◌, ◌≤◌, ◌<◌, ◌++◌, ◌^◌, ℕ, min, nat_le, Bool, true, false, List, [], length, Option, Some, None, refl, sym, ap, subst, ◌∙◌, inl, inr, arith, if◌then◌else◌, ◌⊎◌, zero, suc}
 use Rattle.std.proofs.lemmas.Option.{same_Some}
 use Rattle.class_model.specs.Pool.{Constants}
+use Rattle.class_model.specs.Spelling.{code_part_bytes}
 use Rattle.class_model.specs.declared.class_file.CodePart.{CodePart}
 use Rattle.class_model.specs.declared.class_file.InnerAttr.{InnerAttr}
 use Rattle.class_model.specs.declared.class_file.MethodAt.{MethodAt}
@@ -11,7 +12,7 @@ use Rattle.class_rewrite.proofs.KeptMethods.{planned}
 use Rattle.class_rewrite.proofs.StatedNeeds.{placed_needs_are}
 use Rattle.class_rewrite.specs.Inner.LaidMethods.{AreLaidMethods, AreReady, AreSound, IsLaidMethod, framed_of}
 use Rattle.class_rewrite.specs.Inner.Meanings.{AreSoundFrames, IsCode, IsEditOf, IsFullFor, IsMeant, IsPart, IsReady, IsReasonOf, Meaning, StatesFrames, body_framed, frames_pool_of, rewriting, scope}
-use Rattle.class_rewrite.specs.Rewriting.Methods.{FramesArePast, IsDeepCode, IsCoded, IsFramedIn, IsLongCode, IsRewritten, Rewritten, Rewriting}
+use Rattle.class_rewrite.specs.Rewriting.Methods.{FramesArePast, IsDeepCode, IsCoded, IsFramedIn, IsHugeCode, IsLongCode, IsWholeCode, Rewritten, Rewriting}
 use Rattle.code_drafts.specs.Emits.{Writing}
 use Rattle.code_emit.specs.declared.emitting.WrittenCode.{WrittenCode}
 use Rattle.code_layout.specs.ChosenForm.{IsLaidOut, IsLong, IsWithin, KeepsLong, chosen_items, chosen_len, chosen_spelled, is_short}
@@ -187,7 +188,7 @@ module _ (laws : AreLaidMethods) (ready_of : AreReady) (of : Writing) (m : Meani
           framed = framed_in (grown middle) no_part;
           deep = is_high (greatest_of body.points laid_method.frames) max_stack deepest most;
         } in
-        record { has = inr deep; kept = λ same. absurd cc }
+        record { has = inr (inl deep); kept = λ same. absurd cc }
 
     -- no room for the constants of its frames
     pub full_reason : max_stack ≢ 65535 → (reason : Reason) → IsFullFor ready.host.class.major middle (table_needs (all_stated placed)) reason → IsReasonOf of m before reason
@@ -203,51 +204,62 @@ module _ (laws : AreLaidMethods) (ready_of : AreReady) (of : Writing) (m : Meani
         } in
         subst (IsReasonOf of m before) (sym full.is) (record { has = inr past; kept = λ same. absurd cc })
 
-    -- the whole
-    pub part_is : max_stack ≢ 65535 → (after : Edit) (entry : Frame) (locals : ℕ) (attrs : List InnerAttr)
-        → entry ≡ entry_with ready.host of.flat
-        → locals ≡ written_units of.flat
-        → StatesFrames ready.host.class.major middle after entry placed attrs
-        → IsPart of m before middle after code
-        (record { max_stack = max_stack; max_locals = locals; code = laid.code; handlers = laid.handlers; attrs = attrs })
-    part_is low after entry locals attrs entry_is locals_are states =
-        let part : CodePart = record { max_stack = max_stack; max_locals = locals; code = laid.code; handlers = laid.handlers; attrs = attrs } in
-        let here : IsFramesAttribute (grown after) (entry_with ready.host of.flat)
-        (if nat_le 50 ready.host.class.major then placed_frames (start_in laid.starts) 0 stated else []) attrs =
-        subst (λ (frames : List PlacedFrame). IsFramesAttribute (grown after) (entry_with ready.host of.flat)
-        (if nat_le 50 ready.host.class.major then frames else []) attrs) placed_is
-        (subst (λ (frame : Frame). IsFramesAttribute (grown after) frame (if nat_le 50 ready.host.class.major then placed else []) attrs) entry_is
-        states.attrs_are) in
-        record {
-          w = w laid (grown after) part;
-          is = record {
-            coded = coded laid (grown after) part;
-            host = ready.host;
-            is_host = ready.is_host;
-            framed = framed_in (grown after) part;
-            shallow = is_low (greatest_of body.points laid_method.frames) max_stack deepest low;
-            grows = pool_is ∙ states.grows;
-            max_stack =
-                least_is (greatest_of body.points laid_method.frames) max_stack deepest
-                (is_low (greatest_of body.points laid_method.frames) max_stack deepest low);
-            max_locals = locals_are;
-            code = refl;
-            handlers = refl;
-            attrs = here;
-          };
-          routes = ready.routes;
-          one = refl;
-          of_items = record {
-            routed = ready.routed;
-            host = ready.host;
-            is_host = ready.is_host;
-            before = grown before;
-            begins = laid_method.framed.begins;
-            grows = laid_method.grows;
-            items_are = laid_method.emitted.short_items;
-          };
-          items = refl;
-          code_pool = refl;
-          pool = refl;
-          part_is = refl;
-        }
+    -- the whole, where the number of its bytes is as is asked
+    module _ (low : max_stack ≢ 65535) (after : Edit) (entry : Frame) (locals : ℕ) (attrs : List InnerAttr) (entry_is : entry ≡ entry_with ready.host of.flat)
+        (locals_are : locals ≡ written_units of.flat) (states : StatesFrames ready.host.class.major middle after entry placed attrs) where
+      abbrev part : CodePart
+      part = record { max_stack = max_stack; max_locals = locals; code = laid.code; handlers = laid.handlers; attrs = attrs }
+
+      attrs_are : IsFramesAttribute (grown after) (entry_with ready.host of.flat)
+          (if nat_le 50 ready.host.class.major then placed_frames (start_in laid.starts) 0 stated else [])
+          attrs
+      attrs_are =
+          subst (λ (frames : List PlacedFrame). IsFramesAttribute (grown after) (entry_with ready.host of.flat)
+          (if nat_le 50 ready.host.class.major then frames else []) attrs) placed_is
+          (subst (λ (frame : Frame). IsFramesAttribute (grown after) frame (if nat_le 50 ready.host.class.major then placed else []) attrs) entry_is
+          states.attrs_are)
+
+      whole : (asked : ℕ → Type 0) → asked (length (code_part_bytes part)) → IsWholeCode asked r m.at (grown before) (w laid (grown after) part)
+      whole asked is = record {
+        coded = coded laid (grown after) part;
+        host = ready.host;
+        is_host = ready.is_host;
+        framed = framed_in (grown after) part;
+        shallow = is_low (greatest_of body.points laid_method.frames) max_stack deepest low;
+        grows = pool_is ∙ states.grows;
+        max_stack =
+            least_is (greatest_of body.points laid_method.frames) max_stack deepest
+            (is_low (greatest_of body.points laid_method.frames) max_stack deepest low);
+        max_locals = locals_are;
+        code = refl;
+        handlers = refl;
+        attrs = attrs_are;
+        short = is;
+      }
+
+      -- it has too many bytes
+      pub huge_reason : 2 ^ 32 ≤ length (code_part_bytes part) → IsReasonOf of m before reasons.Long
+      huge_reason many =
+          let huge : IsHugeCode r m.at (grown before) = record { w = w laid (grown after) part; is = whole (λ (bytes : ℕ). 2 ^ 32 ≤ bytes) many } in
+          record { has = inr (inr huge); kept = λ same. absurd cc }
+
+      pub part_is : length (code_part_bytes part) < 2 ^ 32 → IsPart of m before middle after code part
+      part_is few = record {
+        w = w laid (grown after) part;
+        is = whole (λ (bytes : ℕ). bytes < 2 ^ 32) few;
+        routes = ready.routes;
+        one = refl;
+        of_items = record {
+          routed = ready.routed;
+          host = ready.host;
+          is_host = ready.is_host;
+          before = grown before;
+          begins = laid_method.framed.begins;
+          grows = laid_method.grows;
+          items_are = laid_method.emitted.short_items;
+        };
+        items = refl;
+        code_pool = refl;
+        pool = refl;
+        part_is = refl;
+      }

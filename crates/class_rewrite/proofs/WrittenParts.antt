@@ -1,14 +1,16 @@
 -- The Code that is written of a method, whatever is meant by what it is written from.
-use Rattle.std.proofs.Common.{◌≡◌, ◌≢◌, ◌∙◌, ℕ, List, Some, refl, sym, ap, subst}
+use Rattle.std.proofs.Common.{◌≡◌, ◌≢◌, ◌≤◌, ◌<◌, ◌^◌, ◌∙◌, ℕ, List, length, Some, refl, sym, ap, subst}
 use Rattle.std.proofs.lemmas.Option.{same_Some}
 use Rattle.class_model.specs.Methods.{entry_of, home_of}
 use Rattle.class_model.specs.Pool.{Constants}
+use Rattle.class_model.specs.Spelling.{code_part_bytes}
 use Rattle.class_model.specs.declared.class_file.ClassFile.{ClassFile}
+use Rattle.class_model.specs.declared.class_file.CodePart.{CodePart}
 use Rattle.class_model.specs.declared.class_file.InnerAttr.{InnerAttr}
 use Rattle.class_model.specs.declared.class_file.MethodAt.{MethodAt}
 use Rattle.class_model.specs.declared.frame.Frame.{Frame}
 use Rattle.class_model.specs.declared.frame.PlacedFrame.{PlacedFrame}
-use Rattle.class_rewrite.proofs.RewrittenParts.{can_be_written, deep_reason, full_reason, part_is}
+use Rattle.class_rewrite.proofs.RewrittenParts.{can_be_written, deep_reason, full_reason, huge_reason, part_is}
 use Rattle.class_rewrite.specs.Inner.LaidMethods.{AreLaidMethods, AreReady, AreSound}
 use Rattle.class_rewrite.specs.Inner.Meanings.{IsCode, IsEditOf, IsFullFor, IsKnownCode, IsMeant, IsPart, IsReady, IsReasonOf, Meaning, StatesFrames, scope}
 use Rattle.class_tree.specs.Headers.{Name}
@@ -82,13 +84,25 @@ module _ (laws : AreLaidMethods) (ready_of : AreReady) (sound_of : AreSound) (of
         full_reason laws ready_of of m before middle code meant edit is_code sound_of laid out within placed max_stack placed_by low reason
         (subst (λ (major : ℕ). IsFullFor major middle (table_needs (all_stated placed)) reason) same_major full)
 
-    pub written_is : max_stack ≢ 65535 → (after : Edit) (attrs : List InnerAttr) → StatesFrames home.class.major middle after entry placed attrs
-        → IsPart of m before middle after code
-        (record { max_stack = max_stack; max_locals = locals; code = laid.code; handlers = laid.handlers; attrs = attrs })
-    written_is low after attrs states =
-        part_is laws ready_of of m before middle code meant edit is_code sound_of laid out within placed max_stack placed_by low after entry locals attrs
-        (entry_is ∙ ap (λ (host : Scope). entry_with host of.flat) (sym same_host)) locals_are
-        (subst (λ (major : ℕ). StatesFrames major middle after entry placed attrs) same_major states)
+    module _ (low : max_stack ≢ 65535) (after : Edit) (attrs : List InnerAttr) (states : StatesFrames home.class.major middle after entry placed attrs) where
+      abbrev part : CodePart
+      part = record { max_stack = max_stack; max_locals = locals; code = laid.code; handlers = laid.handlers; attrs = attrs }
+
+      entry_there : entry ≡ entry_with ready.host of.flat
+      entry_there = entry_is ∙ ap (λ (host : Scope). entry_with host of.flat) (sym same_host)
+
+      states_there : StatesFrames ready.host.class.major middle after entry placed attrs
+      states_there = subst (λ (major : ℕ). StatesFrames major middle after entry placed attrs) same_major states
+
+      pub written_huge : 2 ^ 32 ≤ length (code_part_bytes part) → IsReasonOf of m before reasons.Long
+      written_huge many =
+          huge_reason laws ready_of of m before middle code meant edit is_code sound_of laid out within placed max_stack placed_by low after entry locals attrs
+          entry_there locals_are states_there many
+
+      pub written_is : length (code_part_bytes part) < 2 ^ 32 → IsPart of m before middle after code part
+      written_is few =
+          part_is laws ready_of of m before middle code meant edit is_code sound_of laid out within placed max_stack placed_by low after entry locals attrs
+          entry_there locals_are states_there few
 
   pub written_can : CanBeWritten placed
   written_can = can known.m known.before known.meant known.of_class known.is_code

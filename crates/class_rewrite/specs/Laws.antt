@@ -1,3 +1,4 @@
+pub mod OneLength
 pub mod OneReason
 pub mod OneWriting
 pub mod OneFolder

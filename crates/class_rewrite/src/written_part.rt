@@ -1,6 +1,7 @@
 //! The content of the Code attribute of a method that is rewritten (JVM Specification SE 8, 4.7.3).
-ghost use Rattle.std.specs.Prelude.{◌≡◌, ◌≤◌, ℕ, List, length, IfOk};
+ghost use Rattle.std.specs.Prelude.{◌≡◌, ◌≤◌, ℕ, List, length, min, IfOk};
 ghost use Rattle.std.specs.Result.{IsErrOf};
+ghost use Rattle.class_model.specs.Spelling.{code_part_bytes};
 ghost use Rattle.class_rewrite.specs.Inner.Meanings.{IsCode, IsEditOf, IsFit, IsFullFor, IsKnownCode, IsMeant, IsPart, IsReasonOf, Meaning, StatesFrames};
 ghost use Rattle.class_tree.specs.Headers.{Name};
 ghost use Rattle.code_layout.specs.ChosenForm.{chosen_items};
@@ -32,11 +33,14 @@ use std::alloc::Global;
 // The first version of class files that state frames.
 const FIRST_FRAMES: u16 = 50;
 
+// The most bytes that an attribute has.
+const MOST_BYTES: usize = 0xFFFF_FFFF;
+
 /// The content of the Code attribute, by the written code. The constants of its frames are added to the pool.
 ///
 /// # Errors
-/// `Kept(PoolFull)`, exactly where they do not fit; `Kept(Long)`, exactly where its code, its exception table or its stack is too long; `NoMemory`,
-/// where memory runs out. Constants may have been added then.
+/// `Kept(PoolFull)`, exactly where they do not fit; `Kept(Long)`, exactly where its code, its exception table, its stack or the whole is too long;
+/// `NoMemory`, where memory runs out. Constants may have been added then.
 pub(crate) fn written_part(
     alloc: Global,
     setting: &Setting<'_>,
@@ -82,13 +86,30 @@ pub(crate) fn written_part(
         handlers,
         starts: _,
     } = laid;
-    Ok(CodePart {
+    let part = CodePart {
         max_stack,
         max_locals: locals,
         code,
         handlers,
         attrs,
-    })
+    };
+    // a class file gives its length in four bytes
+    if part_len(&part) > MOST_BYTES {
+        return Err(KeptFault::Kept(Reason::Long));
+    }
+    Ok(part)
+}
+
+// How many bytes the content of a Code attribute takes, or the most that a number may say where they are more.
+fn part_len(part: &CodePart) -> usize
+    ensures { result ≡ min (length (code_part_bytes part.now)) 18446744073709551615 }
+{
+    let handlers = part.handlers.len().saturating_mul(8);
+    let mut len = part.code.len().saturating_add(12).saturating_add(handlers);
+    for attr in part.attrs.as_slice() {
+        len = len.saturating_add(6).saturating_add(attr.bytes.len());
+    }
+    len
 }
 
 // The frames of the written code.

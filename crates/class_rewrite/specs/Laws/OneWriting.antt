@@ -1,12 +1,14 @@
 -- A method has one reason, in a pool as the methods before it leave it, and what is written of it leaves one pool.
-use Rattle.std.proofs.Common.{◌≡◌, ◌⊎◌, ◌<◌, ℕ, nat_le, Bool, List, [], ◌∷◌, map, Option, Some, refl, sym, ap, subst, ◌∙◌, inl, inr, if◌then◌else◌}
+use Rattle.std.proofs.Common.{◌≡◌, ◌⊎◌, ◌<◌, ℕ, nat_le, Bool, List, [], ◌∷◌, length, map, Option, Some, refl, sym, ap, subst, ◌∙◌, inl, inr, arith, if◌then◌else◌}
 use Rattle.std.proofs.lemmas.Option.{none-some, same_Some}
 use Rattle.class_model.specs.Pool.{Constants}
+use Rattle.class_model.specs.Spelling.{code_part_bytes}
 use Rattle.class_model.specs.declared.class_file.MethodAt.{MethodAt}
 use Rattle.class_model.specs.declared.instr.Instr.{Instr}
 use Rattle.class_model.specs.declared.frame.Frame.{Frame}
+use Rattle.class_rewrite.specs.Laws.OneLength.{code_len}
 use Rattle.class_rewrite.specs.Laws.OneReason.{HasEarlyReason, one_reason}
-use Rattle.class_rewrite.specs.Rewriting.Methods.{CodeIsPast, FramesArePast, GainsNothing, HasReasonIn, IsCoded, IsDeepCode, IsFramedIn, IsLongCode, IsPlanned, IsRewritten, IsShallow, IsTooLong, Rewriting, Rewritten, short_items}
+use Rattle.class_rewrite.specs.Rewriting.Methods.{CodeIsPast, FramesArePast, GainsNothing, HasReasonIn, IsCoded, IsDeepCode, IsFramedIn, IsHugeCode, IsLongCode, IsPlanned, IsRewritten, IsShallow, IsTooLong, IsWholeCode, Rewriting, Rewritten, short_items}
 use Rattle.code_layout.specs.Layout.{end_from, short_spelled}
 use Rattle.code_layout.specs.PlainItems.{plain_item, plain_items}
 use Rattle.code_layout.specs.declared.emitted.Catch.{Catch}
@@ -211,7 +213,8 @@ module _ (r : Rewriting) (known : HaveOne r) where
   before_plan at pool reasons.Wide has = has
   before_plan at pool reasons.NoGain has = (has.one.flat, has.planned.flat)
   before_plan at pool reasons.Long (inl has) = (has.w.one.flat, has.coded.planned.flat)
-  before_plan at pool reasons.Long (inr has) = (has.w.one.flat, has.coded.planned.flat)
+  before_plan at pool reasons.Long (inr (inl has)) = (has.w.one.flat, has.coded.planned.flat)
+  before_plan at pool reasons.Long (inr (inr has)) = (has.w.one.flat, has.is.coded.planned.flat)
   before_plan at pool reasons.PoolFull (inl has) = (has.one.flat, has.planned.flat)
   before_plan at pool reasons.PoolFull (inr has) = (has.w.one.flat, has.coded.planned.flat)
   before_plan at pool reasons.Rewritten has = (has.0.one.flat, has.1.coded.planned.flat)
@@ -362,7 +365,9 @@ module _ (r : Rewriting) (known : HaveOne r) where
       ∙ ap (λ (x : Constants). frames_pool also.class.major v.stated x) coded.pool
 
   -- what is written of a method leaves one pool
-  pub pool_is_one : (at : MethodAt) (pool : Constants) (w v : Rewritten) → IsRewritten r at pool w → IsRewritten r at pool v → w.pool ≡ v.pool
+  pub pool_is_one : {asked also : ℕ → Type 0} (at : MethodAt) (pool : Constants) (w v : Rewritten) → IsWholeCode asked r at pool w
+      → IsWholeCode also r at pool v
+      → w.pool ≡ v.pool
   pool_is_one at pool w v p q =
       let coded = same_coded at pool w v p.coded q.coded in
       let framed = same_framed at w v p.host q.host coded p.is_host q.is_host p.framed q.framed in
@@ -371,6 +376,15 @@ module _ (r : Rewriting) (known : HaveOne r) where
   -- and is one but for the list of indices by which its frames are spelled
   pub method_is_one : (at : MethodAt) (pool : Constants) (w v : Rewritten) → IsRewritten r at pool w → IsRewritten r at pool v → w.one ≡ v.one
   method_is_one at pool w v p q = (same_coded at pool w v p.coded q.coded).one
+
+  -- its Code has one number of bytes
+  len_is_one : {asked also : ℕ → Type 0} (at : MethodAt) (pool : Constants) (w v : Rewritten) → IsWholeCode asked r at pool w
+      → IsWholeCode also r at pool v
+      → length (code_part_bytes w.part) ≡ length (code_part_bytes v.part)
+  len_is_one at pool w v p q =
+      let coded = same_coded at pool w v p.coded q.coded in
+      let framed = same_framed at w v p.host q.host coded p.is_host q.is_host p.framed q.framed in
+      code_len w v p q coded.one coded.items framed.hosts framed.stated
 
   -- ---- reasons
 
@@ -401,7 +415,14 @@ module _ (r : Rewriting) (known : HaveOne r) where
       let same = same_framed at deep.w w deep.host host coded deep.is_host is_host deep.framed framed in
       deep.deep (subst (λ (depth : ℕ). depth < 65535) (sym same.greatest) shallow)
 
-  not_past_frames : (at : MethodAt) (pool : Constants) (w : Rewritten) → FramesArePast r at pool → IsRewritten r at pool w → ⊥
+  not_huge : (at : MethodAt) (pool : Constants) (w : Rewritten) → IsHugeCode r at pool → IsRewritten r at pool w → ⊥
+  not_huge at pool w huge p =
+      let same = len_is_one at pool w huge.w p huge.is in
+      let few = p.short in
+      let many = huge.is.short in
+      omega (arith, same, few, many)
+
+  not_past_frames : {asked : ℕ → Type 0} (at : MethodAt) (pool : Constants) (w : Rewritten) → FramesArePast r at pool → IsWholeCode asked r at pool w → ⊥
   not_past_frames at pool w past p =
       let coded = same_coded at pool past.w w past.coded p.coded in
       let framed = same_framed at past.w w past.host p.host coded past.is_host p.is_host past.framed p.framed in
@@ -415,8 +436,10 @@ module _ (r : Rewriting) (known : HaveOne r) where
   of_planned at pool reasons.NoGain reasons.NoGain planned_nogain planned_nogain x y = refl
   of_planned at pool reasons.NoGain reasons.Long planned_nogain planned_long x (inl y) =
       absurd (no_gain at y.w.one y.w.plan x (y.coded.planned) (y.coded.gains))
-  of_planned at pool reasons.NoGain reasons.Long planned_nogain planned_long x (inr y) =
+  of_planned at pool reasons.NoGain reasons.Long planned_nogain planned_long x (inr (inl y)) =
       absurd (no_gain at y.w.one y.w.plan x (y.coded.planned) (y.coded.gains))
+  of_planned at pool reasons.NoGain reasons.Long planned_nogain planned_long x (inr (inr y)) =
+      absurd (no_gain at y.w.one y.w.plan x (y.is.coded.planned) (y.is.coded.gains))
   of_planned at pool reasons.NoGain reasons.PoolFull planned_nogain planned_poolfull x (inl y) = absurd (no_gain at y.one y.plan x (y.planned) (y.gains))
   of_planned at pool reasons.NoGain reasons.PoolFull planned_nogain planned_poolfull x (inr y) =
       absurd (no_gain at y.w.one y.w.plan x (y.coded.planned) (y.coded.gains))
@@ -424,28 +447,35 @@ module _ (r : Rewriting) (known : HaveOne r) where
       absurd (no_gain at y.0.one y.0.plan x (y.1.coded.planned) (y.1.coded.gains))
   of_planned at pool reasons.Long reasons.NoGain planned_long planned_nogain (inl x) y =
       absurd (no_gain at x.w.one x.w.plan y (x.coded.planned) (x.coded.gains))
-  of_planned at pool reasons.Long reasons.NoGain planned_long planned_nogain (inr x) y =
+  of_planned at pool reasons.Long reasons.NoGain planned_long planned_nogain (inr (inl x)) y =
       absurd (no_gain at x.w.one x.w.plan y (x.coded.planned) (x.coded.gains))
+  of_planned at pool reasons.Long reasons.NoGain planned_long planned_nogain (inr (inr x)) y =
+      absurd (no_gain at x.w.one x.w.plan y (x.is.coded.planned) (x.is.coded.gains))
   of_planned at pool reasons.Long reasons.Long planned_long planned_long x y = refl
   of_planned at pool reasons.Long reasons.PoolFull planned_long planned_poolfull (inl x) (inl y) = absurd (not_past at pool x.w y (x.coded))
-  of_planned at pool reasons.Long reasons.PoolFull planned_long planned_poolfull (inr x) (inl y) = absurd (not_past at pool x.w y (x.coded))
+  of_planned at pool reasons.Long reasons.PoolFull planned_long planned_poolfull (inr (inl x)) (inl y) = absurd (not_past at pool x.w y (x.coded))
+  of_planned at pool reasons.Long reasons.PoolFull planned_long planned_poolfull (inr (inr x)) (inl y) = absurd (not_past at pool x.w y (x.is.coded))
   of_planned at pool reasons.Long reasons.PoolFull planned_long planned_poolfull (inl x) (inr y) =
       absurd (not_long at pool y.w x (y.coded) (y.framed.fits))
-  of_planned at pool reasons.Long reasons.PoolFull planned_long planned_poolfull (inr x) (inr y) =
+  of_planned at pool reasons.Long reasons.PoolFull planned_long planned_poolfull (inr (inl x)) (inr y) =
       absurd (not_deep at pool y.w y.host x y.coded y.is_host y.framed y.shallow)
+  of_planned at pool reasons.Long reasons.PoolFull planned_long planned_poolfull (inr (inr x)) (inr y) = absurd (not_past_frames at pool x.w y x.is)
   of_planned at pool reasons.Long reasons.Rewritten planned_long planned_rewritten (inl x) y =
       absurd (not_long at pool y.0 x (y.1.coded) (y.1.framed.fits))
-  of_planned at pool reasons.Long reasons.Rewritten planned_long planned_rewritten (inr x) y =
+  of_planned at pool reasons.Long reasons.Rewritten planned_long planned_rewritten (inr (inl x)) y =
       absurd (not_deep at pool y.0 y.1.host x y.1.coded y.1.is_host y.1.framed y.1.shallow)
+  of_planned at pool reasons.Long reasons.Rewritten planned_long planned_rewritten (inr (inr x)) y = absurd (not_huge at pool y.0 x y.1)
   of_planned at pool reasons.PoolFull reasons.NoGain planned_poolfull planned_nogain (inl x) y = absurd (no_gain at x.one x.plan y (x.planned) (x.gains))
   of_planned at pool reasons.PoolFull reasons.NoGain planned_poolfull planned_nogain (inr x) y =
       absurd (no_gain at x.w.one x.w.plan y (x.coded.planned) (x.coded.gains))
   of_planned at pool reasons.PoolFull reasons.Long planned_poolfull planned_long (inl x) (inl y) = absurd (not_past at pool y.w x (y.coded))
-  of_planned at pool reasons.PoolFull reasons.Long planned_poolfull planned_long (inl x) (inr y) = absurd (not_past at pool y.w x (y.coded))
+  of_planned at pool reasons.PoolFull reasons.Long planned_poolfull planned_long (inl x) (inr (inl y)) = absurd (not_past at pool y.w x (y.coded))
+  of_planned at pool reasons.PoolFull reasons.Long planned_poolfull planned_long (inl x) (inr (inr y)) = absurd (not_past at pool y.w x (y.is.coded))
   of_planned at pool reasons.PoolFull reasons.Long planned_poolfull planned_long (inr x) (inl y) =
       absurd (not_long at pool x.w y (x.coded) (x.framed.fits))
-  of_planned at pool reasons.PoolFull reasons.Long planned_poolfull planned_long (inr x) (inr y) =
+  of_planned at pool reasons.PoolFull reasons.Long planned_poolfull planned_long (inr x) (inr (inl y)) =
       absurd (not_deep at pool x.w x.host y x.coded x.is_host x.framed x.shallow)
+  of_planned at pool reasons.PoolFull reasons.Long planned_poolfull planned_long (inr x) (inr (inr y)) = absurd (not_past_frames at pool y.w x y.is)
   of_planned at pool reasons.PoolFull reasons.PoolFull planned_poolfull planned_poolfull x y = refl
   of_planned at pool reasons.PoolFull reasons.Rewritten planned_poolfull planned_rewritten (inl x) y = absurd (not_past at pool y.0 x (y.1.coded))
   of_planned at pool reasons.PoolFull reasons.Rewritten planned_poolfull planned_rewritten (inr x) y = absurd (not_past_frames at pool y.0 x y.1)
@@ -453,8 +483,9 @@ module _ (r : Rewriting) (known : HaveOne r) where
       absurd (no_gain at x.0.one x.0.plan y (x.1.coded.planned) (x.1.coded.gains))
   of_planned at pool reasons.Rewritten reasons.Long planned_rewritten planned_long x (inl y) =
       absurd (not_long at pool x.0 y (x.1.coded) (x.1.framed.fits))
-  of_planned at pool reasons.Rewritten reasons.Long planned_rewritten planned_long x (inr y) =
+  of_planned at pool reasons.Rewritten reasons.Long planned_rewritten planned_long x (inr (inl y)) =
       absurd (not_deep at pool x.0 x.1.host y x.1.coded x.1.is_host x.1.framed x.1.shallow)
+  of_planned at pool reasons.Rewritten reasons.Long planned_rewritten planned_long x (inr (inr y)) = absurd (not_huge at pool x.0 y x.1)
   of_planned at pool reasons.Rewritten reasons.PoolFull planned_rewritten planned_poolfull x (inl y) = absurd (not_past at pool x.0 y (x.1.coded))
   of_planned at pool reasons.Rewritten reasons.PoolFull planned_rewritten planned_poolfull x (inr y) = absurd (not_past_frames at pool x.0 y x.1)
   of_planned at pool reasons.Rewritten reasons.Rewritten planned_rewritten planned_rewritten x y = refl

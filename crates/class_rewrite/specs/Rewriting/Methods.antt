@@ -1,7 +1,8 @@
 -- What becomes of a method of a folder: what is written of it by its least plan, in a constant pool as the methods of its class before it leave it. It
 -- is this project's profile.
-use Rattle.std.specs.Prelude.{◌≡◌, ◌⊎◌, ◌<◌, ℕ, nat_le, List, [], Option, Some, None, Ok, if◌then◌else◌}
+use Rattle.std.specs.Prelude.{◌≡◌, ◌⊎◌, ◌<◌, ◌≤◌, ◌^◌, ℕ, nat_le, List, [], length, Option, Some, None, Ok, if◌then◌else◌}
 use Rattle.class_model.specs.Pool.{Constants}
+use Rattle.class_model.specs.Spelling.{code_part_bytes}
 use Rattle.class_model.specs.declared.class_file.CodePart.{CodePart}
 use Rattle.class_model.specs.declared.class_file.MethodAt.{MethodAt}
 use Rattle.class_model.specs.declared.frame.Frame.{Frame}
@@ -116,7 +117,10 @@ pub record IsFramedIn (r : Rewriting) (host : Scope) (w : Rewritten) : Type 0 wh
 abbrev pub IsShallow : Rewritten → Type 0
 IsShallow w = greatest_of w.body.points w.frames < 65535
 
-pub record IsRewritten (r : Rewriting) (at : MethodAt) (pool : Constants) (w : Rewritten) : Type 0 where
+-- The whole, where the number of the bytes of its Code is as is asked.
+pub record IsWholeCode (asked : ℕ → Type 0) (r : Rewriting) (at : MethodAt) (pool : Constants)
+    (w : Rewritten)
+    : Type 0 where
   pub coded : IsCoded r at pool w
   pub host : Scope
   pub is_host : scope_at r.classes at ≡ Some host
@@ -130,6 +134,11 @@ pub record IsRewritten (r : Rewriting) (at : MethodAt) (pool : Constants) (w : R
   pub attrs : IsFramesAttribute w.pool w.body.entry
       (if nat_le 50 host.class.major then placed_frames (start_in w.laid.starts) 0 w.stated else [])
       w.part.attrs
+  pub short : asked (length (code_part_bytes w.part))
+
+-- a class file gives the length of an attribute in four bytes
+abbrev pub IsRewritten : Rewriting → MethodAt → Constants → Rewritten → Type 0
+IsRewritten r at pool w = IsWholeCode (λ bytes. bytes < 2 ^ 32) r at pool w
 
 -- ---- reasons
 
@@ -164,6 +173,11 @@ pub record IsDeepCode (r : Rewriting) (at : MethodAt) (pool : Constants) : Type 
   pub framed : IsFramedIn r host w
   pub deep : ¬ IsShallow w
 
+-- its Code has more bytes than an attribute may have
+pub record IsHugeCode (r : Rewriting) (at : MethodAt) (pool : Constants) : Type 0 where
+  pub w : Rewritten
+  pub is : IsWholeCode (λ bytes. 2 ^ 32 ≤ bytes) r at pool w
+
 -- there is no room for the constants of its frames
 pub record FramesArePast (r : Rewriting) (at : MethodAt) (pool : Constants) : Type 0 where
   pub w : Rewritten
@@ -178,6 +192,7 @@ pub record FramesArePast (r : Rewriting) (at : MethodAt) (pool : Constants) : Ty
 abbrev pub HasReasonIn : Rewriting → MethodAt → Constants → Reason → Type 0
 HasReasonIn r at pool reasons.NoGain = GainsNothing r at
 HasReasonIn r at pool reasons.PoolFull = CodeIsPast r at pool ⊎ FramesArePast r at pool
-HasReasonIn r at pool reasons.Long = IsLongCode r at pool ⊎ IsDeepCode r at pool
+HasReasonIn r at pool reasons.Long =
+    IsLongCode r at pool ⊎ (IsDeepCode r at pool ⊎ IsHugeCode r at pool)
 HasReasonIn r at pool reasons.Rewritten = (w : Rewritten) × IsRewritten r at pool w
 HasReasonIn r at pool reason = IsNotExpanded r.classes r.typed at reason

@@ -1,8 +1,8 @@
-use Rattle.std.proofs.Common.{rules, ◌≡◌, ◌∙◌, ℕ, ap, subst, IfErr}
+use Rattle.std.proofs.Common.{rules, ◌≡◌, ◌≤◌, ◌<◌, ◌^◌, ◌∙◌, ℕ, min, ap, subst, arith, IfErr}
 use Rattle.std.specs.Result.{IsErrOf}
 use Rattle.class_model.specs.declared.class_file.ClassFile.{ClassFile}
 use Rattle.class_rewrite.proofs.RewrittenParts.{long_reason}
-use Rattle.class_rewrite.proofs.WrittenParts.{written_can, written_deep, written_full, written_is}
+use Rattle.class_rewrite.proofs.WrittenParts.{written_can, written_deep, written_full, written_huge, written_is}
 use Rattle.class_rewrite.proofs.written_part.written_part.Goals as goal
 use Rattle.class_rewrite.specs.Inner.Meanings.{IsFullFor, IsReasonOf, StatesFrames}
 use Rattle.code_layout.specs.ChosenForm.{KeepsLong}
@@ -11,6 +11,12 @@ use Rattle.flow_code.specs.declared.reason.KeptFault.TheVariants.{Kept}
 use Rattle.flow_code.specs.declared.reason.Reason.TheVariants as reasons
 use Rattle.stackmap_emit.specs.FrameConstants.{table_needs}
 use Rattle.stackmap_emit.specs.FramesAttribute.{all_stated}
+
+few : {bytes said : ℕ} → said ≡ min bytes 18446744073709551615 → said ≤ 4294967295 → bytes < 2 ^ 32
+few is low = omega (arith, is, low)
+
+many : {bytes said : ℕ} → said ≡ min bytes 18446744073709551615 → 4294967295 < said → 2 ^ 32 ≤ bytes
+many is high = omega (arith, is, high)
 
 pub returns-in_err-laid-clause-kept : goal.returns-in_err-laid-clause-kept
 returns-in_err-laid-clause-kept c = λ reason m before is meant edit is_code.
@@ -51,6 +57,21 @@ returns-clause-ok c = λ m before meant edit is_code.
     c.in_ok-attrs.attrs
     (subst (λ (class : ClassFile). StatesFrames class.major c.args.pool.now c.attributes_of.new.pool c.in_ok-entry.entry c.in_ok-frames.frames.placed
     c.in_ok-attrs.attrs) c.class.ensures c.in_ok-attrs.ensures.ok)
+    (few c.part_len.ensures c.if-part_len-gt-MOST_BYTES.false)
+
+pub returns-then-part_len-gt-MOST_BYTES-clause-kept : goal.returns-then-part_len-gt-MOST_BYTES-clause-kept
+returns-then-part_len-gt-MOST_BYTES-clause-kept c = λ reason m before is meant edit is_code.
+    let same : reasons.Long ≡ reason = cc is in
+    subst (IsReasonOf c.args.setting.now m before) same
+    (written_huge c.what_is_written_is_laid_out.ensures c.what_is_meant_can_be_written.ensures c.written_frames_are_sound.ensures c.args.setting.now
+    c.args.pool.now c.args.code.now c.args.home.now c.args.grown.now c.requires c.in_ok-entry.entry c.local_units-locals.result c.in_ok-entry.ensures
+    (c.local_units-locals.ensures ∙ ap written_units c.units.ensures) c.in_ok-laid.laid c.in_ok-laid.ensures.laid c.in_ok-laid.ensures.within
+    c.in_ok-frames.frames.placed c.in_ok-frames.frames.max_stack c.in_ok-frames.ensures m before meant edit is_code
+    c.if-max_stack.false c.attributes_of.new.pool
+    c.in_ok-attrs.attrs
+    (subst (λ (class : ClassFile). StatesFrames class.major c.args.pool.now c.attributes_of.new.pool c.in_ok-entry.entry c.in_ok-frames.frames.placed
+    c.in_ok-attrs.attrs) c.class.ensures c.in_ok-attrs.ensures.ok)
+    (many c.part_len.ensures c.if-part_len-gt-MOST_BYTES.true))
 
 pub returns-then-max_stack-clause-kept : goal.returns-then-max_stack-clause-kept
 returns-then-max_stack-clause-kept c = λ reason m before is meant edit is_code.
