@@ -23,7 +23,7 @@ work=$(mktemp -d)
 trap 'rm -rf "$work"' EXIT
 
 source "$root/scripts/acceptance/checks.sh"
-for part in folders refusals words scripts library java methods damaged jars; do
+for part in folders refusals words scripts rewriting library java methods damaged jars; do
     source "$root/scripts/acceptance/$part.sh"
 done
 

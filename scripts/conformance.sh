@@ -1,7 +1,8 @@
 #!/usr/bin/env bash
 # Runs the proved program on each class file of the tables of conformance/ (README.md there) with the library of the first example, and
 # compares its answer and the files that it leaves. A file that is read counts as ok whether it is linked with that library and
-# verifies, and then has the same bytes, or not, and then leaves no files. Prints a line for each file.
+# verifies, and is then written, or not, and then leaves no files. What is written has the same bytes where no method is rewritten, and else verifies.
+# Prints a line for each file. PEA=PROGRAM names another program than bin/pea.
 set -u
 if [ $# != 0 ]; then
     echo "usage: bash scripts/conformance.sh" >&2
@@ -14,12 +15,12 @@ for tool in make awk sed cut paste split nproc cmp mktemp; do
         exit 0
     fi
 done
-if ! make -s bin/pea >/dev/null; then
+if [ -z "${PEA:-}" ] && ! make -s bin/pea >/dev/null; then
     echo "FAILED the program is built"
     echo "0 passed, 1 failed"
     exit 1
 fi
-pea=$PWD/bin/pea
+pea=$(realpath "${PEA:-bin/pea}")
 tables=$PWD/conformance
 changes=$PWD/scripts/changed-files.awk
 library=$PWD/examples/first/lib
@@ -30,7 +31,7 @@ cd "$work" || exit 1
 # Sets came to the answer of the last run in the words of the tables, and written where it wrote the file. It printed to printed, and
 # explained to why; the file stood in this folder.
 answer() {
-    local status=$1 folder=$2 printed said counts
+    local status=$1 folder=$2 printed said counts rewritten
     printed=$(<printed)
     {
         IFS= read -r said
@@ -38,8 +39,10 @@ answer() {
         case "$folder $said" in "LIB pea: note: NOTHING WAS READ: "*) IFS= read -r said ;; esac
     } <why
     if [ "$folder" = IN ]; then counts="files=1 classes=1"; else counts="files=0 classes=0"; fi
+    rewritten=${printed##* rewritten=}
+    rewritten=${rewritten%% *}
     case "$status $printed" in
-        "0 done $counts rewritten=0 kept="*) came=ok ;;
+        "0 done $counts rewritten="*" kept="*) came=ok ;;
         "4 refused 4 Unlinked "* | "5 refused 5 Unverified "*) came=ok ;;
         "2 refused 2 Malformed A.class "*) came="Malformed ${printed#refused 2 Malformed A.class }" ;;
         "3 refused 3 Version A.class "*) came="Version ${printed#refused 3 Version A.class }" ;;
@@ -53,7 +56,12 @@ answer() {
     written=
     if [ "$status" = 0 ] && [ "$folder" = IN ]; then
         written=", written"
-        cmp -s in/A.class out/A.class || came="$came, and other bytes"
+        if [ "$rewritten" = 0 ]; then
+            cmp -s in/A.class out/A.class || came="$came, and other bytes"
+        else
+            written=", rewritten"
+            "$pea" verify out --lib "$library" >/dev/null 2>&1 || came="$came, and what is written does not verify"
+        fi
         rm -r out
     elif [ -e out ]; then
         came="$came, and files"
@@ -102,6 +110,6 @@ cat said
 
 passed=$(grep -c '^ok ' said)
 failed=$(grep -c '^FAILED ' said)
-written=$(grep -c ', written$' said)
+written=$(grep -cE ', (re)?written$' said)
 echo "$passed passed, $failed failed ($written written)"
 [ "$passed" = "$(wc -l <files)" ] && [ "$failed" = 0 ] && [ "$written" != 0 ]

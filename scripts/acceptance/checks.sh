@@ -60,10 +60,16 @@ compile_java() {
 skipped() { echo "skipped: $1, since $2"; }
 
 same() { diff -r "$1" "$2" >/dev/null; }
+# The second folder has files of the same names, and of them those that are no class files are the same.
+same_names() { ! diff -rq "$1" "$2" | grep -vqE '^Files .*\.class differ$'; }
 absent() { [ ! -e "$1" ]; }
 
-# The number of kept methods that the last run printed.
+# The numbers of rewritten and of kept methods that the last run printed.
+rewritten() { sed -n 's/.* rewritten=\([0-9]*\) .*/\1/p' "$work/printed"; }
 kept() { sed -n 's/.* kept=//p' "$work/printed"; }
+
+# How many methods the last run verified.
+verified() { sed -n 's/^verified [0-9]* //p' "$work/printed"; }
 
 # How many class files a folder has.
 class_files() { find "$1" -type f -name '*.class' | wc -l; }

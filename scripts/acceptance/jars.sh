@@ -1,4 +1,4 @@
-# The class files of Debian's Java packages that are installed, each jar alone, linked with the JDK: byte for byte. A jar that is
+# The class files of Debian's Java packages that are installed, each jar alone, linked with the JDK: what is written verifies. A jar that is
 # not linked is one of refused-jars.tsv, with its line and the reason.
 
 # unpack JAR FOLDER: puts the files of a jar into the folder.
@@ -38,7 +38,10 @@ jars() {
         if [ -n "$line" ]; then
             check "$name, $files class files, $line" 4 "$line" absent out
         else
-            check "$name, $files class files" 0 "done files=$files classes=$files rewritten=0 kept=$(kept)" same in out
+            check "$name, $files class files, $(rewritten) rewritten methods" 0 \
+                "done files=$files classes=$files rewritten=$(rewritten) kept=$(kept)" same_names in out
+            run verify out --lib "$jdk"
+            check "$name, what is written" 0 "verified $files $(verified)" true
         fi
     done
     if [ "$found" = 0 ]; then skipped "class files of Debian's packages" "none are in /usr/share/java"; fi

@@ -1,5 +1,5 @@
 # The static methods of examples/methods, which calls.txt lists with their arguments: run by the program and by the JVM they give the
-# same results and throw exceptions of the same classes.
+# same results and throw exceptions of the same classes, and so do the written ones on the JVM.
 
 # script_of CALLS: the script of these calls; each constructor of the library that a method calls returns nothing
 script_of() {
@@ -37,6 +37,10 @@ methods_run() {
         echo "FAILED static methods on the JVM (status $status): $(tail -n 1 "$work/printed")"
         diff given wanted | head -n 20
     fi
+    run optimise in out --lib "$jdk"
+    java -Xverify:all -cp out:loader RunMethods "$calls" >given 2>"$work/said"
+    check "the same methods as they are written, $(rewritten) of them rewritten" 0 \
+        "done files=$(class_files in) classes=$(class_files in) rewritten=$(rewritten) kept=$(kept)" cmp -s given wanted
 }
 
 if [ -n "$no_jdk" ]; then

@@ -17,7 +17,7 @@ told() {
 for word in --help -h help --version; do
     run "$word"
     told "$word" eval '[ "$status" = 1 ] && [ "$(cat "$work/printed")" = "refused 1 Usage" ] &&
-        grep -q "^pea: note: this is pea [0-9.]*," "$work/errors" && [ "$(grep -c "^    pea " "$work/errors")" = 5 ]'
+        grep -q "^pea: note: this is pea [0-9.]*," "$work/errors" && [ "$(grep -c "^    pea " "$work/errors")" = 7 ]'
 done
 run optimize in out --lib lib
 told "a wrong command is named" grep -q "^pea: error: the word 'optimize' is no command" "$work/errors"
@@ -39,7 +39,7 @@ run optimise in out --lib lib
 told "OUT that is another folder" eval '[ "$status" = 0 ] && [ ! -s "$work/errors" ]'
 
 # Each script that takes words says how it is called, with a status of its own.
-for script in jar gain library jdk-library compile-java build build-unproved run-example acceptance conformance refused-allocations \
+for script in jar gain library jdk-library compile-java build build-unproved run-example acceptance conformance written refused-allocations \
     compare-with-jvm; do
     case $script in
         jar | gain | library | jdk-library | compile-java) words=() ;;

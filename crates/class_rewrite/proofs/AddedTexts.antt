@@ -1,7 +1,6 @@
 -- The texts of field constructors are those that constants may have, and so are the names of the classes that have them.
-use Rattle.std.proofs.Common.{◌≡◌, ◌≢◌, ◌++◌, ◌≤◌, ◌∙◌, not, bytes_eq, ℕ, zero, suc, Bool, true, false, codes, filter, List, [], ◌∷◌, length, map, replicate, slice_get, Option, Some, None, IfSome, IsTrue, IsFalse, option_and_then, option_map, refl, sym, ap, subst, arith, append_assoc}
+use Rattle.std.proofs.Common.{◌≡◌, ◌++◌, ◌≤◌, ◌∙◌, not, bytes_eq, ℕ, zero, suc, Bool, true, false, codes, filter, List, [], ◌∷◌, map, replicate, slice_get, Option, Some, None, IfSome, IsTrue, option_and_then, option_map, refl, sym, ap, subst, arith}
 use Rattle.std.specs.List.{AllByRecursion, flat_map, list_any}
-use Rattle.std.proofs.lemmas.Bool.{false≢true}
 use Rattle.std.proofs.lemmas.Grind.{flat_map-append}
 use Rattle.std.proofs.lemmas.Option.{none-some, same_Some, slice_get-map}
 use Rattle.std.proofs.lemmas.Slice.Eq.{bytes_eq-Decides}
@@ -11,7 +10,7 @@ use Rattle.class_model.specs.Descriptors.{IsReferenceName, parameter_units, type
 use Rattle.class_model.specs.Header.{field_member, header_of}
 use Rattle.class_model.specs.Laws.Lists.{at_index}
 use Rattle.class_model.specs.Laws.Texts.{plain_text}
-use Rattle.class_model.specs.Members.{INTERFACE, STATIC, has as has_flag}
+use Rattle.class_model.specs.Members.{STATIC, has as has_flag}
 use Rattle.class_model.specs.ModifiedUtf8.{IsCodeUnit, IsModifiedUtf8, IsText, unit_bytes}
 use Rattle.class_model.specs.Pool.{Constants, constant_at}
 use Rattle.class_model.specs.PoolChecks.{BytesSpell, ReturnsVoid, class_at, class_name_of, entries_checks, text_of, text_or_empty, utf8_at}
@@ -25,8 +24,8 @@ use Rattle.class_model.specs.declared.pool.Const.{Const}
 use Rattle.class_model.specs.declared.pool.Const.TheVariants.{Utf8, Integer, Float, Long, Double, Class, String, Fieldref, Methodref, InterfaceMethodref, NameAndType, MethodHandle, MethodType, InvokeDynamic}
 use Rattle.class_rewrite.proofs.ForeignOperands.{one_checked}
 use Rattle.class_rewrite.proofs.GrownConstants.{entries_hold}
-use Rattle.class_rewrite.proofs.MadeClasses.{above_there, itself, kept_name}
-use Rattle.class_tree.specs.Headers.{Classes, Headers, IsClassFile, Name, class_named, headers_of, named}
+use Rattle.class_rewrite.proofs.MadeClasses.{itself, kept_name}
+use Rattle.class_tree.specs.Headers.{Classes, Headers, IsClassFile, Name, headers_of, named}
 use Rattle.class_tree.specs.Hierarchy.{IsHierarchy}
 use Rattle.class_tree.specs.Layouts.{chain, instance_fields, own_fields, superclasses}
 use Rattle.class_tree.specs.Names.{object}
@@ -36,7 +35,6 @@ use Rattle.member_link.specs.FieldConstructors.{constructor_descriptor, field_ty
 use Rattle.member_link.specs.Laws.FolderClasses.{class_of_folder, folder_index}
 use Rattle.plan_flow.specs.Written.WrittenPrograms.{GivesConstructors}
 use Rattle.pool_bytes.specs.Items.{FitsItems, PoolFits}
-use Rattle.written_files.specs.ShortNeeds.{IsShort}
 use Rattle.written_files.specs.WrittenClasses.{IsFitting}
 use Rattle.written_runs.specs.Laws.AddedConstructors.{each_name, of_chain}
 use Rattle.written_runs.specs.Laws.ConstructorTexts.{ReadsParameters, bytes}

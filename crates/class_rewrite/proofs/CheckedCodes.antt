@@ -1,14 +1,14 @@
 -- A Code that has the bytes and the exception table of items that are laid out passes what a class file asks of one, where the operands of the items
 -- fit, their catch types are classes, and the frames that it states are read.
-use Rattle.std.proofs.Common.{◌≡◌, ◌⊎◌, ◌≤◌, ◌<◌, ◌+◌, ◌*◌, ◌==◌, ◌||◌, ◌&&◌, ◌∙◌, nat_lt, inl, inr, ℕ, zero, suc, Bool, true, false, List, [], ◌∷◌, ◌++◌, length, map, slice_get, slice_index_or, Option, Some, None, IfSome, IsSome, Result, Ok, refl, sym, ap, subst, arith}
+use Rattle.std.proofs.Common.{◌≡◌, ◌⊎◌, ◌≤◌, ◌<◌, ◌+◌, ◌*◌, ◌==◌, ◌||◌, ◌&&◌, ◌∙◌, nat_lt, ℕ, zero, suc, Bool, true, false, List, [], ◌∷◌, ◌++◌, length, map, slice_get, Some, IfSome, Result, Ok, refl, sym, ap, subst, arith}
 use Rattle.std.specs.List.{AllByRecursion, list_all}
-use Rattle.std.specs.Prelude.{IsFalse, IsTrue}
+use Rattle.std.specs.Prelude.{IsTrue}
 use Rattle.std.proofs.lemmas.Bool.{eq-eqb}
 use Rattle.std.proofs.lemmas.Bool.Decides.{nat_tests}
-use Rattle.class_model.specs.Checks.{AllHold, Check, Fault, asked_of, check}
-use Rattle.class_model.specs.Code.{IsRange, OperandFits, handlers_checks, in_table, inner_is_named, inners_checks, jump_checks, operand_checks, stack_map_table}
+use Rattle.class_model.specs.Checks.{AllHold, Fault, asked_of}
+use Rattle.class_model.specs.Code.{OperandFits, handlers_checks, in_table, inners_checks, jump_checks, operand_checks, stack_map_table}
 use Rattle.class_model.specs.Frames.{Setting, stack_map_table_at}
-use Rattle.class_model.specs.Instructions.{CodeOf, decoded, is_start, targets}
+use Rattle.class_model.specs.Instructions.{decoded, is_start, targets}
 use Rattle.class_model.specs.Laws.Checks.{both_hold}
 use Rattle.class_model.specs.Methods.{Home, entry_of, instructions_checks, part_checks, placed_at, units_at_call}
 use Rattle.class_model.specs.Pool.{Constants}
@@ -17,7 +17,6 @@ use Rattle.class_model.specs.declared.class_file.CodePart.{CodePart}
 use Rattle.class_model.specs.declared.class_file.Handler.{Handler}
 use Rattle.class_model.specs.declared.class_file.InnerAttr.{InnerAttr}
 use Rattle.class_model.specs.declared.class_file.Method.{Method}
-use Rattle.class_model.specs.declared.fault.FileRule.TheVariants as rules
 use Rattle.class_model.specs.declared.frame.Frame.{Frame}
 use Rattle.class_model.specs.declared.frame.PlacedFrame.{PlacedFrame}
 use Rattle.class_model.specs.declared.instr.Instr.{Instr}

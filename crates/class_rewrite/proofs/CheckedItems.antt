@@ -5,7 +5,7 @@ use Rattle.std.proofs.lemmas.Bool.{false≢true}
 use Rattle.std.proofs.lemmas.Bool.Decides.{Decides-eqb}
 use Rattle.std.proofs.lemmas.Option.{none-some, same_Some}
 use Rattle.class_model.specs.Checks.{AllHold}
-use Rattle.class_model.specs.Code.{FitsLocal, OperandFits}
+use Rattle.class_model.specs.Code.{OperandFits}
 use Rattle.class_model.specs.Pool.{Constants, constant_at}
 use Rattle.class_model.specs.PoolChecks.{IsClassAt, IsMethodConstant, class_at, class_name_of, entries_checks, utf8_at}
 use Rattle.class_model.specs.declared.class_file.ClassFile.{ClassFile}
@@ -37,7 +37,7 @@ use Rattle.plan_flow.specs.Written.Blocks.{blocks_of}
 use Rattle.plan_flow.specs.Written.Finish.{Finished, finish}
 use Rattle.plan_flow.specs.Written.Routes.{Routes}
 use Rattle.plan_flow.specs.Written.WrittenCode.{Form, jumping_to, target_number, written_items}
-use Rattle.plan_flow.specs.Written.WrittenConstants.{carried_needs, catch_index, indexed_instr, indexed_item, named_index, needs_of_index, with_index}
+use Rattle.plan_flow.specs.Written.WrittenConstants.{catch_index, indexed_instr, indexed_item, named_index, needs_of_index, with_index}
 use Rattle.same_runs.specs.ReadyCode.{IsReadyCode, IsReadyInstr, IsReadyItem}
 
 -- ---- an instruction of another class

@@ -1,5 +1,5 @@
 -- Each class of a written folder is a class file.
-use Rattle.std.proofs.Common.{◌≡◌, ◌≤◌, ◌+◌, ◌∙◌, ℕ, zero, suc, List, [], ◌∷◌, ◌++◌, length, map, slice_get, Some, refl, sym, ap, subst, arith, length-append}
+use Rattle.std.proofs.Common.{◌≡◌, ◌≤◌, ◌+◌, ℕ, zero, suc, List, [], ◌∷◌, ◌++◌, length, slice_get, Some, refl, sym, ap, subst, arith, length-append}
 use Rattle.std.specs.List.{AllByRecursion}
 use Rattle.class_model.specs.Header.{header_of}
 use Rattle.class_model.specs.Laws.Lists.{at_index}
@@ -7,7 +7,6 @@ use Rattle.class_model.specs.Methods.{home_of}
 use Rattle.class_model.specs.Pool.{Constants}
 use Rattle.class_model.specs.declared.class_file.ClassFile.{ClassFile}
 use Rattle.class_model.specs.declared.class_file.Method.{Method}
-use Rattle.class_model.specs.declared.class_file.MethodAt.{MethodAt}
 use Rattle.class_rewrite.proofs.FileLaws.{FileLaws}
 use Rattle.class_rewrite.proofs.FittingCodes.{code_for}
 use Rattle.class_rewrite.proofs.FittingConstructors.{added_one}
@@ -25,7 +24,7 @@ use Rattle.making_code.specs.Constants.{grow}
 use Rattle.making_code.specs.ConstructorCode.{IsConstructorMethod}
 use Rattle.making_code.specs.FieldConstructor.{constructor_method_needs}
 use Rattle.type_rules.specs.Grown.{IsGrownClass}
-use Rattle.written_files.specs.WrittenClasses.{AreAddedMethods, AreKeptMethods, IsFitting, IsKeptMethod, IsWrittenClass, kept_as_it_was, kept_with_code}
+use Rattle.written_files.specs.WrittenClasses.{AreAddedMethods, AreKeptMethods, IsKeptMethod, IsWrittenClass, kept_as_it_was, kept_with_code}
 
 module _ (laws : FileLaws) (r : Rewriting) (files : List ClassFile) (w : IsFolderWritten r files) (tree : IsTree r.classes)
     (ready : IsReadyFolder r files w) (fitting : IsFittedFolder r files w) where

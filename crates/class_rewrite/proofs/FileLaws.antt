@@ -8,7 +8,6 @@ use Rattle.class_model.specs.Instructions.{decoded}
 use Rattle.class_model.specs.Members.{Signature}
 use Rattle.class_model.specs.Methods.{home_of, method_checks}
 use Rattle.class_model.specs.Pool.{Constants}
-use Rattle.class_model.specs.PoolChecks.{entries_checks}
 use Rattle.class_model.specs.declared.class_file.ClassFile.{ClassFile}
 use Rattle.class_model.specs.declared.instr.Instr.{Instr}
 use Rattle.class_model.specs.declared.instr.Placed.{Placed}

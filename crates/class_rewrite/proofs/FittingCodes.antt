@@ -1,27 +1,24 @@
 -- The Code of a method that is rewritten, in the class that is written, passes what a class file asks of it, and fits its items.
-use Rattle.std.proofs.Common.{◌≡◌, ◌≢◌, ◌⊎◌, ◌≤◌, ◌<◌, ◌+◌, ◌∙◌, inl, inr, ℕ, zero, suc, nat_le, Bool, true, false, List, [], ◌∷◌, ◌++◌, flat_map, length, slice_get, Option, Some, None, IfSome, IsSome, if◌then◌else◌, Result, Ok, Err, refl, sym, ap, subst, arith}
+use Rattle.std.proofs.Common.{◌≡◌, ◌≢◌, ◌≤◌, ◌<◌, ◌+◌, ◌∙◌, inl, inr, ℕ, zero, suc, nat_le, Bool, true, false, List, [], ◌∷◌, ◌++◌, flat_map, length, slice_get, Option, Some, None, IfSome, IsSome, if◌then◌else◌, Result, Ok, Err, refl, sym, ap, subst, arith}
 use Rattle.std.specs.List.{AllByRecursion}
 use Rattle.std.proofs.lemmas.Bool.{false≢true}
-use Rattle.std.proofs.lemmas.Option.{none-some, same_Some, slice_get_within}
-use Rattle.class_model.specs.Checks.{AllHold, Fault}
-use Rattle.class_model.specs.Code.{OperandFits, stack_map_table}
+use Rattle.std.proofs.lemmas.Option.{same_Some, slice_get_within}
+use Rattle.class_model.specs.Checks.{Fault}
+use Rattle.class_model.specs.Code.{stack_map_table}
 use Rattle.class_model.specs.Frames.{Setting, stack_map_table_at}
 use Rattle.class_model.specs.Stated.{read_or_none, stated_in}
 use Rattle.class_model.specs.Instructions.{decoded}
 use Rattle.class_model.specs.Laws.ClassFiles.{methods_place, parts_hold}
 use Rattle.class_model.specs.Laws.Lists.{at_index}
-use Rattle.class_model.specs.MethodCode.{code_of}
-use Rattle.class_model.specs.Methods.{Home, entry_of, home_of, units_at_call}
+use Rattle.class_model.specs.Methods.{entry_of, home_of, units_at_call}
 use Rattle.class_model.specs.Pool.{Constants}
 use Rattle.class_model.specs.PoolChecks.{utf8_at}
 use Rattle.class_model.specs.declared.class_file.ClassFile.{ClassFile}
-use Rattle.class_model.specs.declared.class_file.CodePart.{CodePart}
 use Rattle.class_model.specs.declared.class_file.InnerAttr.{InnerAttr}
 use Rattle.class_model.specs.declared.class_file.Method.{Method}
 use Rattle.class_model.specs.declared.class_file.MethodAt.{MethodAt}
 use Rattle.class_model.specs.declared.frame.Frame.{Frame}
 use Rattle.class_model.specs.declared.frame.PlacedFrame.{PlacedFrame}
-use Rattle.class_model.specs.declared.instr.Instr.{Instr}
 use Rattle.class_rewrite.proofs.AskedCodes.{methods_asked}
 use Rattle.class_rewrite.proofs.CheckedCodes.{AreReadAttrs, IsCheckedItem, IsLaidPart, none_there, one_there, part_holds}
 use Rattle.class_rewrite.proofs.CheckedItems.{fit_sorts, items_checked}
@@ -48,7 +45,7 @@ use Rattle.making_code.specs.Constants.{grow, needs_text, text_index}
 use Rattle.making_code.specs.Laws.AddedConstants.{Compares, grow_split}
 use Rattle.making_code.specs.Laws.GrownPools.{Begins, begins_through, grow_begins}
 use Rattle.making_code.specs.Laws.MeantConstants.{grown_text, text_later, text_read}
-use Rattle.member_link.specs.Scope.{Scope, scope_at}
+use Rattle.member_link.specs.Scope.{Scope}
 use Rattle.plan_flow.specs.PlanScope.{PlanScope}
 use Rattle.plan_flow.specs.Written.WrittenConstants.{indexed_items}
 use Rattle.plan_flow.specs.Written.WrittenPrograms.{finished_of, plan_scope}
@@ -207,7 +204,7 @@ module _ (laws : FileLaws) (r : Rewriting) (files : List ClassFile) (w : IsFolde
       items_checked s r.constructor v.one.form blocks file also v.part.max_locals more_units own_file
       (λ few instr fits. laws.operands file also few instr is_file grown fits)
       zero v.items _ in_class sorts meant
-      (subst (λ (many : ℕ). AllByRecursion (λ item. UnitFits many item.instr) v.items) (sym is_at.is.max_locals) sound.items.units)
+      (subst (λ (many : ℕ). AllByRecursion (λ item. UnitFits many item.instr) v.items) (sym is_at.is.max_locals) sound.units)
 
   -- ---- its frames
 

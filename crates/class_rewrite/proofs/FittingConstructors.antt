@@ -1,10 +1,10 @@
 -- The field constructor that is added to a class passes what a class file asks of a method, and fits its items.
-use Rattle.std.proofs.Common.{◌≡◌, ◌≤◌, ◌<◌, ◌+◌, ◌&&◌, ◌||◌, ◌^◌, ◌∙◌, bytes_eq, max, nat_lt, ℕ, zero, suc, Bool, true, false, codes, List, [], ◌∷◌, ◌++◌, flat_map, length, map, slice_get, Option, Some, None, IfSome, IsSome, if◌then◌else◌, refl, sym, ap, subst, arith, length-append}
+use Rattle.std.proofs.Common.{◌≡◌, ◌≤◌, ◌<◌, ◌+◌, ◌^◌, ◌∙◌, bytes_eq, nat_lt, ℕ, Bool, true, false, codes, List, [], ◌∷◌, ◌++◌, flat_map, length, map, Option, Some, None, IsSome, refl, sym, ap, subst, arith, length-append}
 use Rattle.std.specs.List.{AllByRecursion}
-use Rattle.std.specs.Prelude.{IsFalse, IsTrue}
+use Rattle.std.specs.Prelude.{IsFalse}
 use Rattle.std.proofs.lemmas.Bool.{false≢true, and_parts}
 use Rattle.std.proofs.lemmas.Bool.Decides.{nat_tests}
-use Rattle.std.proofs.lemmas.Option.{none-some, same_Some}
+use Rattle.std.proofs.lemmas.Option.{none-some}
 use Rattle.class_bytes.specs.Counts.{FitsAttrs, FitsInners, FitsPart}
 use Rattle.class_bytes.specs.Numbers.{AttrNumbers, HandlerNumbers, InnerNumber, PartNumbers}
 use Rattle.class_model.specs.Checks.{AllHold, asked_if, check}
@@ -13,9 +13,7 @@ use Rattle.class_model.specs.Descriptors.{SpellsDescriptor, kind_of, type_of, un
 use Rattle.class_model.specs.Header.{header_of, method_member}
 use Rattle.class_model.specs.Laws.Checks.{both_hold, first_holds, others_hold}
 use Rattle.class_model.specs.Laws.ClassFiles.{methods_place, parts_hold}
-use Rattle.class_model.specs.Laws.Lists.{at_index}
 use Rattle.class_model.specs.Members.{INTERFACE, Signature, attrs_checks, has, has_named, is_named, is_text, same_signature, stands_before}
-use Rattle.class_model.specs.MethodCode.{code_of}
 use Rattle.class_model.specs.Methods.{Home, code, code_content, content_checks, home_of, method_attr_checks, method_checks, method_signature}
 use Rattle.class_model.specs.Names.{init}
 use Rattle.class_model.specs.Pool.{Constants}
@@ -25,7 +23,6 @@ use Rattle.class_model.specs.Values.{IsParted}
 use Rattle.class_model.specs.declared.class_file.Attr.{Attr}
 use Rattle.class_model.specs.declared.class_file.Attr.TheVariants.{Code}
 use Rattle.class_model.specs.declared.class_file.ClassFile.{ClassFile}
-use Rattle.class_model.specs.declared.class_file.CodePart.{CodePart}
 use Rattle.class_model.specs.declared.class_file.Handler.{Handler}
 use Rattle.class_model.specs.declared.class_file.InnerAttr.{InnerAttr}
 use Rattle.class_model.specs.declared.class_file.Method.{Method}
@@ -36,13 +33,13 @@ use Rattle.class_model.specs.declared.fault.FileRule.TheVariants as rules
 use Rattle.class_model.specs.declared.header.Member.{Member}
 use Rattle.class_rewrite.proofs.FileLaws.{FileLaws}
 use Rattle.class_rewrite.proofs.FittingParts.{some_below}
-use Rattle.class_tree.specs.Headers.{Headers, IsClassFile, Name, headers_of}
+use Rattle.class_tree.specs.Headers.{Headers, IsClassFile, Name}
 use Rattle.class_tree.specs.Layouts.{instance_fields, own_fields}
 use Rattle.class_tree.specs.Names.{is_member, object}
 use Rattle.making_code.specs.Constants.{grow, needs_text, text_index}
-use Rattle.making_code.specs.ConstructorCode.{IsConstructorMethod, constructor_depth, depth_of_call, depth_of_stores, greatest_units}
+use Rattle.making_code.specs.ConstructorCode.{IsConstructorMethod, depth_of_call, depth_of_stores, greatest_units}
 use Rattle.making_code.specs.FieldConstructor.{constructor_items, constructor_method_needs, item_needs as constructor_item_needs, superclass_of, units_of_fields}
-use Rattle.making_code.specs.Laws.AddedConstants.{Compares, grow_split}
+use Rattle.making_code.specs.Laws.AddedConstants.{grow_split}
 use Rattle.making_code.specs.Laws.GrownPools.{begins_through, grow_begins}
 use Rattle.making_code.specs.Laws.MeantConstants.{grown_text, text_later, text_read}
 use Rattle.member_link.specs.DeclaredMembers.{declared}

@@ -1,5 +1,5 @@
 -- The parts of a Code that has items laid out fit their items: its counts and numbers are those of two bytes.
-use Rattle.std.proofs.Common.{◌≡◌, ◌⊎◌, ◌≤◌, ◌<◌, ◌+◌, ◌^◌, ◌∙◌, inl, inr, ltb, ℕ, zero, suc, Bool, true, false, List, [], ◌∷◌, ◌++◌, length, map, slice_get, slice_index_or, Option, Some, None, IsSome, option_and_then, refl, sym, ap, subst, arith, length-append}
+use Rattle.std.proofs.Common.{◌≡◌, ◌⊎◌, ◌≤◌, ◌<◌, ◌+◌, ◌^◌, ◌∙◌, inl, inr, ltb, ℕ, zero, suc, Bool, true, false, List, [], ◌∷◌, ◌++◌, length, map, Option, Some, None, IsSome, option_and_then, refl, sym, ap, subst, arith, length-append}
 use Rattle.std.specs.List.{AllByRecursion, flat_map}
 use Rattle.std.proofs.lemmas.Bool.{false≢true, ltb-false}
 use Rattle.std.proofs.lemmas.Bool.Decides.{nat_tests}
@@ -7,10 +7,9 @@ use Rattle.std.proofs.lemmas.List.{length-map}
 use Rattle.std.proofs.lemmas.Option.{none-some}
 use Rattle.class_bytes.specs.Counts.{FitsInners, FitsPart}
 use Rattle.class_bytes.specs.Numbers.{HandlerNumbers, InnerNumber, PartNumbers}
-use Rattle.class_model.specs.Code.{stack_map_table}
 use Rattle.class_model.specs.Frames.{Setting}
 use Rattle.class_model.specs.Pool.{Constants, constant_at}
-use Rattle.class_model.specs.PoolChecks.{IsClassAt, class_name_of, text_of, utf8_at}
+use Rattle.class_model.specs.PoolChecks.{IsClassAt, class_name_of, text_of}
 use Rattle.class_model.specs.Spelling.{code_part_bytes, handler_bytes, inner_bytes, u2, u4}
 use Rattle.class_model.specs.declared.class_file.CodePart.{CodePart}
 use Rattle.class_model.specs.declared.class_file.Handler.{Handler}
@@ -18,7 +17,6 @@ use Rattle.class_model.specs.declared.class_file.InnerAttr.{InnerAttr}
 use Rattle.class_model.specs.declared.frame.Frame.{Frame}
 use Rattle.class_model.specs.declared.pool.Const.{Const}
 use Rattle.class_rewrite.proofs.CheckedCodes.{AreReadAttrs, IsCheckedItem, none_there, one_there}
-use Rattle.code_layout.specs.Emitting.{NamesItem}
 use Rattle.code_layout.specs.Layout.{Spelled, end_from, item_ranges, len_of, range_of, ranges_from, start_in, starts_from, table_len}
 use Rattle.code_layout.specs.declared.emitted.Catch.{Catch}
 use Rattle.code_layout.specs.declared.emitted.EmitItem.{EmitItem}

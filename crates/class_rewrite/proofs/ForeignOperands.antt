@@ -1,10 +1,10 @@
 -- The operands of an instruction of another class fit in the host: its constant was added to the host's pool by what it means, so that it is of the
 -- same sort, of the same class or of the same member.
-use Rattle.std.proofs.Common.{◌≡◌, ◌≢◌, ◌⊎◌, ◌+◌, ◌≤◌, ◌∙◌, inl, inr, ℕ, zero, suc, List, [], ◌∷◌, length, Option, Some, None, IfSome, IsSome, option_and_then, refl, sym, ap, subst, arith}
+use Rattle.std.proofs.Common.{◌≡◌, ◌+◌, ◌≤◌, ◌∙◌, inl, inr, ℕ, zero, suc, List, [], ◌∷◌, length, Option, Some, None, IsSome, option_and_then, refl, sym, ap, subst, arith}
 use Rattle.std.proofs.lemmas.Bool.{false≢true}
 use Rattle.std.proofs.lemmas.Option.{none-some, same_Some}
 use Rattle.class_model.specs.Checks.{AllHold}
-use Rattle.class_model.specs.Code.{CountsArguments, FitsArray, FitsLocal, HasDimensions, IsCalled, IsLoadable, IsLoadable2, OperandFits, member_index, units_behind}
+use Rattle.class_model.specs.Code.{CountsArguments, FitsLocal, IsCalled, IsLoadable, IsLoadable2, OperandFits, member_index, units_behind}
 use Rattle.class_model.specs.Laws.Checks.{first_holds, others_hold}
 use Rattle.class_model.specs.Pool.{Constants, constant_at}
 use Rattle.class_model.specs.PoolChecks.{IsClassAt, IsFieldConstant, IsInterfaceConstant, IsMethodConstant, IsNameAndTypeAt, class_at, class_name_of, constant_checks, descriptor_at, entries_checks, name_and_type_of, name_at, utf8_at}
@@ -12,14 +12,13 @@ use Rattle.class_model.specs.Spelling.{constant_bytes}
 use Rattle.class_model.specs.declared.descriptor.Kind.{Kind}
 use Rattle.class_model.specs.declared.descriptor.Kind.TheVariants as kinds
 use Rattle.class_model.specs.declared.instr.Instr.{Instr}
-use Rattle.class_model.specs.declared.instr.Instr.TheVariants.{Cast, Dynamic, GetField, GetStatic, Iinc, InstanceOf, Invoke, Ldc, Ldc2, Load, New, NewMulti, NewRefArray, PutField, PutStatic, Store}
+use Rattle.class_model.specs.declared.instr.Instr.TheVariants.{Iinc, Load, Store}
 use Rattle.class_model.specs.declared.pool.Const.{Const}
 use Rattle.class_model.specs.declared.pool.Const.TheVariants.{Utf8, Integer, Float, Long, Double, Class, String, Fieldref, Methodref, InterfaceMethodref, NameAndType, MethodHandle, MethodType, InvokeDynamic}
 use Rattle.class_tree.specs.Headers.{Name}
 use Rattle.expanded_code.specs.Callees.{IsNoHandle}
 use Rattle.making_code.specs.Constants.{MemberKind, of_field, of_interface_method, of_method, reference_of_kind}
 use Rattle.making_code.specs.Laws.MeantConstants.{Means, NamesMember}
-use Rattle.plan_flow.specs.Written.WrittenConstants.{named_index, with_index}
 
 -- ---- a constant of a pool that was checked
 

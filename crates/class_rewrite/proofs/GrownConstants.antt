@@ -1,7 +1,7 @@
 -- The constants that the methods of a class that are rewritten and its field constructor add to its pool pass the checks and fit.
-use Rattle.std.proofs.Common.{◌≡◌, ◌∙◌, ◌≤◌, ℕ, zero, suc, nat_le, Bool, true, false, List, [], ◌∷◌, length, slice_get, Option, Some, None, if◌then◌else◌, refl, sym, ap, subst, arith}
+use Rattle.std.proofs.Common.{◌≡◌, ℕ, zero, suc, nat_le, Bool, true, false, List, [], ◌∷◌, length, slice_get, Option, Some, None, if◌then◌else◌, refl, sym, ap, subst, arith}
 use Rattle.std.specs.List.{AllByRecursion}
-use Rattle.std.proofs.lemmas.Option.{none-some, same_Some}
+use Rattle.std.proofs.lemmas.Option.{same_Some}
 use Rattle.class_model.specs.Checks.{AllHold}
 use Rattle.class_model.specs.Header.{header_of}
 use Rattle.class_model.specs.Laws.ClassFiles.{parts_hold}
@@ -12,7 +12,7 @@ use Rattle.class_model.specs.declared.class_file.ClassFile.{ClassFile}
 use Rattle.class_model.specs.declared.class_file.Method.{Method}
 use Rattle.class_model.specs.declared.class_file.MethodAt.{MethodAt}
 use Rattle.class_rewrite.proofs.FileLaws.{FileLaws}
-use Rattle.class_rewrite.specs.Inner.FittingFolders.{CatchesSound, HasFittingConstructor, HasSoundMaking, HasSoundNeeds, IsFittedFolder}
+use Rattle.class_rewrite.specs.Inner.FittingFolders.{CatchesSound, HasSoundMaking, HasSoundNeeds, IsFittedFolder}
 use Rattle.class_rewrite.specs.Rewriting.Folders.{AddsMethods, IsClassWritten, IsFolderWritten, IsPoolBefore, IsRewrittenAt, adds_none, adds_one, at_first, behind_kept, behind_rewritten}
 use Rattle.class_rewrite.specs.Rewriting.Methods.{IsRewritten, Rewriting, Rewritten, short_items}
 use Rattle.class_tree.specs.Headers.{IsClassFile, headers_of}

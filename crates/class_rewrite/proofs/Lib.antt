@@ -80,6 +80,8 @@ pub mod TalliedPoints
 pub mod Tallies
 pub mod TypedFolders
 pub mod TypedRewriting
+pub mod UnitsInside
+pub mod UnitsOfWritten
 pub mod UsedChains
 pub mod UsedFolders
 pub mod UsedFound

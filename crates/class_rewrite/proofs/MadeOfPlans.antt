@@ -1,22 +1,24 @@
 -- What a plan makes is what its written code makes: as many objects of sites, of the same classes.
-use Rattle.std.proofs.Common.{◌≡◌, ◌==◌, ◌||◌, ℕ, zero, suc, Bool, true, false, List, [], ◌∷◌, ◌++◌, length, slice_get, bytes_eq, Option, Some, None, refl, sym, ap, subst, ◌∙◌, arith}
+use Rattle.std.proofs.Common.{◌≡◌, ◌≤◌, ◌==◌, ◌||◌, ℕ, zero, suc, Bool, true, false, List, [], ◌∷◌, ◌++◌, length, slice_get, bytes_eq, Option, Some, None, refl, sym, ap, subst, ◌∙◌, arith}
 use Rattle.std.proofs.lemmas.Bool.{eqb-true, false≢true}
 use Rattle.std.proofs.lemmas.Option.{none-some, same_Some}
 use Rattle.std.proofs.lemmas.Slice.Eq.{bytes_eq-Decides}
 use Rattle.class_rewrite.proofs.TalliedItems.{on_item, on_makes}
 use Rattle.class_rewrite.proofs.TalliedPoints.{written_tallied}
-use Rattle.class_rewrite.proofs.Tallies.{all_tallied, counted, has_item, item_had, one_passes, some_tallied, tally}
+use Rattle.class_rewrite.proofs.Tallies.{all_tallied, counted, has_item, item_had, one_passes, some_tallied, tally, tally_few}
 use Rattle.class_rewrite.specs.Inner.MadeSites.{AreMadeBy, class_of, classes_of, made_to}
 use Rattle.class_rewrite.specs.Inner.Outcomes.{AreNamesOf, MakesHere}
 use Rattle.class_rewrite.specs.Rewriting.Methods.{Rewriting}
 use Rattle.class_rewrite.specs.declared.made_sites.MadeSites.{MadeSites}
 use Rattle.class_tree.specs.Headers.{Name}
+use Rattle.code_drafts.specs.Laws.ReachedStarts.{finished}
 use Rattle.flow_code.specs.declared.point.Site.{Site}
 use Rattle.making_code.specs.CountedItems.{makes_site, site_news}
 use Rattle.making_code.specs.Items.{WInstr, WItem, carried, constructs, load, makes, plain, store}
 use Rattle.plan_flow.specs.Laws.RoutedPlans.{HasOneEffect}
 use Rattle.plan_flow.specs.Plans.{IsValid, Plan}
 use Rattle.plan_flow.specs.Written.Routes.{IsRouted}
+use Rattle.plan_flow.specs.Written.WrittenCode.{short, written_items}
 use Rattle.plan_flow.specs.Written.WrittenPrograms.{WrittenMethod, items_of, plan_scope}
 use Rattle.virtual_state.specs.Sites.{has}
 
@@ -171,8 +173,19 @@ module _ (r : Rewriting) (one : WrittenMethod) (plan : Plan) (one_effect : HasOn
       let there = class_there one.flat.sites made_by.sites site.item named.site (made_by.same site.item ∙ has_item all site.number site.item site.is) named.is_site in
       (there.0, named_there made.names (classes_of one.flat.sites made_by.sites) there.0 named.site.class name made_by.names there.1 named.named)
 
-  pub count_here : made.count ≡ site_news items
-  count_here = made_by.count ∙ sym as_many
+  abbrev short_items : List WItem
+  short_items = written_items short (finished (plan_scope r.classes r.links one) one.routes)
+
+  as_few : length all ≤ length short_items
+  as_few =
+      let same =
+      written_tallied (plan_scope r.classes r.links one) (λ class. true) (λ site. true) (λ site found is. refl) plan one.routes short one_effect valid routed in
+      let every = all_tallied all in
+      let few = tally_few (on_item (λ class. true)) short_items in
+      omega (arith, same, every, few)
+
+  pub count_here : length short_items ≤ 65535 → made.count ≡ site_news items
+  count_here few = let less = as_few in made_by.count (omega (arith, few, less)) ∙ sym as_many
 
   pub names_here : AreNamesOf (MakesHere r one) made.names
   names_here = record { each = each_made; all = all_made }

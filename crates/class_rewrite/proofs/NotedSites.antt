@@ -1,5 +1,5 @@
 -- Sites that are noted, and the classes of sites.
-use Rattle.std.proofs.Common.{◌≡◌, ◌<◌, ◌+◌, ◌==◌, ◌||◌, ℕ, zero, suc, Bool, true, false, List, [], ◌∷◌, ◌++◌, length, take, get_or, slice_get, Option, Some, None, option_map, option_and_then, refl, sym, ap, subst, ◌∙◌, arith, add-one}
+use Rattle.std.proofs.Common.{◌≡◌, ◌<◌, ◌+◌, ◌==◌, ◌||◌, ℕ, zero, suc, Bool, true, false, List, [], ◌∷◌, ◌++◌, length, min, take, get_or, slice_get, Option, Some, None, option_map, option_and_then, refl, sym, ap, subst, ◌∙◌, arith, add-one}
 use Rattle.std.proofs.lemmas.Grind.{flat_map-append}
 use Rattle.std.proofs.lemmas.List.{append-nil, append_assoc, length-append}
 use Rattle.std.proofs.lemmas.Option.{none-some, same_Some}
@@ -50,17 +50,17 @@ item_there (first ∷ items) (suc number) few = item_there items number (omega (
 -- ---- what is noted
 
 pub noted_none : (before : Making) → IsNoted before [] before
-noted_none before = record { count = omega arith; sites = λ one. sym (either_none (has before.sites one)) }
+noted_none before = record { count = λ few. omega arith; sites = λ one. sym (either_none (has before.sites one)) }
 
 pub noted_both : (before middle after : Making) (first then : List ℕ)
     → IsNoted before first middle
     → IsNoted middle then after
     → IsNoted before (first ++ then) after
 noted_both before middle after first then one other = record {
-  count =
+  count = λ few.
       let long = length-append first then in
-      let at_first = one.count in
-      let at_last = other.count in
+      let at_first = one.count (omega (arith, few, long)) in
+      let at_last = other.count (omega (arith, few, long, at_first)) in
       omega (arith, long, at_first, at_last);
   sites = λ site.
       other.sites site ∙ ap (λ (b : Bool). b || has then site) (one.sites site)
@@ -69,11 +69,11 @@ noted_both before middle after first then one other = record {
 }
 
 pub noted_one : (before after : Making) (site : ℕ)
-    → after.count ≡ before.count + 1
+    → after.count ≡ min (before.count + 1) 4294967295
     → ((one : ℕ) → has after.sites one ≡ (has before.sites one || site == one))
     → IsNoted before (site ∷ []) after
 noted_one before after site counted adds = record {
-  count = counted;
+  count = λ few. omega (arith, few, counted);
   sites = λ one. adds one ∙ ap (λ (b : Bool). has before.sites one || b) (sym (either_none (site == one)));
 }
 
@@ -81,7 +81,7 @@ noted_one before after site counted adds = record {
 pub noted_next : (sites : List ℕ) (number site : ℕ) (before middle after : Making)
     → slice_get sites number ≡ Some site
     → IsNoted before (take number sites) middle
-    → after.count ≡ middle.count + 1
+    → after.count ≡ min (middle.count + 1) 4294967295
     → ((one : ℕ) → has after.sites one ≡ (has middle.sites one || site == one))
     → IsNoted before (take (number + 1) sites) after
 noted_next sites number site before middle after is so_far counted adds =

@@ -1,19 +1,16 @@
 -- The texts that a written folder adds are those that constants may have: of the field constructors that are added, and of those that written code calls.
-use Rattle.std.proofs.Common.{◌≡◌, ◌≢◌, ◌∙◌, not, bytes_eq, ℕ, zero, suc, Bool, true, false, filter, List, [], ◌∷◌, slice_get, Option, Some, None, IsTrue, refl, sym, ap, subst, arith}
+use Rattle.std.proofs.Common.{◌≡◌, ◌≢◌, ◌∙◌, bytes_eq, ℕ, List, [], ◌∷◌, slice_get, Option, Some, None, IsTrue, refl, sym, subst, arith}
 use Rattle.std.specs.List.{AllByRecursion, list_any}
-use Rattle.std.proofs.lemmas.Bool.{false≢true}
 use Rattle.std.proofs.lemmas.Option.{slice_get-map}
-use Rattle.std.proofs.lemmas.Slice.Eq.{bytes_eq-Decides}
 use Rattle.class_model.specs.Descriptors.{SpellsDescriptor}
 use Rattle.class_model.specs.Header.{header_of}
 use Rattle.class_model.specs.Laws.Lists.{at_index}
-use Rattle.class_model.specs.Members.{STATIC, has}
 use Rattle.class_model.specs.ModifiedUtf8.{IsText}
 use Rattle.class_model.specs.PoolChecks.{BytesSpell, class_at, text_or_empty}
 use Rattle.class_model.specs.declared.class_file.ClassFile.{ClassFile}
 use Rattle.class_model.specs.declared.descriptor.Descriptor.{Descriptor}
 use Rattle.class_model.specs.declared.header.Member.{Member}
-use Rattle.class_rewrite.proofs.AddedTexts.{HasText, IsTextField, chain_text, class_text_at, of_itself, own_text, text_at}
+use Rattle.class_rewrite.proofs.AddedTexts.{HasText, IsTextField, chain_text, class_text_at, of_itself, own_text}
 use Rattle.class_rewrite.proofs.MadeClasses.{above, above_in_chain, is_above}
 use Rattle.class_rewrite.proofs.WrittenFolders.{site_of}
 use Rattle.class_rewrite.proofs.WrittenInstrs.{HoldsOfWritten, each_written}
@@ -21,17 +18,15 @@ use Rattle.class_rewrite.specs.Inner.FittingFolders.{HasFittingConstructor, HasS
 use Rattle.class_rewrite.specs.Inner.ReadyFolders.{IsReadyFolder, setup_of}
 use Rattle.class_rewrite.specs.Laws.MadeConstructors.{made_is_added}
 use Rattle.class_rewrite.specs.Rewriting.Folders.{IsFolderWritten, IsMade}
-use Rattle.class_rewrite.specs.Rewriting.Methods.{Rewriting, Rewritten, short_items}
+use Rattle.class_rewrite.specs.Rewriting.Methods.{Rewriting, short_items}
 use Rattle.class_tree.specs.Headers.{IsClassFile, Name, headers_of, named}
 use Rattle.class_tree.specs.Layouts.{own_fields}
 use Rattle.class_tree.specs.Names.{object}
 use Rattle.class_tree.specs.Trees.{IsTree}
 use Rattle.expanded_code.specs.CandidateSites.{HasCandidateSites, IsSite}
 use Rattle.flow_code.specs.declared.point.Site.{Site}
-use Rattle.making_code.specs.Items.{WInstr, WItem, constructs}
+use Rattle.making_code.specs.Items.{WItem, constructs}
 use Rattle.member_link.specs.Laws.FolderClasses.{found_in_folder}
-use Rattle.plan_flow.specs.PlanScope.{PlanScope}
-use Rattle.plan_flow.specs.Written.Routes.{Routes}
 use Rattle.plan_flow.specs.Written.WrittenCode.{short}
 use Rattle.plan_flow.specs.Written.WrittenPrograms.{WrittenMethod, plan_scope}
 use Rattle.written_files.specs.ShortNeeds.{IsShort}

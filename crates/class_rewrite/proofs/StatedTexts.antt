@@ -1,11 +1,9 @@
 -- The constants of the frames of a rewritten method fit their items, and the written method states those frames.
 use Rattle.std.proofs.Common.{◌≡◌, ◌∙◌, ◌≤◌, ℕ, suc, List, [], ◌∷◌, ◌++◌, flat_map, length, Option, Some, None, refl, sym, ap, subst, arith}
-use Rattle.std.specs.List.{AllByRecursion}
 use Rattle.class_model.specs.declared.frame.Frame.{Frame}
 use Rattle.class_model.specs.declared.frame.VType.{VType}
 use Rattle.class_model.specs.declared.frame.VType.TheVariants as types
 use Rattle.class_model.specs.declared.class_file.MethodAt.{MethodAt}
-use Rattle.class_model.specs.declared.frame.PlacedFrame.{PlacedFrame}
 use Rattle.class_rewrite.specs.Inner.FittingFolders.{HasSoundTables, frames_placed}
 use Rattle.class_rewrite.specs.Inner.SoundFrames.{HasSoundFrames}
 use Rattle.class_rewrite.specs.Rewriting.Folders.{IsRewrittenAt}

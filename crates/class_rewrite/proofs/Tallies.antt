@@ -18,6 +18,13 @@ counted test [] = refl
 counted {A = A} test (one ∷ items) =
     sum_by-cons (λ (one : A). if test one then 1 else 0) one items ∙ ap (λ (n : ℕ). (if test one then 1 else 0) + n) (counted test items)
 
+pub tally_few : {A : Type 0} (test : A → Bool) (items : List A) → tally test items ≤ length items
+tally_few test [] = omega arith
+tally_few test (one ∷ items) = by (test one) (tally_few test items) where
+  by : (here : Bool) → tally test items ≤ length items → (if here then 1 else 0) + tally test items ≤ length (one ∷ items)
+  by true rest = omega (arith, rest)
+  by false rest = omega (arith, rest)
+
 -- where all pass
 pub all_tallied : (items : List ℕ) → tally (λ one. true) items ≡ length items
 all_tallied [] = refl

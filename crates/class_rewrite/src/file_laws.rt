@@ -25,7 +25,7 @@ use written_files::{
     what_a_field_constructor_needs_fits, what_a_field_constructor_needs_is_sound,
     what_written_code_needs_fits, what_written_code_needs_is_sound,
 };
-use written_types::frames_type_written_code;
+use written_types::{frames_type_written_code, stated_frames_are_whole};
 
 /// Each class that is written of a folder that verifies is a class file (JVM Specification SE 8, 4.1 to 4.9), where the methods that are
 /// rewritten fit (`HasFittingMethods`).
@@ -40,6 +40,7 @@ pub fn written_classes_are_class_files()
     a_laid_method_states_its_frames();
     what_types_items_types_the_laid_method();
     frames_type_written_code();
+    stated_frames_are_whole();
     grown_classes_are_found_alike();
     an_expanded_flat_code_catches_what_its_host_names();
     an_expanded_flat_code_is_of_one_version();

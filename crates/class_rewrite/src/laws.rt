@@ -33,7 +33,10 @@ ghost use Rattle.same_runs.specs.EqualRuns.{EqualRuns};
 ghost use Rattle.same_runs.specs.Flats.{Flats};
 ghost use Rattle.type_rules.specs.Verified.{IsVerified, TypesFolder};
 
+use crate::emitted_laws::rewritten_items_are_emitted_code;
 use crate::ready_laws::a_written_folder_is_ready;
+use crate::sound_laws::a_written_folder_is_sound;
+use crate::verified_laws::a_sound_written_folder_verifies;
 use class_tree::{Tree, classes_of_a_tree_are_a_hierarchy};
 use expanded_runs::{
     an_expanded_flat_code_is_ready, an_expanded_flat_code_is_typed, expanded_flat_codes_run_equally,
@@ -94,7 +97,11 @@ pub fn a_written_folder_verifies()
     ensures { (r : Rewriting) (files : List ClassFile) (w : IsFolderWritten r files)
         → IsOfVerified r
         → IsVerified (with_folder r.classes files) × IsWellWritten r files w }
-{}
+{
+    a_written_folder_is_sound();
+    a_sound_written_folder_verifies();
+    rewritten_items_are_emitted_code();
+}
 
 /// In the program of a verified folder any hosts may run their expanded flat codes, callees in place of their calls, and it runs equally: for
 /// every list of actions it shows the same events with equal counts and the same end, and it goes on exactly where the program of the folder

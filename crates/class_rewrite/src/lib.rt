@@ -24,6 +24,7 @@ mod outcome;
 mod ready_laws;
 mod report;
 mod rewriter;
+mod sound_laws;
 mod used_fields;
 mod verified_laws;
 mod written_method;
@@ -45,6 +46,7 @@ pub use laws::{
 };
 pub use linked_laws::written_methods_are_linked;
 pub use report::{Line, Report, is_rewritten, reason_name, rewritten};
+pub use sound_laws::a_written_folder_is_sound;
 pub use verified_laws::{
     a_sound_written_folder_keeps_its_meaning, a_sound_written_folder_verifies,
 };

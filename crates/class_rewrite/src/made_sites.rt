@@ -51,7 +51,7 @@ impl Drop for Making {
 /// What the code makes that is written by a plan: how many objects of sites, and the classes of these sites.
 ///
 /// # Errors
-/// `NoMemory`, where memory runs out, or where there are more than 4,294,967,295 objects, which no code has.
+/// `NoMemory`, where memory runs out.
 pub(crate) fn made_sites(alloc: Global, setting: &Setting<'_>) -> Result<MadeSites, NoMemory>
     ensures { IfOk result (λ made. (m : Meaning)
         → IsMeant setting.now m
@@ -118,10 +118,7 @@ fn note_sites(sites: &[u16], making: &mut Making) -> Result<(), NoMemory>
 {
     for site in sites {
         making.sites.add(*site)?;
-        let Some(count) = making.count.checked_add(1) else {
-            return Err(NoMemory);
-        };
-        making.count = count;
+        making.count = making.count.saturating_add(1);
     }
     Ok(())
 }

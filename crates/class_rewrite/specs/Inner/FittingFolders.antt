@@ -68,17 +68,17 @@ UnitFits locals instr = Unit {0}
 abbrev pub frames_placed : Rewritten → List PlacedFrame
 frames_placed v = placed_frames (start_in v.laid.starts) 0 v.stated
 
--- Its items are emitted code, whose local units are those of written code. Its stack is at most 65,535 units deep, and its Code has fewer than 2 ^ 32
--- bytes.
+-- Its items are emitted code, its stack is at most 65,535 units deep, and its Code has fewer than 2 ^ 32 bytes.
 pub record HasFittingItems (v : Rewritten) : Type 0 where
   pub emitted : IsEmitted v.items
-  pub units : AllByRecursion (λ item. UnitFits (written_units v.one.flat) item.instr) v.items
   pub deep : greatest_of v.body.points v.frames ≤ 65535
   pub short : length (code_part_bytes v.part) < 2 ^ 32
 
--- And its instructions of other classes come from classes of the host's version, and it states its frames in the class that is written.
+-- And its local units are those of written code, its instructions of other classes come from classes of the host's version, and it states its frames in
+-- the class that is written.
 pub record HasFittingCode (r : Rewriting) (v : Rewritten) (host now : Scope) : Type 0 where
   pub items : HasFittingItems v
+  pub units : AllByRecursion (λ item. UnitFits (written_units v.one.flat) item.instr) v.items
   pub version : AreOfVersion r.classes host.class.major v.one.flat
   pub states : stated now ≡ frames_placed v
 

@@ -1,5 +1,5 @@
 -- Of which sites a plan makes objects, and the classes of these.
-use Rattle.std.specs.Prelude.{◌≡◌, ◌||◌, ◌+◌, ℕ, zero, suc, List, [], ◌∷◌, ◌++◌, length, slice_get, Option, Some, None}
+use Rattle.std.specs.Prelude.{◌≡◌, ◌≤◌, ◌||◌, ◌+◌, ℕ, zero, suc, List, [], ◌∷◌, ◌++◌, length, slice_get, Option, Some, None}
 use Rattle.std.specs.List.{flat_map}
 use Rattle.class_rewrite.specs.declared.made_sites.MadeSites.{MadeSites}
 use Rattle.class_rewrite.specs.declared.made_sites.Making.{Making}
@@ -35,9 +35,9 @@ made_to (suc count) (point ∷ plan) = made_there point ++ made_to count plan
 
 -- ---- what is noted of them
 
--- more sites are noted, each as often as an object of it is made
+-- More sites are noted; they are counted, each as often as an object of it is made, where a count of 32 bits holds them.
 pub record IsNoted (before : Making) (more : List ℕ) (after : Making) : Type 0 where
-  pub count : after.count ≡ before.count + length more
+  pub count : before.count + length more ≤ 4294967295 → after.count ≡ before.count + length more
   pub sites : (one : ℕ) → has after.sites one ≡ (has before.sites one || has more one)
 
 abbrev pub class_of : Option Site → List Name
@@ -52,5 +52,6 @@ classes_of sites numbers = flat_map (λ number. class_of (slice_get sites number
 pub record AreMadeBy (flat : FlatCode) (plan : Plan) (made : MadeSites) : Type 0 where
   pub sites : List ℕ
   pub same : (one : ℕ) → has sites one ≡ has (made_to (length flat.points) plan) one
-  pub count : made.count ≡ length (made_to (length flat.points) plan)
+  pub count : length (made_to (length flat.points) plan) ≤ 4294967295
+      → made.count ≡ length (made_to (length flat.points) plan)
   pub names : made.names ≡ classes_of flat.sites sites

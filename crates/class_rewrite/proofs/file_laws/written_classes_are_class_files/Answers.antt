@@ -8,6 +8,7 @@ use Rattle.class_rewrite.proofs.LinkedFrames.{LinkingLaws, states_now}
 use Rattle.class_rewrite.proofs.SoundAdditions.{TextLaws, constructor_sound, making_sound}
 use Rattle.class_rewrite.proofs.file_laws.written_classes_are_class_files.Goals as goal
 use Rattle.class_rewrite.proofs.StatedTexts.{states_placed, tables_sound}
+use Rattle.class_rewrite.proofs.UnitsOfWritten.{units_of_written}
 use Rattle.class_rewrite.proofs.WrittenFolders.{rewritten_host}
 use Rattle.class_rewrite.specs.Inner.FittingFolders.{HasFittingMethods, HasSoundNeeds, IsFittedFolder}
 use Rattle.class_rewrite.specs.Inner.ReadyFolders.{IsReadyFolder, IsReadyHost}
@@ -70,6 +71,12 @@ module _ (c : goal.After-constants_compare_by_value) (r : Rewriting) (files : Li
     needs = needs;
     codes = λ at v host now is. record {
       items = fitting at v is.is;
+      units =
+          units_of_written (record {
+            typing = linking.typing;
+            fits = c.a_class_file_fits_its_items.ensures;
+            whole = c.stated_frames_are_whole.ensures;
+          }) r files w of ready at v host now is (fitting at v is.is).emitted;
       version =
           c.an_expanded_flat_code_is_of_one_version.ensures r.classes r.typed at v.one.flat host of.types (expanded at v is.is) is.is_host;
       states =

@@ -11,7 +11,7 @@ returns c =
     record {
       sites = c.note_points.new.making.sites;
       same = noted.sites;
-      count = let counted = noted.count in omega (arith, counted);
+      count = λ few. let counted = noted.count (omega (arith, few)) in omega (arith, counted);
       names = c.in_ok-names.ensures
           ∙ ap (λ sites. classes_of sites c.as_slice.result.now) c.sites.ensures
           ∙ ap (classes_of c.args.flat.now.sites) c.as_slice.ensures.sites;

@@ -14,8 +14,8 @@ returns c =
     let by : AreMadeBy of.flat of.plan made =
     subst (λ plan. AreMadeBy of.flat plan made) c.plan.ensures (subst (λ flat. AreMadeBy flat c.plan.result.now made) c.flat.ensures made_by) in
     record {
-      counts = λ routes form routed.
-          count_here (rewriting of m) (one_of of routes form) of.plan (c.effect_grows.ensures.one (scope of m)) meant.least.valid routed made by;
+      counts = λ routes form routed few.
+          count_here (rewriting of m) (one_of of routes form) of.plan (c.effect_grows.ensures.one (scope of m)) meant.least.valid routed made by few;
       names_are = λ routes form routed.
           names_here (rewriting of m) (one_of of routes form) of.plan (c.effect_grows.ensures.one (scope of m)) meant.least.valid routed made by;
     })

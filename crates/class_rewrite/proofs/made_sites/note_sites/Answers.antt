@@ -9,7 +9,7 @@ loop-site-init c = noted_none c.args.making.now
 pub loop-site-preserved : goal.loop-site-preserved
 loop-site-preserved c =
     noted_next c.args.sites.now c.loop-site.site-index (get_or c.args.sites.now c.loop-site.site-index 0) c.args.making.now c.loop-site.making _
-    (item_there c.args.sites.now c.loop-site.site-index (omega arith)) c.loop-site.invariant c.in-Some.ensures.1 c.in_ok-add.ensures.ok
+    (item_there c.args.sites.now c.loop-site.site-index (omega arith)) c.loop-site.invariant c.saturating_add-making.ensures c.in_ok-add.ensures.ok
 
 pub returns : goal.returns
 returns c =
