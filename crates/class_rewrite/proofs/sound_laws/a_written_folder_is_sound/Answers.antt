@@ -7,7 +7,7 @@ returns c = λ r files w verified.
     let linked = c.written_methods_are_linked.ensures in
     record {
       class_files = c.written_classes_are_class_files.ensures r files w verified
-          (λ at v is. record { emitted = well.emitted at v is; units = ?; deep = omega (arith, is.is.shallow); short = ? });
+          (λ at v is. record { emitted = well.emitted at v is; deep = omega (arith, is.is.shallow); short = is.is.short });
       methods = λ at v host now here. record {
         instrs = linked.instrs r files w at v host now verified here;
         handlers = linked.handlers r files w at v host now verified here;
