@@ -1,18 +1,16 @@
 -- The Code that is written of a method, or the reason why there is none, by its emitted code, its layout and its frames.
-use Rattle.std.proofs.Common.{◌≡◌, ◌≢◌, ◌≤◌, ◌<◌, ◌++◌, ◌^◌, ℕ, min, nat_le, Bool, true, false, List, [], length, Option, Some, None, refl, sym, ap, subst, ◌∙◌, inl, inr, arith, if◌then◌else◌, ◌⊎◌, zero, suc}
-use Rattle.std.proofs.lemmas.Option.{same_Some}
+use Rattle.std.proofs.Common.{◌≡◌, ◌≢◌, ◌≤◌, ◌<◌, ◌^◌, ℕ, min, nat_le, Bool, true, false, List, [], length, Option, Some, refl, sym, ap, subst, ◌∙◌, inl, inr, arith, if◌then◌else◌, ◌⊎◌, zero, suc}
 use Rattle.class_model.specs.Pool.{Constants}
 use Rattle.class_model.specs.Spelling.{code_part_bytes}
 use Rattle.class_model.specs.declared.class_file.CodePart.{CodePart}
 use Rattle.class_model.specs.declared.class_file.InnerAttr.{InnerAttr}
-use Rattle.class_model.specs.declared.class_file.MethodAt.{MethodAt}
 use Rattle.class_model.specs.declared.frame.Frame.{Frame}
 use Rattle.class_model.specs.declared.frame.PlacedFrame.{PlacedFrame}
 use Rattle.class_rewrite.proofs.KeptMethods.{planned}
 use Rattle.class_rewrite.proofs.StatedNeeds.{placed_needs_are}
 use Rattle.class_rewrite.specs.Inner.LaidMethods.{AreLaidMethods, AreReady, AreSound, IsLaidMethod, framed_of}
-use Rattle.class_rewrite.specs.Inner.Meanings.{AreSoundFrames, IsCode, IsEditOf, IsFullFor, IsMeant, IsPart, IsReady, IsReasonOf, Meaning, StatesFrames, body_framed, frames_pool_of, rewriting, scope}
-use Rattle.class_rewrite.specs.Rewriting.Methods.{FramesArePast, IsDeepCode, IsCoded, IsFramedIn, IsHugeCode, IsLongCode, IsWholeCode, Rewritten, Rewriting}
+use Rattle.class_rewrite.specs.Inner.Meanings.{AreSoundFrames, IsCode, IsEditOf, IsFullFor, IsMeant, IsPart, IsReady, IsReasonOf, Meaning, StatesFrames, frames_pool_of, rewriting, scope}
+use Rattle.class_rewrite.specs.Rewriting.Methods.{FramesArePast, IsDeepCode, IsCoded, IsFramedIn, IsHugeCode, IsWholeCode, Rewritten, Rewriting}
 use Rattle.code_drafts.specs.Emits.{Writing}
 use Rattle.code_emit.specs.declared.emitting.WrittenCode.{WrittenCode}
 use Rattle.code_layout.specs.ChosenForm.{IsLaidOut, IsLong, IsWithin, KeepsLong, chosen_items, chosen_len, chosen_spelled, is_short}
@@ -26,8 +24,6 @@ use Rattle.flow_code.specs.declared.reason.Reason.{Reason}
 use Rattle.flow_code.specs.declared.reason.Reason.TheVariants as reasons
 use Rattle.making_code.specs.Constants.{Need, grow}
 use Rattle.member_link.specs.Bodies.{Body}
-use Rattle.member_link.specs.Scope.{Scope, scope_at}
-use Rattle.plan_flow.specs.PlanScope.{PlanScope}
 use Rattle.plan_flow.specs.Written.FramedCode.{body_of_items, greatest_of}
 use Rattle.plan_flow.specs.Written.WrittenPrograms.{WrittenMethod}
 use Rattle.pool_edit.specs.Edits.{Edit, grown}

@@ -4,7 +4,6 @@ use Rattle.std.proofs.lemmas.Option.{same_Some}
 use Rattle.class_model.specs.Methods.{entry_of, home_of}
 use Rattle.class_model.specs.Pool.{Constants}
 use Rattle.class_model.specs.Spelling.{code_part_bytes}
-use Rattle.class_model.specs.declared.class_file.ClassFile.{ClassFile}
 use Rattle.class_model.specs.declared.class_file.CodePart.{CodePart}
 use Rattle.class_model.specs.declared.class_file.InnerAttr.{InnerAttr}
 use Rattle.class_model.specs.declared.class_file.MethodAt.{MethodAt}
