@@ -71,11 +71,11 @@ module _ (one_class : OneClass) (tree : Classes) (hierarchy : IsHierarchy (heade
   all_behind : map (written_behind tree written) tree.folder ≡ written
   all_behind = same_items (map (written_behind tree written) tree.folder) written (length-map tree.folder (written_behind tree written) ∙ sym count)
       (λ n x y is_behind is_written.
-          let within = subst (λ (k : ℕ). n < k) count (slice_get_within written n y is_written) in
-          let there = there_is tree.folder n within in
-          let mapped : Some (written_behind tree written there.0) ≡ Some x = sym (slice_get-map (written_behind tree written) tree.folder n ∙ ap (option_map (written_behind tree written)) there.1) ∙ is_behind in
-          let behind : written_behind tree written there.0 ≡ x = cc mapped in
-          sym behind ∙ behind_at n there.0 y there.1 is_written)
+      let within = subst (λ (k : ℕ). n < k) count (slice_get_within written n y is_written) in
+      let there = there_is tree.folder n within in
+      let mapped : Some (written_behind tree written there.0) ≡ Some x = sym (slice_get-map (written_behind tree written) tree.folder n ∙ ap (option_map (written_behind tree written)) there.1) ∙ is_behind in
+      let behind : written_behind tree written there.0 ≡ x = cc mapped in
+      sym behind ∙ behind_at n there.0 y there.1 is_written)
     where
       there_is : (xs : List ClassFile) (n : ℕ) → n < length xs → (x : ClassFile) × (slice_get xs n ≡ Some x)
       there_is [] n within = absurd (omega arith)

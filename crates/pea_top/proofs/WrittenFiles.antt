@@ -70,19 +70,17 @@ unfolding folder_of
 rest_held file files [] apart all = tt
 rest_held file files (other ∷ others) apart all =
     let here = times-cons other.name other.name (names_of others) ∙ ap {B = ℕ} (λ b. cond b 1 0 + times other.name (names_of others)) ((bytes_eq-Decides other.name other.name).1 refl) in
-    let differs : bytes_eq other.name file.name ≡ false = apart other.name (omega (arith, here)) in
-    (
+    let differs : bytes_eq other.name file.name ≡ false = apart other.name (omega (arith, here)) in (
       ap (λ b. cond b (Some file.bytes) (folder_of files other.name)) differs ∙ all.0,
       rest_held file files others (λ name some. apart name (omega (arith, some, times-cons name other.name (names_of others)))) all.1,
     )
 
 each_held : (files : List NamedFile) → ((name : Bytes) → times name (names_of files) ≤ 1) → AllByRecursion (λ file. folder_of files file.name ≡ Some file.bytes) files
 each_held [] once = tt
-each_held (file ∷ files) once =
-    (
-      first_held file files,
-      rest_held file files files (λ name some. apart name some (bytes_eq name file.name) refl) (each_held files (λ name. omega (arith, once name, times-cons name file.name (names_of files)))),
-    )
+each_held (file ∷ files) once = (
+  first_held file files,
+  rest_held file files files (λ name some. apart name some (bytes_eq name file.name) refl) (each_held files (λ name. omega (arith, once name, times-cons name file.name (names_of files)))),
+)
   where
     apart : (name : Bytes) → 0 < times name (names_of files) → (same : Bool) → bytes_eq name file.name ≡ same → bytes_eq name file.name ≡ false
     apart name some false e = e
